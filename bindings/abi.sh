@@ -1,15 +1,15 @@
 #!/usr/bin/env bash
-# What programs that are linked with the library rely on: its symbols, the numbers of its reasons, the layout of its structs.
+# Checks what programs that are linked with the library rely on: its symbols, its return codes, the layout of its structs.
 #
 #   bindings/abi.sh [--library FILE] [--write]
 #
 #   --library FILE   a shared object whose symbols are compared too
-#   --write          writes bindings/c/symbols.txt, reasons.txt and navbridge.abi anew, of navbridge.h: where something is added
+#   --write          writes bindings/c/symbols.txt, reasons.txt and navbridge.abi from navbridge.h, after an addition
 #
-# What is kept there is compared with navbridge.h, the layouts by abidw and abidiff (Debian: abigail-tools) where they are
-# installed. Where something that is kept has to change, the shared object needs a new name (SONAME in bindings/c/Makefile).
+# These files are compared with navbridge.h, the layouts by abidw and abidiff (Debian: abigail-tools) if they are installed. If a
+# stored line has to change, the shared object needs a new name (SONAME in bindings/c/Makefile).
 #
-# Status: 0 all is as it was; 1 something differs; 2 the words are wrong, or a tool is not there.
+# Exit status: 0 all is unchanged; 1 something differs; 2 the arguments are wrong, or a tool is missing.
 set -u
 library='' write=''
 while [ $# -gt 0 ]; do

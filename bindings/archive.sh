@@ -1,17 +1,16 @@
 #!/usr/bin/env bash
-# Makes crates/navbridge_c/out/libnavbridge_c.a, of which bindings/c/Makefile makes the library for C.
+# Makes crates/navbridge_c/out/libnavbridge_c.a, from which bindings/c/Makefile makes the library for C.
 #
 #   bindings/archive.sh [--built]
 #
-#   --built   over the libraries in crates/*/out, as an `rt ci` at the top has just left them
+#   --built   uses the libraries in crates/*/out, which an `rt ci` at the top leaves
 #
-# It proves navbridge_c and compiles it, over the crates below. Without --built these are proved first, in a copy that has them
-# alone: from nothing that takes most of the time of a whole `rt ci`, an hour and more (bench/README.md has the times of the
-# whole), and minutes where this machine has proved them before. Each crate is shown as it comes, with how many there are. With
-# --built it takes some minutes.
+# It proves navbridge_c and compiles it, over the crates below. Without --built these are proved first, in a copy that has only
+# them: from scratch an hour or more, most of the time of a complete `rt ci` (bench/README.md); minutes if this machine has proved
+# them before. It prints each crate as it is proved, and how many there are. With --built it takes some minutes.
 #
-# Status: 0 the archive is there; 1 something is not proved; 2 the words are wrong, or a library below or the toolchain is not
-# there.
+# Exit status: 0 the archive exists; 1 something is not proved; 2 the arguments are wrong, or a library below or the toolchain is
+# missing.
 set -u
 built=''
 case ${1-} in

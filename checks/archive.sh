@@ -1,14 +1,14 @@
 #!/usr/bin/env bash
-# Tries the scripts for archives on examples/archive: merge_archive.sh, the tree by GNU parallel, the picture.
+# Tests the scripts for archives on examples/archive: merge_archive.sh, the tree by GNU parallel, the picture.
 #
 #   checks/archive.sh [--program FILE]
 #
 #   --program FILE  navbridge (PROGRAM, or crates/navbridge/out/navbridge)
 #
-# examples/archive has files of both versions, packed and plain, and five that are cut, empty, older or none. Each line that it
-# prints is a case: `as it should` or `DIFFERS`. GNU parallel and gnuplot are tried where they are installed.
+# examples/archive has files of both versions, packed and plain; five are truncated, empty, too old or no RINEX. Each line is a
+# case: `as it should` or `DIFFERS`. GNU parallel and gnuplot are tested if they are installed.
 #
-# Status: 0 all as it should be; 1 something differs; 2 the words are wrong, or the program is not there.
+# Exit status: 0 all correct; 1 something differs; 2 the arguments are wrong, or the program is missing.
 set -u
 . "$(dirname "$(readlink -f "$0")")/lib.sh"
 program=''

@@ -1,7 +1,7 @@
 #!/usr/bin/env bash
-# Builds the library for C of the archive that bindings/archive.sh makes, and tests it from outside: the examples compiled as C99
-# and as C++, each run of examples/runs.txt by nb_convert, the stateless calls against an independent program's values, rooms of
-# many sizes, four threads, memory refused at each request, and the Python module.
+# Builds the library for C from the archive of bindings/archive.sh, and tests it from outside: the examples compiled as C99 and as
+# C++, each run of examples/runs.txt by nb_convert, the stateless calls against values of an independent program, buffers of many
+# sizes, four threads, each allocation failing once, and the Python module.
 #
 #   checks/bindings.sh [--archive FILE] [--sanitize] [--valgrind]
 #
@@ -9,7 +9,7 @@
 #   --sanitize       the C side with AddressSanitizer and UBSan
 #   --valgrind       the stateless calls and one conversion under valgrind
 #
-# Status: 0 all as it should be; 1 something differs; 2 the words are wrong, or a compiler or the archive is not there.
+# Exit status: 0 all correct; 1 something differs; 2 the arguments are wrong, or a compiler or the archive is missing.
 set -u
 . "$(dirname "$(readlink -f "$0")")/lib.sh"
 archive='' sanitize='' valgrind=''

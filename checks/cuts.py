@@ -1,9 +1,9 @@
 #!/usr/bin/env python3
-"""Checks that navconvert tells the form of logs that are cut at random places.
+"""Checks that navconvert recognises the format of logs that are truncated at random places.
 
-Makes 450 logs of UBX, 300 of SBF and 150 of RTCM 3, of which each begins somewhere in a longer log and has at least one whole
-message, block or frame, some with NMEA sentences between them; and asks navconvert for the command of each (--dry-run), which
-names the form that it tells. Nothing is converted.
+Makes 450 logs of UBX, 300 of SBF and 150 of RTCM 3. Each begins somewhere in a longer log and has at least one complete message,
+block or frame; some have NMEA sentences between them. It asks navconvert for the command for each (--dry-run), which names the
+recognised format. Nothing is converted.
 """
 import argparse
 import os

@@ -8,27 +8,27 @@
 
 A generated part is between <!-- generated: NAME --> and <!-- end -->; a word after NAME is its argument. NAME is
 
-    toolchain    the kit that proved this (`rt version`; left as it is where rt is not installed)
-    layers       the crates, by how many stand below each (crates.txt)
+    toolchain    the toolchain (`rt version`; unchanged if rt is not installed)
+    layers       the crates, by the longest chain below each (crates.txt)
     crates       each crate, the first sentence of its sources, and the crates that it uses
-    definitions  each file of definitions, and the comment line at its head
-    contracts    public functions of the crates that the heading names: the first sentence of their comment, where it has four words,
-                 and their clauses
-    conversions  what navbridge reads and writes, of the table in its man page
+    definitions  each file of definitions, and its first comment line
+    contracts    public functions of the crates in the heading: the first sentence of their comment, if it has four words, and their
+                 clauses
+    conversions  formats that navbridge reads and writes, from the table in its man page
     runs         the runs of examples/runs.txt
     messages     the fields of RTCM messages 1019 and 1046; words, subframes: those of I/NAV and LNAV (specs/ of their crates)
     parity, ura  the parity equations of LNAV; the values of URA
     fields       the fields of ephemerides and ionosphere parameters, their widths and scales (crates/nav_eph/src)
-    statuses     what the man pages say of each exit status; the numbers are those of the sources
+    statuses     the exit statuses in the man pages; the numbers are those of the sources
     reasons PAGE the reasons of rejection in the man page docs/PAGE.1; they are those that the sources print
     counts PAGE  the counts of a report there, likewise
     codes        the return codes of bindings/c/navbridge.h
-    outcomes     what may become of a file in examples/merge_archive.py
+    outcomes     the outcomes of a file in examples/merge_archive.py
     results FILE a table of bench/results
 
-A man page or script that has other numbers or reasons than the sources is named, and fails.
+A man page or script with other numbers or reasons than the sources is named, and the exit status is 1.
 
-Status: 0 they are the same, or written; 1 they differ; 2 the arguments are wrong.
+Exit status: 0 they are the same, or written; 1 they differ; 2 the arguments are wrong.
 """
 
 import ast

@@ -1,16 +1,15 @@
 #!/usr/bin/env python3
-"""Joins logs of receivers in pairs and looks for orbits that neither log gives.
+"""Joins receiver logs in pairs and finds orbits that neither log has.
 
     checks/joined_logs.py [--navlog PROGRAM] [--navbridge PROGRAM] [--logs N] [--seed N]
 
-Makes N logs (40 where no number is given) of known subframes and pages, of UBX and of SBF, each at
-a time of its own: plain ones, ones of receivers that start and have no time for some seconds, ones
-whose time messages pause or give no time. All have the same satellites and issues, and other orbits. Of each two that stand side by side, and of the same two the other
-way round, navlog and navbridge give the records of the joined log. Each item must be one of the first
-log or of the second. Besides: each log alone must give something.
+Makes N logs (40 by default) of known subframes and pages, of UBX and of SBF, each at its own time: plain ones, ones of receivers
+that have no time for some seconds after the start, ones whose time messages pause or have no time. All have the same satellites
+and issues, but different orbits. Two neighbours are joined in both orders, and converted by navlog and navbridge. Each record must
+be one of the first log or of the second. Each log by itself must yield records.
 
-The programs are those that rt run or rt ci leaves, or those of the options. Ends with 0 where all
-holds, else with 1 and a line for each failure.
+The programs are those that rt run or rt ci leaves, or those of the options. Exit status: 0 all correct; 1 with a line for each
+failure.
 """
 import argparse
 import os

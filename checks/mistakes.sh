@@ -4,9 +4,9 @@
 #   checks/mistakes.sh [--navconvert FILE] [--check]
 #
 #   --navconvert FILE  navconvert (NAVCONVERT, or crates/navconvert/out/navconvert)
-#   --check            compare with examples/expected/mistakes.txt, and print what differs
+#   --check            compares with examples/expected/mistakes.txt, and prints what differs
 #
-# Status: 0 done, or nothing differs; 1 something differs; 2 the words are wrong, or the program is not there.
+# Exit status: 0 done, or nothing differs; 1 something differs; 2 the arguments are wrong, or the program is missing.
 set -u
 . "$(dirname "$(readlink -f "$0")")/lib.sh"
 navconvert='' check=''

@@ -1,16 +1,16 @@
 #!/usr/bin/env python3
-"""Looks whether what the documents name is there: crates, files, definitions, functions, clauses, laws, headings of links.
+"""Finds names in the pages that do not exist: crates, files, definitions, functions, clauses, theorems, headings of links.
 
-    checks/names.py             each name that is not there, with its place; status 1 if there is one
-    checks/names.py --of NAME   the places of the documents that name NAME
+    checks/names.py             prints each name that does not exist, with its place; exit status 1 if there is one
+    checks/names.py --of NAME   prints the places of the pages that name NAME
 
 In docs/PROMISES.md a heading names crates, and the last column of its rows functions of these and, after a colon, clauses of
-each of the functions before it. In docs/DEFINITIONS.md a row names a crate and files of its specs/. In all documents what
-is between backticks is looked for if it is a path of the repository, or a name with _ or :: or a capital letter in it:
-among the names of the sources and definitions, without their comments. A clause that is shown, and a version in the sources,
-are looked at too: the first is so in a contract, the second is that of CHANGELOG.md.
+each of the functions before it. In docs/DEFINITIONS.md a row names a crate and files of its specs/. In all pages a text in
+backticks is looked up if it is a path of the repository, or a name with _ or :: or a capital letter in it: among the names of
+the sources and definitions, without their comments. A clause that a page shows must be part of a contract, and a version in the
+sources must be that of CHANGELOG.md.
 
-Status: 0 all is there; 1 something is not; 2 the arguments are wrong, or there are no sources.
+Exit status: 0 all exist; 1 one does not; 2 the arguments are wrong, or there are no sources.
 """
 
 import glob

@@ -1,13 +1,13 @@
 #!/usr/bin/env bash
-# Tries navconvert from outside: what it does of the examples, and what it says and leaves where something is wrong.
+# Tests navconvert from outside: its outputs for the examples, and its messages and files after an error.
 #
 #   checks/navconvert.sh [--navconvert FILE] [--program FILE] [--speed]
 #
 #   --navconvert FILE  navconvert (NAVCONVERT, or crates/navconvert/out/navconvert)
 #   --program FILE     navbridge (PROGRAM, or crates/navbridge/out/navbridge), whose outputs are compared
-#   --speed            the processor's time too: a start, and a large file beside navbridge; on a machine that does nothing else
+#   --speed            the processor time too: a start, and a large file compared with navbridge; on an idle machine
 #
-# Status: 0 all as it should be; 1 something differs; 2 the words are wrong, or a program is not there.
+# Exit status: 0 all correct; 1 something differs; 2 the arguments are wrong, or a program is missing.
 set -u
 . "$(dirname "$(readlink -f "$0")")/lib.sh"
 navconvert='' program='' speed=''

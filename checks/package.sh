@@ -1,15 +1,15 @@
 #!/usr/bin/env bash
-# Tries the Debian package: made twice, the same bytes; lintian; installed, used, verified and removed.
+# Tests the Debian package: made twice, the same bytes; lintian; installed, used, verified and removed.
 #
 #   checks/package.sh [--program PATH].. [--archive FILE]
 #
 #   --program PATH   the built programs, navbridge, navlog and navconvert (crates/NAME/out/NAME)
-#   --archive FILE   libnavbridge_c.a (crates/navbridge_c/out/libnavbridge_c.a): where it is there, the library's packages too
+#   --archive FILE   libnavbridge_c.a (crates/navbridge_c/out/libnavbridge_c.a); if it exists, the library's packages too
 #
-# It installs the package on this machine, updates and removes it, so it wants root and a machine without the package. Where
-# systemd runs is a mount namespace in which /run says so, with a systemctl that writes down what it is asked. Debian packages
-# that it uses: lintian, man-db, mandoc, systemd (for systemd-analyze), util-linux (taskset, unshare). Status 0 where all is as
-# it should be, 1 where something is not, 2 where it cannot be tried.
+# It installs the package on this machine, updates and removes it, so it needs root and a machine without the package. systemd is
+# simulated by a mount namespace whose /run has its marks, with a systemctl that records its arguments. Debian packages that it
+# uses: lintian, man-db, mandoc, systemd (for systemd-analyze), util-linux (taskset, unshare). Exit status: 0 all correct; 1
+# something differs; 2 it cannot be tried.
 set -uo pipefail
 . "$(dirname "$(readlink -f "$0")")/lib.sh"
 program=() archive=''

@@ -5,17 +5,18 @@
 
     --write       lowers the counts of checks/words.txt and checks/budget.txt to those of today, and writes the generated parts
     --words PAGE  prints each place of PAGE with a word of checks/words.txt
-    --commands    fails if a program for the commands is missing, where else they are skipped
+    --commands    fails if a program for the commands is missing; without it the commands are then skipped
 
-checks/words.txt has a line for each word that a page should not use: a regular expression, what to write in its place, and the
-count of today in each page that still has it. A higher count fails. Backticks, code blocks and generated parts are left out.
-checks/budget.txt has the words that each page may have, in steps of 50; code blocks count, generated parts do not.
+checks/words.txt has a line for each word that a page should not use: a regular expression, what to write instead, and the count
+in each page that still has it. A higher count fails. Backticks, code blocks and generated parts are left out. The --help of
+scripts is checked as a page. checks/budget.txt has the words that each page may have, in steps of 50; code blocks count,
+generated parts do not.
 
 A generated part is between <!-- generated: NAME --> and <!-- end -->; checks/generate.py makes it. A code block that begins
-with ```console is run in a copy of examples/: the lines after `$ ` are commands, and what they print must be what stands below
-them; a line `...` stands for any number of lines.
+with ```console is run in a copy of examples/: the lines after `$ ` are commands, and the lines below must be what they print; a
+line `...` matches any number of lines.
 
-Status: 0 all is as it should be; 1 something differs; 2 the arguments are wrong.
+Exit status: 0 all correct; 1 something differs; 2 the arguments are wrong.
 """
 
 import glob
@@ -29,7 +30,7 @@ import tempfile
 OPTIONS = {"--check", "--write", "--words", "--commands"}
 TOP = os.path.join(os.path.dirname(os.path.realpath(__file__)), "..")
 WORDS, BUDGET = "checks/words.txt", "checks/budget.txt"
-# what scripts in the commands use: a block is left out where it is not installed
+# programs that scripts in the commands use: without them a block is skipped
 NEEDS = {"cover_picture.sh": "gnuplot", "merge_archive": "python3"}
 arguments = sys.argv[1:]
 if arguments in (["-h"], ["--help"]):
@@ -41,6 +42,7 @@ if not set(arguments) - {shown} <= OPTIONS or shown.startswith("-"):
 os.chdir(TOP)
 PAGES = sorted(glob.glob("*.md") + glob.glob("docs/*.md") + glob.glob("examples/*.md") + glob.glob("bench/*.md"))
 MANUALS = sorted(glob.glob("docs/*.1") + glob.glob("examples/station/*.1"))
+HELPS = ("examples/*", "examples/*/*", "packaging/*", "bindings/*", "checks/*")
 WRITE = "--write" in arguments
 wrong = 0
 
@@ -73,8 +75,18 @@ def prose(path):
     return text.splitlines()
 
 
+def helps():
+    """The scripts with --help, and the lines of it without options, names of files and code."""
+    found = {}
+    for path in sorted(it for at in HELPS for it in glob.glob(at) if os.path.isfile(it) and os.access(it, os.X_OK)):
+        if re.search(r"--help|^options ", read(path), re.M):
+            text = subprocess.run([path, "--help"], stdin=subprocess.DEVNULL, capture_output=True, text=True, timeout=60).stdout
+            found[path] = re.sub(r"`[^`\n]*`|--[\w-]+|\S*[/_.]\w\S*|\b[A-Z_]{2,}\b", " ", text).splitlines()
+    return found
+
+
 def words():
-    lines = []
+    lines, scripts = [], helps()
     for line in read(WORDS).splitlines():
         if not line.strip() or line.startswith("#"):
             lines.append(line)
@@ -82,8 +94,8 @@ def words():
         word, better, *counts = (it.strip() for it in line.split(" | "))
         known = dict(it.rsplit(":", 1) for it in (counts[0].split() if counts else []))
         left = {}
-        for page in PAGES + MANUALS:
-            places = [(at, it) for at, it in enumerate(prose(page), 1)
+        for page in PAGES + MANUALS + list(scripts):
+            places = [(at, it) for at, it in enumerate(scripts[page] if page in scripts else prose(page), 1)
                       for found in re.finditer(rf"\b(?:{word})\b", it, re.I) if not found[0].isupper()]
             limit = known.get(page, "0")
             if page == shown:

@@ -1,13 +1,13 @@
 #!/usr/bin/env python3
-"""Looks at the `use` lines of the proofs, in a second, for what the gate would find after half an hour:
+"""Checks the `use` lines of the proofs, in a second, for errors that CI finds after half an hour:
 
 - files of one crate that import one another in a circle;
-- names that another crate's file of proofs has not, or does not pass on;
+- names that another crate's file of proofs does not have or does not export;
 - files of proofs of another crate that are cited past its Surface.
 
-    checks/proofs.py            from any folder
+    checks/proofs.py            from any directory
 
-Status: 0 nothing was found; 1 something was, a line each; 2 the arguments are wrong.
+Exit status: 0 no error; 1 errors, a line each; 2 the arguments are wrong.
 """
 
 import re

@@ -1,19 +1,19 @@
 #!/usr/bin/env bash
-# Real streams and logs, none of which is in the repository: those that the Debian source packages of gpsd and RTKLIB carry.
+# Converts real streams and logs, which are not in the repository: those of the Debian source packages of gpsd and RTKLIB.
 #
-#   checks/real.sh [--program FILE] [--navlog FILE] [FOLDER]
+#   checks/real.sh [--program FILE] [--navlog FILE] [DIRECTORY]
 #
 #   --program FILE  navbridge (PROGRAM, or crates/navbridge/out/navbridge)
 #   --navlog FILE   navlog (NAVLOG, or crates/navlog/out/navlog)
-#   FOLDER          the unpacked packages, anywhere in it. Without one they are fetched once, 35 MB, by apt-get, where it knows
-#                   sources (a line `Types: deb-src` in /etc/apt/sources.list.d), into ~/.cache/navbridge/real
+#   DIRECTORY       with the unpacked packages. Without it they are fetched once, 35 MB, by apt-get, if it knows sources (a line
+#                   `Types: deb-src` in /etc/apt/sources.list.d), into ~/.cache/navbridge/real
 #
-# Of each of three streams of RTCM 3 the GPS and Galileo ephemerides are counted, and where convbin is installed (Debian's package
-# rtklib) compared with its own, number by number: all are equal but the time of sending, which no message has and convbin takes
-# from its clock. Of a log of a ZED-F9P the subframes and pages are counted that navlog writes: 5 and 27, each page in two lines. Two
-# more pages stand behind the last time message of the log, and have no time.
+# It counts the GPS and Galileo ephemerides of three RTCM 3 streams and, if convbin is installed (Debian's package rtklib), compares
+# them with its own, number by number: all are equal but the transmission time, which no message has and convbin takes from its
+# clock. Of the log of a ZED-F9P it counts the subframes and pages that navlog writes: 5 and 27, each page in two lines. Two more
+# pages come after the last time message of the log, and have no time.
 #
-# Status: 0 all as it should be, or skipped, and why; 1 something differs; 2 the arguments are wrong, or a program is not built.
+# Exit status: 0 all correct, or skipped with a reason; 1 something differs; 2 the arguments are wrong, or a program is missing.
 set -u
 . "$(dirname "$(readlink -f "$0")")/lib.sh"
 program='' navlog=''

@@ -1,5 +1,5 @@
 #!/usr/bin/env python3
-"""Makes a month's archive with planted faults, lets examples/navreport make its site, and looks at the site with Chromium.
+"""Makes a month's archive with planted errors, lets examples/navreport make its site, and views the site with Chromium.
 
   checks/report.py [--program FILE] [--screenshots DIR] [--keep DIR]
 
@@ -8,11 +8,11 @@
   --keep DIR         leaves archive and site there
 
 The archive is of January 2024: nine programs write a file a day each, in the styles of RINEX 3.02 to 4.01. Gaps, contradictions, health
-changes, rejected records and broken files are planted. What report.json must say is computed here from what was planted, minute by minute.
-Then the pages are opened from disk, clicked and typed at, and what they show is compared with report.json. Without Chromium the pages are
-not looked at.
+changes, rejected records and broken files are planted. The expected content of report.json is computed from what was planted, minute by minute.
+Then the pages are opened from disk and used by mouse and keyboard, and what they show is compared with report.json. Without Chromium the
+pages are not viewed.
 
-Exit status: 0 all is as it should be; 1 something differs; 2 wrong arguments, or the program is missing.
+Exit status: 0 all correct; 1 something differs; 2 wrong arguments, or the program is missing.
 """
 import argparse
 import datetime

@@ -1,16 +1,15 @@
 #!/usr/bin/env bash
-# Runs every job on its example and compares output, report and status, and navlog on its log; then two generated logs through
-# both programs, beside what was sent.
+# Runs every conversion on its example and compares output, report and exit status, and navlog on its log; then two generated logs
+# through both programs, compared with what was sent.
 #
 #   checks/runs.sh [--program FILE] [--navlog FILE]
 #
 #   --program FILE  navbridge (PROGRAM, or crates/navbridge/out/navbridge, which `rt ci` and `rt run` leave)
-#   --navlog FILE   navlog (NAVLOG, or crates/navlog/out/navlog); where it is not built, its log is not tried, and that is said
+#   --navlog FILE   navlog (NAVLOG, or crates/navlog/out/navlog); if it is missing, its log is not tried, with a message
 #
-# Each line of examples/runs.txt is a run: its status, its input, the file of its output, the file of its report (- for none),
-# its words.
+# Each line of examples/runs.txt is a run: exit status, input, file of its output, file of its report (- for none), options.
 #
-# Status: 0 all as it should be; 1 something differs; 2 the words are wrong, or navbridge is not there: build first.
+# Exit status: 0 all correct; 1 something differs; 2 the arguments are wrong, or navbridge is missing: build first.
 set -u
 . "$(dirname "$(readlink -f "$0")")/lib.sh"
 program='' navlog=''

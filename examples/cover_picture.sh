@@ -10,13 +10,13 @@ gap that is too short for the picture is a red tick, taller than the bar. At the
 number of gaps and the longest one. Grey lines are where calendar days (or weeks, or months) of GPS time begin. A satellite that the file
 does not name has no row.
 
-  --from DATE, --to DATE   the time that is drawn, as 2024-01-01 or "2024-01-01 06:00" (the whole of the file)
+  --from DATE, --to DATE   the time shown, as 2024-01-01 or "2024-01-01 06:00" (that of the file)
   --title TEXT             a line above it
   --width N                of the picture, in points (1400)
   --help                   this text
 
 It prints the number and seconds of all gaps, and a line for each satellite: per cent covered, gaps, seconds and begin of the longest.
-Debian: gnuplot-nox. Exit status: 0 drawn; 1 COVER has no range in that time; 2 wrong arguments, or no gnuplot.
+Debian: gnuplot-nox. Exit status: 0 done; 1 COVER has no range in that time; 2 wrong arguments, or no gnuplot.
 END
 )
 from='' to='' title='' width=1400 names=()

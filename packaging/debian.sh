@@ -1,21 +1,20 @@
 #!/usr/bin/env bash
-# A Debian package of the proved programs, with man pages, completion, units of systemd and examples; and, where it is asked for,
-# those of the library.
+# Makes a Debian package of the proved programs, with man pages, completion, systemd units and examples; with --library also those
+# of the library.
 #
 #   packaging/debian.sh [--program PATH].. [--library FILE] [--version VERSION] [--epoch SECONDS] [--maintainer NAME] [--out FOLDER]
 #
-#   --program PATH     a built program: navbridge, navlog or navconvert, all of which the package has; given again: another.
-#                      Where one is not said, the one that `rt ci` or `rt run` left in crates/NAME/out/NAME
+#   --program PATH     a built program: navbridge, navlog or navconvert; may be given again. The package has all three; the
+#                      default is crates/NAME/out/NAME, which `rt ci` and `rt run` leave
 #   --library FILE     the library's packages too, libnavbridge2, libnavbridge-dev and python3-navbridge, of this archive
-#                      (crates/navbridge_c/out/libnavbridge_c.a, which bindings/archive.sh makes); it takes make and a C compiler
-#   --version VERSION  the first that CHANGELOG.md has, where it is not said
-#   --epoch SECONDS    the time of all files (SOURCE_DATE_EPOCH, or that of the last commit)
-#   --maintainer NAME  with its address, as the package names it (the author of the last commit)
-#   --out FOLDER       where the package is put (packaging/build)
+#                      (crates/navbridge_c/out/libnavbridge_c.a, by bindings/archive.sh); needs make and a C compiler
+#   --version VERSION  the default is the first in CHANGELOG.md
+#   --epoch SECONDS    the time of all files (SOURCE_DATE_EPOCH, otherwise that of the last commit)
+#   --maintainer NAME  name and address of the maintainer (the author of the last commit)
+#   --out FOLDER       the directory of the package (packaging/build)
 #
-# The same programs and the same commit give the same bytes, whatever the umask, the time zone and the number of processors
-# are. The programs are stripped of their names (`strip --strip-unneeded`), which no running program reads.
-# It prints each package's name and its checksum. checks/package.sh tries what it makes.
+# The same programs and commit give the same bytes, whatever the umask, the time zone and the number of processors. The programs are
+# stripped of symbols (`strip --strip-unneeded`). It prints name and checksum of each package; checks/package.sh tests them.
 set -euo pipefail
 umask 022
 export LC_ALL=C TZ=UTC

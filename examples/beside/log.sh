@@ -1,5 +1,5 @@
 #!/usr/bin/env bash
-# What convbin (RTKLIB) and navlog with navbridge make of the same log of a receiver, number by number, where they are installed.
+# Compares the outputs of convbin (RTKLIB) and of navlog with navbridge for the same receiver log, number by number.
 #
 #   examples/beside/log.sh [--navlog FILE] [--program FILE]
 #

@@ -1,5 +1,5 @@
 #!/usr/bin/env bash
-# What convbin (RTKLIB), gpsdecode (gpsd) and navbridge make of the same streams, where they are installed.
+# Prints the outputs of convbin (RTKLIB), gpsdecode (gpsd) and navbridge for the same streams, if they are installed.
 #
 #   examples/beside/run.sh [--program FILE]
 #

@@ -4,9 +4,9 @@ set -eu
 usage=$(cat << 'END'
 hosts.sh start DIR     makes DIR and starts an sshd in it, on 127.0.0.1, port 22222, with a key of its own; prints the file for --hosts
 hosts.sh stop DIR      ends it, and the connections that it took
-hosts.sh lose DIR N    ends the connections of host N (1 to 3) with all that runs on it, as a host that is lost
+hosts.sh lose DIR N    ends the connections of host N (1 to 3) with all that runs on it, as if the host were lost
 
-For tries alone. Debian: openssh-server.
+For tests only. Debian: openssh-server.
 END
 )
 [ "${1:---help}" != --help ] || { echo "$usage"; exit 0; }

@@ -4,17 +4,17 @@ set -eu
 usage=$(cat << 'END'
 parallel.sh [options] ARCHIVE TREE
 
-The tree of submit.sh (which says what ARCHIVE and TREE are) by GNU parallel: the days, then the months, then the years.
+The tree of submit.sh (whose --help explains ARCHIVE and TREE) by GNU parallel: the days, then the months, then the years.
 
-  --hosts FILE            hosts as parallel's --sshloginfile takes them, a line each, as 4/host1; 2/: is two steps at a time on this machine,
-                          which is what is done without the option, with as many as there are processors. All see ARCHIVE, TREE and navbridge.
-  --date TEXT, --leap N   of the headers (now, 18); the same words give the same bytes
+  --hosts FILE            hosts for parallel's --sshloginfile, a line each, as 4/host1; 2/: is two steps at a time on this machine. Without
+                          it: this machine, with as many steps as processors. All hosts share ARCHIVE, TREE and navbridge.
+  --date TEXT, --leap N   of the headers (now, 18); equal arguments give equal bytes
   --cover, --strict, --program FILE, --help as with submit.sh
 
-A step whose host is lost is done again by another. A step that fails is named, what stands on it is not made, the rest is. The same words
-again do what is missing.
+If a host is lost, another repeats its steps. A step that fails is named; the steps after it are not made, all others are. The same
+command again makes what is missing.
 
-Status: 0 all made; 1 some step was not made; 2 the words, or no program, or no GNU parallel.
+Exit status: 0 all made; 1 some step was not made; 2 wrong arguments, no program, or no GNU parallel.
 END
 )
 here=$(dirname -- "$(readlink -f -- "${BASH_SOURCE[0]}")")

@@ -1,5 +1,5 @@
 #!/usr/bin/env bash
-# What submit.sh and parallel.sh have in common: their words, and the lists of the steps. They source it; called, it prints this.
+# Shared by submit.sh and parallel.sh, which source it: their arguments, and the lists of steps. Called, it prints this.
 if [ "${BASH_SOURCE[0]}" = "$0" ]; then
   sed -n '2s/^# //p' "$0"
   exit 0

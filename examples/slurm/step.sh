@@ -7,10 +7,10 @@
 #   step.sh day|month|year NAME       NAME is 2023032, 202302 or 2023
 #   step.sh day                       in an array of Slurm: the line of TREE/state/$MONTH.days with the task's number
 #
-# submit.sh and parallel.sh call it, with these in the environment: MERGE (merge_archive.py), ARCHIVE (with a folder YEAR/DAY for each
-# day, as 2023/032), TREE, DATE, LEAP, PROGRAM; COVER=1 for the times covered beside each file; STRICT=1 where a day of which a file was
-# not read is a fault. What it makes is TREE/day/NAME.rnx and so on, with NAME.rnx.files beside it. A step whose inputs are as they were
-# when it was made is not made again. One that fails leaves TREE/state/LEVEL.NAME.failed, and what stands on it fails with its name.
+# submit.sh and parallel.sh call it, with these in the environment: MERGE (merge_archive.py), ARCHIVE (with a directory YEAR/DAY for
+# each day, as 2023/032), TREE, DATE, LEAP, PROGRAM; COVER=1 for the times covered by each file; STRICT=1 if a day of which a file was
+# not read shall fail. It makes TREE/day/NAME.rnx and so on, and NAME.rnx.files. A step whose inputs have not changed is not repeated. One
+# that fails leaves TREE/state/LEVEL.NAME.failed, and the steps after it fail with its name.
 set -eu
 if [ "${1:---help}" = --help ]; then
   sed -n '5,${/^#/!q;s/^# \{0,1\}//p}' "$0"

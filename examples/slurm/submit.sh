@@ -1,23 +1,23 @@
 #!/usr/bin/env bash
-# Merges an archive by days, months and years, as jobs of Slurm.
+# Merges an archive by days, months and years, by Slurm.
 set -eu
 usage=$(cat << 'END'
 submit.sh [options] ARCHIVE TREE
 
-ARCHIVE has a folder for each day, as 2023/032, with RINEX navigation files as merge_archive.py takes them. TREE gets day/2023032.rnx,
-month/202302.rnx, year/2023.rnx, with rows of what was read beside each (.files), logs and state. Both, and navbridge, are seen by all nodes.
+ARCHIVE has a directory for each day, as 2023/032, with RINEX navigation files as for merge_archive.py. TREE gets day/2023032.rnx,
+month/202302.rnx, year/2023.rnx, each with its rows of inputs (.files), logs and state. All nodes share both, and navbridge.
 
-One job array a month has its days, a job behind each array merges the month, a job behind these the year. A step that fails cancels what
-stands on it. Submitted again, steps whose inputs have not changed end at once, and the others are made.
+Each month has an array of tasks for its days, then a task that merges the month; then a task merges the year. If a step fails, the steps
+after it are cancelled. Submitted again, steps whose inputs have not changed end at once, and the others are made.
 
-  --date TEXT, --leap N   of the headers (now, 18); the same words give the same bytes
+  --date TEXT, --leap N   of the headers (now, 18); equal arguments give equal bytes
   --cover                 also the times covered, as day/2023032.cover and so on
-  --strict                a day of which a file was not read is a failed step (else it is made of the rest, and its log says so)
-  --program FILE          navbridge (crates/navbridge/out/navbridge of this repository; as it is installed, that of the path)
-  --wait                  waits for the jobs, then names the steps that were not made
+  --strict                a day of which a file was not read is a failed step (otherwise it is made of the rest, and its log names the file)
+  --program FILE          navbridge (crates/navbridge/out/navbridge of this repository; if installed, that of the path)
+  --wait                  waits for the tasks, then names the steps that were not made
   --help                  this text
 
-Status: 0 submitted (with --wait: all made); 1 some step was not made; 2 the words, or no program, or no Slurm.
+Exit status: 0 submitted (with --wait: all made); 1 some step was not made; 2 wrong arguments, no program, or no Slurm.
 END
 )
 here=$(dirname -- "$(readlink -f -- "${BASH_SOURCE[0]}")")

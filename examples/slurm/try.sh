@@ -5,15 +5,15 @@ usage=$(cat << 'END'
 try.sh [options] DIR
 
 Makes DIR with an archive by bench/year.py, starts a Slurm in it by cluster.sh, merges the archive by submit.sh, kills the second node while
-a step runs on it, and compares the year with what merge_archive.py makes of all files at once; then a late file, then a step that
-fails. It ends the Slurm and leaves DIR. It is no part of the gate: as root, on ports 17000 to 17004, some five minutes for a year.
+a step runs on it, and compares the year with the output of merge_archive.py for all files at once; then a late file, then a step that
+fails. It stops the Slurm and leaves DIR. It is not part of CI: as root, on ports 17000 to 17004, about five minutes for a year.
 
   --days N, --stations N   of the archive (365, 40)
-  --from FOLDER            an archive that bench/year.py made, in its place (it is linked, and stays as it is)
+  --from FOLDER            an archive of bench/year.py instead (it is linked, and unchanged)
   --program FILE           navbridge (crates/navbridge/out/navbridge of this repository)
   --help                   this text
 
-Status: 0 all as it should be; 1 something differs; 2 the words.
+Exit status: 0 all correct; 1 something differs; 2 wrong arguments.
 END
 )
 here=$(dirname -- "$(readlink -f -- "${BASH_SOURCE[0]}")")

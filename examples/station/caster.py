@@ -1,12 +1,12 @@
 #!/usr/bin/env python3
-"""An NTRIP 2 caster for trials: what comes on standard input goes to each client, as HTTP/1.1 in chunks.
+"""An NTRIP 2 caster for tests: sends standard input to each client, as HTTP/1.1 in chunks.
 
   examples/station/caster.py --port N [--user NAME:PASSWORD] [--old answer|silence|stream] [--drop BYTES]
 
   --port N               on 127.0.0.1
-  --user NAME:PASSWORD   that a client has to give (none)
-  --old KIND             what a client of NTRIP 1 gets: an answer in HTTP/1.1, which it does not understand; nothing at all; or,
-                         as of a caster that speaks both, what comes
+  --user NAME:PASSWORD   that a client must send (none)
+  --old KIND             what a client of NTRIP 1 gets: a response in HTTP/1.1, which it does not understand; nothing; or, as from a
+                         caster of both versions, the stream
   --drop BYTES           the first connection breaks off after so many bytes
 
 Its mountpoint is /MOUNT; / is the list of mountpoints, any other path is not found. It ends by a signal.

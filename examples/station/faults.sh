@@ -1,17 +1,17 @@
 #!/usr/bin/env bash
-# What goes wrong at a station, tried on this machine in a minute: what the journal gets, and that the station goes on.
+# Tries the errors of a station on this machine, in a minute: the journal names each, and the station continues.
 #
 #   examples/station/faults.sh [--program PATH] [--station PATH] [--folder DIR] [--port N]
 #
-#   --program PATH  the built program (NAVBRIDGE_PROGRAM, or crates/navbridge/out/navbridge, or that of the package)
-#   --station PATH  the station's script (the one beside this, or that of the package)
-#   --folder DIR    is made, and stays; a temporary one, that goes, where it is not said
+#   --program PATH  navbridge (NAVBRIDGE_PROGRAM, or crates/navbridge/out/navbridge, or that of the package)
+#   --station PATH  the station's script (navbridge-station in this directory, or that of the package)
+#   --folder DIR    a directory that is created and left; by default a temporary one
 #   --port N        of the first caster, and N + 1 to N + 3 (20150)
 #
-# caster.py is a caster of NTRIP 2, or of both versions, on 127.0.0.1, which sends what bench/feeder.py gives. A station of NTRIP 1
-# gets an answer that it does not understand, or none; one of NTRIP 2 a wrong password, and then records, over a connection that
-# breaks off. One of NTRIP 1 gets records beside a part that is named in the future; its program is killed, and then str2str.
-# Exit status 0 if all is as it should be, 1 if not, 2 if it cannot be tried.
+# caster.py is a caster of NTRIP 2, or of both versions, on 127.0.0.1, which sends the output of bench/feeder.py. A station of NTRIP 1
+# gets a response that it does not understand, or none; one of NTRIP 2 a wrong password, and then records, over a connection that
+# breaks off. One of NTRIP 1 gets records while a part is named in the future; its program is killed, and then str2str.
+# Exit status: 0 all correct; 1 something differs; 2 it cannot be tried.
 set -uo pipefail
 cd "$(dirname "$(readlink -f "$0")")/../.." || exit 2
 built() {

@@ -1,21 +1,20 @@
 #!/usr/bin/env bash
-# The station tried on this machine: a caster that is simulated, days of a minute, and what goes wrong at a station.
+# Tries a station on this machine: a simulated caster, days of a minute, and the failures of a station.
 #
 #   examples/station/trial.sh [--form rtcm3|ubx] [--program PATH] [--navlog PATH] [--folder DIR] [--port N]
 #
-#   --form FORM     of what the caster sends: RTCM frames, or the log of a u-blox receiver, which goes through navlog (rtcm3)
-#   --program PATH  the built program (NAVBRIDGE_PROGRAM, or crates/navbridge/out/navbridge, or that of the package)
-#   --navlog PATH   so too (NAVBRIDGE_NAVLOG, or crates/navlog/out/navlog, or that of the package)
-#   --folder DIR    is made, and stays; a temporary one, that goes, where it is not said
-#   --port N        of the caster, 20110 where it is not said; str2str listens on all addresses of the machine
+#   --form FORMAT   of the caster's bytes: RTCM frames, or the log of a u-blox receiver, which goes through navlog (rtcm3)
+#   --program PATH  navbridge (NAVBRIDGE_PROGRAM, or crates/navbridge/out/navbridge, or that of the package)
+#   --navlog PATH   navlog (NAVBRIDGE_NAVLOG, or crates/navlog/out/navlog, or that of the package)
+#   --folder DIR    a directory that is created and left; by default a temporary one
+#   --port N        of the caster (20110); str2str listens on all addresses of the machine
 #
 # bench/feeder.py sends four minutes of 32 GPS and 32 Galileo satellites (of a log 4 and 4) at thirty times the usual rate, with
-# connections that are lost, garbage and turned bits, through str2str as a caster. `navbridge-station run` and
-# `navbridge-station record` hear it. The program (of a log navlog) is killed; the station is stopped and started again; all its
-# processes are killed and it is started again; at last the caster falls silent. Then the files of both are compared with one
-# run over all that was sent. An ephemeris of a log has a transmission time, which is that of what was heard of it in a part, so
-# of a log all else is compared. It takes five minutes. Status 0 where all is as it should be; 2 where the words are wrong or
-# something is not there.
+# lost connections, garbage and inverted bits, through str2str as a caster. `navbridge-station run` and `navbridge-station record`
+# receive it. The program (of a log navlog) is killed; the station is stopped and restarted; all its processes are killed and it is
+# restarted; at last the caster sends no more. Then the files of both are compared with one run over all that was sent. The
+# transmission time of an ephemeris of a log depends on the blocks received in a part, so it is not compared. It takes five
+# minutes. Exit status: 0 all correct; 2 the arguments are wrong or something is missing; otherwise 1.
 set -uo pipefail
 cd "$(dirname "$(readlink -f "$0")")/../.." || exit 1
 # beside this script, or where the package has put them

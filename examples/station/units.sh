@@ -1,16 +1,16 @@
 #!/usr/bin/env bash
-# The units tried under a systemd of their own: the first process of new namespaces, over a copy-on-write view of this machine,
-# of which nothing is changed.
+# Tries the units under a systemd of their own: the first process of new namespaces, over a copy-on-write view of this machine,
+# which is not changed.
 #
 #   examples/station/units.sh [--package FILE] [--form rtcm3|ubx]
 #
 #   --package FILE  the Debian package that is installed there (the newest in packaging/build)
-#   --form FORM     of what a simulated caster sends: RTCM frames, or the log of a u-blox receiver (rtcm3)
+#   --form FORMAT   of the simulated caster's bytes: RTCM frames, or the log of a u-blox receiver (rtcm3)
 #
-# In there the package is installed and a station is started, watched from outside of its sandbox, has a program and its script
-# killed, is stopped; its files are compared with what was sent. Then the recorder, the maker of files and its timer. It wants
-# root, and str2str, python3, unshare, and systemd, which need not be the first process of this machine. It takes three minutes.
-# Status 0 where all is as it should be, 1 where something is not, 2 where it cannot be tried.
+# There the package is installed, and a station is started, watched from outside of its sandbox, has a program and its script
+# killed, and is stopped; its files are compared with what was sent. Then the recorder, the maker of files and its timer. It needs
+# root, str2str, python3, unshare, and systemd, which need not be the first process of this machine. It takes three minutes.
+# Exit status: 0 all correct; 1 something differs; 2 it cannot be tried.
 set -uo pipefail
 self=$(readlink -f "$0")
 cd "$(dirname "$self")/../.." || exit 1
