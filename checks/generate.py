@@ -22,7 +22,7 @@ A generated part is between <!-- generated: NAME --> and <!-- end -->; a word af
     statuses     the exit statuses in the man pages; the numbers are those of the sources
     reasons PAGE the reasons of rejection in the man page docs/PAGE.1; they are those that the sources print
     counts PAGE  the counts of a report there, likewise
-    codes        the return codes of bindings/c/navbridge.h
+    codes, calls the return codes and the functions of bindings/c/navbridge.h
     outcomes     the outcomes of a file in examples/merge_archive.py
     results FILE a table of bench/results
 
@@ -344,6 +344,15 @@ def codes(_):
     return table(["Number", "Name", "Meaning"], rows)
 
 
+def calls(_):
+    """The functions of the library, each with the first sentence of its comment."""
+    rows = []
+    for it in re.finditer(r"^/\*\*((?:(?!\*/).)*)\*/\n(?:\w+ )+\*?(nb_\w+)\([^{};]*\);", read("bindings/c/navbridge.h"), re.M | re.S):
+        about = re.sub(r"\n ?\*", "\n", it[1]).replace("@brief", "").split("@")[0]
+        rows.append([f"`{it[2]}`", first_sentence(about.strip())])
+    return table(["Call", "What it does"], rows)
+
+
 def outcomes(_):
     text = read("examples/merge_archive.py")
     known = ast.literal_eval(re.search(r"^OUTCOMES = (\{.*?^\})", text, re.M | re.S)[1])
@@ -362,7 +371,7 @@ def results(name):
 MAKERS = {
     "toolchain": toolchain, "layers": layers, "crates": crate_rows, "definitions": definitions, "contracts": contracts,
     "conversions": conversions, "runs": runs, "messages": messages, "words": words, "subframes": subframes, "parity": parity, "ura": ura, "fields": fields,
-    "statuses": statuses, "reasons": reasons, "counts": counts, "codes": codes, "outcomes": outcomes, "results": results,
+    "statuses": statuses, "reasons": reasons, "counts": counts, "codes": codes, "calls": calls, "outcomes": outcomes, "results": results,
 }
 for page in sorted(glob.glob("*.md") + glob.glob("docs/*.md") + glob.glob("examples/*.md") + glob.glob("bench/*.md")):
     old = read(page)
