@@ -14,7 +14,8 @@ generated parts do not.
 
 A generated part is between <!-- generated: NAME --> and <!-- end -->; checks/generate.py makes it. A code block that begins
 with ```console is run in a copy of examples/: the lines after `$ ` are commands, and the lines below must be what they print; a
-line `...` matches any number of lines.
+line `...` matches any number of lines. The examples of man pages are run too. Commands in other blocks must be in
+checks/not-run.txt, with the reason why they are not run here. Code in C and C++ is compiled.
 
 Exit status: 0 all correct; 1 something differs; 2 the arguments are wrong.
 """
@@ -29,7 +30,7 @@ import tempfile
 
 OPTIONS = {"--check", "--write", "--words", "--commands"}
 TOP = os.path.join(os.path.dirname(os.path.realpath(__file__)), "..")
-WORDS, BUDGET = "checks/words.txt", "checks/budget.txt"
+WORDS, BUDGET, NOT_RUN = "checks/words.txt", "checks/budget.txt", "checks/not-run.txt"
 # programs that scripts in the commands use: without them a block is skipped
 NEEDS = {"cover_picture.sh": "gnuplot", "merge_archive": "python3"}
 arguments = sys.argv[1:]
@@ -133,8 +134,73 @@ def budget():
     return total
 
 
+def excused(command, known):
+    """Whether checks/not-run.txt has the command."""
+    command = re.sub(r"\s+", " ", command.strip())
+    for start in known:
+        if command.startswith(start):
+            known[start] = True
+            return True
+    return False
+
+
+def joined(lines):
+    """Lines as commands: one that ends in a backslash or a bar, or inside of quotes, has more."""
+    made = []
+    for line in lines:
+        if made and (made[-1].endswith(("\\", "|")) or made[-1].count("'") % 2):
+            made[-1] += "\n" + line
+        else:
+            made.append(line)
+    return made
+
+
+def ran(command, place, path):
+    environment = dict(os.environ, PATH=f"{path}:{os.environ['PATH']}", LC_ALL="C.UTF-8", PROGRAM=os.path.realpath(f"{path}/navbridge"))
+    return subprocess.run(["bash", "-o", "pipefail", "-c", command], cwd=place, env=environment, stdin=subprocess.DEVNULL,
+                          stdout=subprocess.PIPE, stderr=subprocess.STDOUT, text=True, timeout=120)
+
+
+def shown_elsewhere(known):
+    """Blocks of commands that are not run: each command must be in checks/not-run.txt."""
+    for page in PAGES:
+        for block in re.finditer(r"^```(sh|text)\n(.*?)^```$", read(page), re.M | re.S):
+            lines = re.sub(r" +# .*", "", block[2])
+            for command in joined(lines.splitlines()) if block[1] == "sh" else [lines]:
+                if not excused(command, known):
+                    tell(f"{page}: $ {command}\n  it is run nowhere: make the block a console block, or name the check that runs it in {NOT_RUN}")
+
+
+def examples(folder, known):
+    """Runs the examples of the man pages, in a directory with files of the names that they use; how many."""
+    place, count = f"{folder}/manuals", 0
+    shutil.copytree("examples", place, symlinks=True)
+    os.mkdir(f"{place}/day")
+    for old, *new in (("ephemerides.rtcm3", "hour.rtcm3"), ("log.ubx", "monday.ubx", "tuesday.ubx", "log.sbf"), ("station.navcap", "station/a.navcap"),
+                      ("station.rnx", "day/a.rnx", "brdc.rnx"), ("version3.rnx", "day/b.rnx")):
+        for it in new:
+            shutil.copy(f"{place}/{old}", f"{place}/{it}")
+    subprocess.run(["gzip", f"{place}/brdc.rnx"], check=True)
+    os.mkdir(f"{place}/out")
+    for page in MANUALS:
+        section = re.search(r"^\.Sh EXAMPLES\n(.*?)(?=^\.Sh|\Z)", read(page), re.M | re.S)
+        blocks = re.findall(r"^\.Bd -literal[^\n]*\n(.*?)^\.Ed|^\.Dl \$ ([^\n]*)", section[1], re.M | re.S) if section else []
+        for lines, line in blocks:
+            for command in joined((lines or line).replace("\\e", "\\").splitlines()):
+                if excused(command, known) or any(script in command and not shutil.which(program) for script, program in NEEDS.items()):
+                    continue
+                count += 1
+                got = ran(command, place, f"{folder}/bin")
+                # a result that is written though some file was not read is an example too
+                if got.returncode > (1 if command.startswith(("merge_archive", "navreport")) else 0):
+                    tell(f"{page}: $ {command}\n  ends with {got.returncode}\n" + re.sub("^", "    ", got.stdout, flags=re.M))
+    return count
+
+
 def commands():
-    """Runs the console blocks; how many, and why they are skipped."""
+    """Runs the console blocks and the examples of man pages; how many, and why they are skipped."""
+    known = {line.split(" | ")[0]: False for line in read(NOT_RUN).splitlines() if line and not line.startswith("#")}
+    shown_elsewhere(known)
     blocks = [(page, it[1]) for page in PAGES for it in re.finditer(r"^```console\n(.*?)^```$", read(page), re.M | re.S)]
     path = []
     for name in ("navbridge", "navlog", "navconvert"):
@@ -142,6 +208,7 @@ def commands():
         if not os.access(file, os.X_OK):
             return len(blocks), f"no {file}"
         path.append((name, os.path.realpath(file)))
+    path += [(name, os.path.realpath(f"examples/{file}")) for name, file in (("merge_archive", "merge_archive.py"), ("navreport", "navreport"))]
     with tempfile.TemporaryDirectory() as folder:
         for name, file in path:
             os.makedirs(f"{folder}/bin", exist_ok=True)
@@ -157,15 +224,37 @@ def commands():
                 while command.endswith("\\") or command.count("'") % 2:
                     more, _, expected = expected.partition("\n")
                     command += "\n" + more
-                environment = dict(os.environ, PATH=f"{folder}/bin:{os.environ['PATH']}", LC_ALL="C.UTF-8")
-                got = subprocess.run(
-                    ["bash", "-c", command], cwd=place, env=environment, stdin=subprocess.DEVNULL,
-                    stdout=subprocess.PIPE, stderr=subprocess.STDOUT, text=True, timeout=120,
-                ).stdout
+                got = ran(command, place, f"{folder}/bin").stdout
                 pattern = re.escape(expected).replace(re.escape("...\n"), "(?:.*\n)*")
                 if not re.fullmatch(pattern, got):
                     tell(f"{page}: $ {command}\n  prints\n" + re.sub("^", "    ", got, flags=re.M))
-    return len(blocks), ""
+        count = examples(folder, known)
+    for start, is_used in known.items():
+        if not is_used:
+            tell(f"{NOT_RUN}: no page shows: {start}")
+    return len(blocks) + count, ""
+
+
+def code():
+    """Compiles the code that pages show, as far as the compilers are installed: C and C++ with the headers, Python and Rust by the names."""
+    before = {"c": "#include <stdio.h>\n", "cpp": "#include <cstdio>\n"}
+    for page in PAGES:
+        for language, text in re.findall(r"^```(c|cpp|python|rust)\n(.*?)^```$", read(page), re.M | re.S):
+            if language in before:
+                heads = "".join(re.findall(r"^#include.*\n", text, re.M))
+                given = "const uint8_t *payload, size_t size" if language == "c" else "navbridge::bytes piece"
+                body = "void use(const nb_item &);\n" if language == "cpp" else ""
+                body += f"void shown({given});\nvoid shown({given}) {{\n{text.replace(heads, '')}}}\n"
+                tool = ["cc", "-std=c99", "-xc"] if language == "c" else ["c++", "-std=c++17", "-xc++"]
+                if shutil.which(tool[0]):
+                    got = subprocess.run([*tool, "-fsyntax-only", "-Ibindings/c", "-"], input=before[language] + heads + body, capture_output=True, text=True)
+                    if got.returncode:
+                        tell(f"{page}: its {language} does not compile\n{got.stderr}")
+            else:
+                source = read("bindings/python/navbridge/__init__.py" if language == "python" else "bindings/rust/src/lib.rs")
+                for name in re.findall(r"\bnavbridge(?:\.|::)(\w+)", text):
+                    if not re.search(rf"\b{name}\b", source):
+                        tell(f"{page}: its {language} uses {name}, which the package does not have")
 
 
 words()
@@ -173,8 +262,9 @@ total = budget()
 if os.path.exists("checks/generate.py"):
     if subprocess.run(["checks/generate.py", "--write" if WRITE else "--check"]).returncode:
         wrong += 1
+code()
 count, why = commands()
 if why and "--commands" in arguments:
     tell(why)
-print(f"{len(PAGES)} pages of {total} words, {count} blocks of commands {f'not run ({why})' if why else 'run'}, {wrong} differ")
+print(f"{len(PAGES)} pages of {total} words, {count} blocks and examples {f'not run ({why})' if why else 'run'}, {wrong} differ")
 sys.exit(1 if wrong else 0)
