@@ -28,20 +28,10 @@ use Rattle.bridge_engine.specs.declared.job.CaptureJob.{CaptureJob}
 use Rattle.bridge_engine.specs.declared.job.Job.{Job}
 use Rattle.bridge_engine.specs.declared.job.Job.TheVariants.{Capture}
 use Rattle.bridge_engine.specs.CaptureBytes.{IsCapture, StandFor}
-use Rattle.bridge_engine.specs.Job.{IsSatsText, Reads, IsJob, row_of}
-use Rattle.bridge_engine.specs.Meanings.{HasSats, IsAhead, meaning_of}
+use Rattle.bridge_engine.specs.Job.{IsJob}
+use Rattle.bridge_engine.specs.Meanings.{IsAhead, meaning_of}
 use Rattle.bridge_engine.proofs.Headlines.{headline_text}
 use Rattle.bridge_engine.proofs.OneJob.{one_job}
-
--- a job that words ask for has 1 to 32 satellites, where it has a number of them
-in_sats : (text : Option (List ℕ)) (sats : Option ℕ) → Reads IsSatsText text sats → IfSome sats (λ n. (1 ≤ n) × (n ≤ 32))
-in_sats None None reads = tt
-in_sats None (Some sats) reads = absurd reads
-in_sats (Some text) None reads = tt
-in_sats (Some text) (Some sats) (writes, some, few) = (some, few)
-
-pub has_sats : (words : List (List ℕ)) (job : Job) → IsJob words job → HasSats job
-has_sats words job is = in_sats is.given.sats (row_of job).values.sats is.asks.values.sats
 
 -- the laws cited: bytes and lines of a capture are read as what they are, and parts received have periods
 pub record Readings : Type 0 where

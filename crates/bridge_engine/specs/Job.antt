@@ -4,6 +4,7 @@ use Rattle.std.specs.Str.Parse.{digits_value}
 use Rattle.std.specs.Char.{is_ascii_digit}
 use Rattle.std.specs.List.{list_all}
 use Rattle.gnss_week.specs.Weeks.{IsReference}
+use Rattle.nav_vectors.specs.Sats.{IsSats}
 use Rattle.rinex_write.specs.declared.words.HeaderWords.{HeaderWords}
 use Rattle.captures.specs.declared.target.CaptureTo.{CaptureTo}
 use Rattle.captures.specs.declared.target.CaptureTo.TheVariants as captures
@@ -49,7 +50,7 @@ IsSeedText text seed = Writes text seed × (seed < 2 ^ 32)
 
 -- a `--sats` value: 1 to 32 satellites
 abbrev pub IsSatsText : List ℕ → ℕ → Type 0
-IsSatsText text sats = Writes text sats × (1 ≤ sats) × (sats ≤ 32)
+IsSatsText text sats = Writes text sats × IsSats sats
 
 -- the option is present and its text writes this value, or both are absent
 abbrev pub Reads : {A : Type 0} → (List ℕ → A → Type 0) → Option (List ℕ) → Option A → Type 0

@@ -1,5 +1,5 @@
 -- The output and report of each job, as functions of its input bytes.
-use Rattle.std.specs.Prelude.{◌≤◌, ℕ, List, Option, IfSome}
+use Rattle.std.specs.Prelude.{ℕ, List, Option}
 use Rattle.rinex_read.specs.Forms.{rinex4}
 use Rattle.rinex_read.specs.Form3.{rinex3}
 use Rattle.one_run.specs.Ends.{giving, uncounted}
@@ -13,7 +13,6 @@ use Rattle.captures.specs.Captures.{capture_meaning, target_of}
 use Rattle.captures.specs.Converts.{CaptureAhead}
 use Rattle.streams.specs.FrameLines.{frames_meaning}
 use Rattle.captures.specs.Seeds.{seed_meaning}
-use Rattle.bridge_engine.specs.Job.{row_of}
 use Rattle.bridge_engine.specs.declared.done.Done.{Done}
 use Rattle.bridge_engine.specs.declared.done.Done.TheVariants as dones
 use Rattle.bridge_engine.specs.declared.job.Job.{Job}
@@ -35,10 +34,6 @@ done_of (Seed job) = giving dones.Generated (seed_meaning job.to job.seed job.sa
 -- the same, without what is counted
 abbrev pub meaning_of : Job → Meaning (Unit {0})
 meaning_of job = uncounted (done_of job)
-
--- a generated capture has 1 to 32 satellites
-abbrev pub HasSats : Job → Type 0
-HasSats job = IfSome (row_of job).values.sats (λ sats. (1 ≤ sats) × (sats ≤ 32))
 
 -- after a fault, how what was written and reported relates to the whole input; stated for captures only
 abbrev pub IsAhead : Job → Option (List ℕ) → Option (List ℕ) → Option (List ℕ) → Option (List ℕ) → Option (List ℕ)

@@ -11,6 +11,7 @@ use crate::{Found, options_of};
 use captures::{CaptureTo, SeedTo};
 use gnss_week::RefWeek;
 use nav_files::RinexTo;
+use nav_vectors::Sats;
 use rinex_write::HeaderWords;
 use std::alloc::{AllocError, Global};
 use streams::StreamTo;
@@ -64,8 +65,8 @@ pub struct StreamJob {
 pub struct SeedJob {
     /// The seed of the generator.
     pub seed: u32,
-    /// How many satellites of each system it has, 1 to 32.
-    pub sats: u8,
+    /// How many satellites of each system it has.
+    pub sats: Sats,
     /// The week in which it begins.
     pub week: RefWeek,
     /// Whether the capture or its counts are written.

@@ -2,7 +2,7 @@
 
 ghost use Rattle.std.specs.Prelude.{OnErr};
 ghost use Rattle.one_run.specs.Runs.{Ran};
-ghost use Rattle.bridge_engine.specs.Meanings.{HasSats, IsAhead, done_of};
+ghost use Rattle.bridge_engine.specs.Meanings.{IsAhead, done_of};
 
 use crate::done::Done;
 use crate::job::Job;
@@ -21,7 +21,6 @@ pub fn run_job<S: Source, T: Sink, U: Sink>(
     output: &mut T,
     report: &mut U,
 ) -> Result<Done, BridgeFault>
-    requires { HasSats job.now }
     ensures ended { Ran (done_of job.now)
         S.left S.never_fails S.faults T.written T.faults U.written U.faults
         input.old input.new output.old output.new report.old report.new result }

@@ -11,6 +11,7 @@ ghost use Rattle.bridge_engine.specs.WordsFound.{given_of};
 
 use crate::Found;
 use gnss_week::RefWeek;
+use nav_vectors::Sats;
 
 /// The values of the options other than `--from` and `--to`; `None` where the option is absent.
 #[derive(Clone, Copy)]
@@ -23,8 +24,8 @@ pub struct Values {
     pub date: Option<[u8; 19]>,
     /// The seed of a generated capture.
     pub seed: Option<u32>,
-    /// Its number of satellites of each system, 1 to 32.
-    pub sats: Option<u8>,
+    /// Its number of satellites of each system.
+    pub sats: Option<Sats>,
 }
 
 // The values of the options, where each is in its range; `None` otherwise.
@@ -116,7 +117,7 @@ fn seed_of(text: Option<&str>) -> Option<Option<u32>>
 }
 
 // The number of satellites of the option.
-fn sats_of(text: Option<&str>) -> Option<Option<u8>>
+fn sats_of(text: Option<&str>) -> Option<Option<Sats>>
     ensures { MatchOption result
         ((sats : Option ℕ) → ¬ Reads IsSatsText (option_map (λ t. t.now) text.entry) sats)
         (Reads IsSatsText (option_map (λ t. t.now) text.entry)) }
@@ -125,10 +126,12 @@ fn sats_of(text: Option<&str>) -> Option<Option<u8>>
         None => Some(None),
         Some(text) => {
             let sats = number_of_text(text)?;
-            if sats < 1 || sats > 32 {
-                None
-            } else {
-                Some(Some(sats as u8))
+            if sats > 32 {
+                return None;
+            }
+            match Sats::new(sats as u8) {
+                None => None,
+                Some(sats) => Some(Some(sats)),
             }
         }
     }

@@ -1,6 +1,6 @@
 //! The run over a generated capture.
 
-ghost use Rattle.std.specs.Prelude.{◌≤◌, None, true};
+ghost use Rattle.std.specs.Prelude.{None, true};
 ghost use Rattle.one_run.specs.Runs.{Ran};
 ghost use Rattle.captures.specs.Seeds.{seed_meaning};
 
@@ -9,7 +9,7 @@ use crate::laws::generated_captures_are_accepted;
 use crate::seed_target::{SeedCounts, SeedTo};
 use gnss_week::RefWeek;
 use nav_io::Sink;
-use nav_vectors::{captures_are_short, make_capture};
+use nav_vectors::{Sats, captures_are_short, make_capture};
 use one_run::BridgeFault;
 use std::alloc::Global;
 
@@ -28,15 +28,12 @@ use std::alloc::Global;
 pub fn run_seed<T: Sink, U: Sink>(
     alloc: Global,
     seed: u32,
-    sats: u8,
+    sats: Sats,
     week: RefWeek,
     to: SeedTo,
     output: &mut T,
     report: &mut U,
 ) -> Result<SeedCounts, BridgeFault>
-    requires low { 1 ≤ sats }
-    requires high { sats ≤ 32 }
-
     // The run ends as its meaning states: it reads nothing, so `ReadFault`, `NotThisForm` and
     // `TooLong` do not occur; and writing the capture itself reports nothing.
     ensures { Ran (seed_meaning to seed sats week)
@@ -45,6 +42,7 @@ pub fn run_seed<T: Sink, U: Sink>(
 {
     generated_captures_are_accepted();
     captures_are_short();
+    let _count = sats.value();
     let text = match make_capture(alloc, seed, sats, week) {
         Ok(text) => text,
         Err(_) => return Err(BridgeFault::NoMemory),

@@ -1,3 +1,4 @@
+pub mod Sats
 pub mod Draws
 pub mod Values
 pub mod Lines

@@ -1,8 +1,9 @@
-ghost use Rattle.std.specs.Prelude.{◌≡◌, ◌≤◌, IfOk};
+ghost use Rattle.std.specs.Prelude.{◌≡◌, IfOk};
 ghost use Rattle.nav_vectors.specs.Capture.{IsCapture};
 ghost use Rattle.nav_vectors.specs.Text.{capture_text};
 
 use crate::lines::push_lines;
+use crate::sats::Sats;
 use crate::senders::senders_of;
 use crate::sending::order_of_lines;
 use gnss_week::RefWeek;
@@ -22,15 +23,14 @@ const ROOM: usize = 605 * 88 + 7260 * 44;
 /// seconds are repeated in order.
 ///
 /// `AllocError` where memory runs out.
-pub fn make_capture(alloc: Global, seed: u32, sats: u8, r: RefWeek) -> Result<Vec<u8>, AllocError>
-    requires low { 1 ≤ sats }
-    requires high { sats ≤ 32 }
+pub fn make_capture(alloc: Global, seed: u32, sats: Sats, r: RefWeek) -> Result<Vec<u8>, AllocError>
     ensures capture { IfOk result (λ text. IsCapture seed sats r text.items) }
     ensures text { IfOk result (λ text. text.items ≡ capture_text seed sats r) }
 {
-    let senders = senders_of(alloc, seed, sats, r)?;
-    let order = order_of_lines(alloc, sats)?;
-    let mut text = Vec::with_capacity(alloc, 9 + ROOM * usize::from(sats))?;
+    let count = sats.value();
+    let senders = senders_of(alloc, seed, count, r)?;
+    let order = order_of_lines(alloc, count)?;
+    let mut text = Vec::with_capacity(alloc, 9 + ROOM * usize::from(count))?;
     text.extend_from_slice(b"NAVCAP 1\n")?;
     push_lines(&senders, order.as_slice(), &mut text)?;
     Ok(text)

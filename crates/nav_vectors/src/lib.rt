@@ -8,10 +8,11 @@
 //!
 //! ```rust
 //! use gnss_week::RefWeek;
-//! use nav_vectors::make_capture;
+//! use nav_vectors::{Sats, make_capture};
 //!
 //! let week = RefWeek::new(2295).ok_or("a week")?;
-//! let text = make_capture(rt.alloc(), 7, 1, week)?;
+//! let sats = Sats::new(1).ok_or("a number of satellites")?;
+//! let text = make_capture(rt.alloc(), 7, sats, week)?;
 //! assert!(rt; text.as_slice().starts_with(b"NAVCAP 1\n6 P E01 5 "));
 //! ```
 #![tactic(auto)]
@@ -21,9 +22,11 @@ mod generator;
 mod laws;
 mod lines;
 mod pages;
+mod sats;
 mod senders;
 mod sending;
 mod values;
 
 pub use crate::capture::make_capture;
 pub use crate::laws::{captures_are_short, captures_are_the_text, lines_are_counted, one_capture};
+pub use crate::sats::Sats;

@@ -1,7 +1,7 @@
 //! Lines of generated captures, computed by an independent program.
 
 use gnss_week::RefWeek;
-use nav_vectors::make_capture;
+use nav_vectors::{Sats, make_capture};
 use std::alloc::{AllocError, Global};
 use std::test::Fail;
 
@@ -181,13 +181,10 @@ fn has_line(text: &[u8], row: &LineRow) -> bool {
 
 // Whether the capture has its lines.
 fn is_capture(alloc: Global, row: &CaptureRow) -> Result<bool, AllocError> {
-    let Some(reference) = RefWeek::new(row.week) else {
+    let (Some(reference), Some(sats)) = (RefWeek::new(row.week), Sats::new(row.satellites)) else {
         return Ok(false);
     };
-    if row.satellites < 1 || row.satellites > 32 {
-        return Ok(false);
-    }
-    let text = make_capture(alloc, row.seed, row.satellites, reference)?;
+    let text = make_capture(alloc, row.seed, sats, reference)?;
     let ends = text
         .as_slice()
         .iter()

@@ -1,12 +1,9 @@
 use Rattle.std.proofs.Common.{inl, sym, ap, refl, ◌∙◌}
-use Rattle.bridge_engine.proofs.Ends.{calls, has_sats, nothing_ahead, readings}
+use Rattle.bridge_engine.proofs.Ends.{calls, nothing_ahead, readings}
 use Rattle.one_run.proofs.Surface.{ahead_forgotten, forget, forgotten, status_forgotten}
 use Rattle.bridge_engine.proofs.TableRows.{given_job}
 use Rattle.bridge_engine.specs.declared.done.Done.{Done}
 use Rattle.bridge_engine.proofs.statuses.bridge.Goals as goal
-
-pub run_job-ended-requires : goal.run_job-ended-requires
-run_job-ended-requires g c = has_sats _ _ (given_job _ _ c.in-Ok-Some.job c.in-Ok-Some.field-0-is c.in-Ok-Some.ensures)
 
 pub returns-in-Err-clause-also : goal.returns-in-Err-clause-also
 returns-in-Err-clause-also g c = λ capture is broke. nothing_ahead _ _ _ _ _

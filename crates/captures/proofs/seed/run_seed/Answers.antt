@@ -16,7 +16,7 @@ returns-in-Capture g c =
 
 pub count_text-requires-clause-short : goal.count_text-requires-clause-short
 count_text-requires-clause-short g c =
-    subst (λ (l : List ℕ). length l < 2 ^ 32) (sym c.in-Ok.ensures.text) (c.captures_are_short.ensures.function c.args.seed c.args.sats c.args.week c.requires.high)
+    subst (λ (l : List ℕ). length l < 2 ^ 32) (sym c.in-Ok.ensures.text) (c.captures_are_short.ensures.function c.args.seed c.args.sats c.args.week c.value-count.ensures.fits.1)
 
 pub count_text-requires-clause-accepted : goal.count_text-requires-clause-accepted
 count_text-requires-clause-accepted g c =

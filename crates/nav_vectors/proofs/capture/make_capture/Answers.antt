@@ -7,7 +7,7 @@ use Rattle.nav_vectors.proofs.capture.make_capture.Goals as goal
 pub push_lines-requires-clause-of : goal.push_lines-requires-clause-of
 push_lines-requires-clause-of c =
     subst (λ n. All (IsOf n) c.as_slice.result.now) (sym c.in_ok-senders.ensures.sats)
-    (subst (All (IsOf c.args.sats)) (sym (c.as_slice.ensures.value ∙ c.in_ok-order.ensures)) (lines_are_of c.args.sats))
+    (subst (All (IsOf c.value-count.result)) (sym (c.as_slice.ensures.value ∙ c.in_ok-order.ensures)) (lines_are_of c.value-count.result))
 
 pub returns-clause-capture : goal.returns-clause-capture
 returns-clause-capture c = search rules
