@@ -1,5 +1,6 @@
 //! Small files through each run.
 
+use crate::times::times_from;
 use nav_files::{MergeCounts, RinexCounts, run_cover, run_merge};
 use nav_io::{MemSink, MemSource};
 use one_run::BridgeFault;
@@ -297,6 +298,7 @@ fn are_kept_counted(alloc: Global) -> Result<bool, AllocError> {
         passed: 0,
         items: 2,
         kept: 1,
+        times: times_from(0, 0),
     };
     Ok(counts == Ok(want) && none == Err(BridgeFault::NotThisForm))
 }
@@ -382,6 +384,7 @@ fn are_items_counted(alloc: Global) -> Result<bool, AllocError> {
         refused: 0,
         passed: 0,
         items: 2,
+        times: times_from(0, 0),
     };
     Ok(counts == Ok(want) && none == Err(BridgeFault::NotThisForm))
 }

@@ -15,7 +15,7 @@ use nav_eph::{
 };
 use nav_io::{MemSink, MemSource};
 use nav_laws::PlainAssembly;
-use nav_vectors::make_capture;
+use nav_vectors::{Sats, make_capture};
 use one_run::{Text, append, append_decimal, append_hex};
 use outlets::append_issue;
 use periods::{Closed, Key, Verdict};
@@ -50,7 +50,10 @@ const ONE_MINUTE: &[u8] = b"NAVCAP 2 2295 60\n";
 
 // The lines behind the first of a generated capture, up to so many bytes of it.
 fn lines_of(alloc: Global, seed: u32, week: RefWeek, most: usize) -> Result<Vec<u8>, AllocError> {
-    let mut text = make_capture(alloc, seed, 2, week)?;
+    let Some(sats) = Sats::new(2) else {
+        return Ok(Vec::new(alloc));
+    };
+    let mut text = make_capture(alloc, seed, sats, week)?;
     text.truncate(most);
     match text.strip_prefix(TWO_HOURS) {
         Some(lines) => lines.to_vec(alloc),

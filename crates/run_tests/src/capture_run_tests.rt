@@ -5,7 +5,7 @@ ghost use Rattle.std.specs.Prelude.{◌<◌};
 use captures::{CaptureRun, CaptureTo, run_capture};
 use gnss_week::RefWeek;
 use nav_io::{MemSink, MemSource};
-use nav_vectors::make_capture;
+use nav_vectors::{Sats, make_capture};
 use one_run::BridgeFault;
 use std::alloc::{AllocError, Global};
 use std::test::Fail;
@@ -27,7 +27,10 @@ fn sink_of(alloc: Global) -> Result<MemSink, AllocError> {
 
 // A capture whose periods close one after another, and whose last line lacks its LF.
 fn capture_of(alloc: Global, week: RefWeek) -> Result<Vec<u8>, AllocError> {
-    let mut text = make_capture(alloc, 7, 2, week)?;
+    let Some(sats) = Sats::new(2) else {
+        return Ok(Vec::new(alloc));
+    };
+    let mut text = make_capture(alloc, 7, sats, week)?;
     text.truncate(MOST);
     let long = vec![in alloc; b'x'; 9_000]?;
     match text.strip_prefix(FIRST) {

@@ -1,5 +1,6 @@
 //! Small inputs through each run.
 
+use crate::times::times_from;
 use gnss_week::RefWeek;
 use nav_files::{RinexCounts, RinexTo, run_rinex, run_rinex3};
 use nav_io::{MemSink, MemSource};
@@ -89,6 +90,7 @@ fn file_becomes(
         refused: 0,
         passed: 0,
         items: 1,
+        times: times_from(0, 0),
     };
     Ok(counts == Ok(want) && output.bytes() == text && report.bytes() == reported)
 }
@@ -110,12 +112,15 @@ fn stays(alloc: Global, bytes: &[u8]) -> Result<bool, AllocError> {
 }
 
 // What is counted of two equal frames, and one with no payload between them.
-const TWICE: StreamCounts = StreamCounts {
-    frames: 3,
-    refused: 0,
-    unused: 1,
-    items: 1,
-};
+fn twice() -> StreamCounts {
+    StreamCounts {
+        frames: 3,
+        refused: 0,
+        unused: 1,
+        items: 1,
+        times: times_from(0, 0),
+    }
+}
 
 // What is reported of them.
 const TWICE_REPORT: &[u8] = b"frames 3\nrefused 0\nunused 1\nitems 1\n";
@@ -127,7 +132,7 @@ fn is_given_once(alloc: Global) -> Result<bool, AllocError> {
     let mut report = sink_of(alloc)?;
     let counts = stream_run(alloc, &StreamTo::Rtcm, &bytes, &mut output, &mut report)?;
     let is_reported = report.bytes() == TWICE_REPORT;
-    Ok(counts == Some(TWICE) && output.bytes() == FRAME && is_reported)
+    Ok(counts == Some(twice()) && output.bytes() == FRAME && is_reported)
 }
 
 // Whether the same frames, pushed in pieces of one byte more than so many, become the same.
@@ -148,7 +153,7 @@ fn is_given_once_of_pieces(alloc: Global, more: u8) -> Result<bool, AllocError> 
     }
     let counts = run.finish(&mut output, &mut report).ok();
     let is_reported = report.bytes() == TWICE_REPORT;
-    Ok(counts == Some(TWICE) && output.bytes() == FRAME && is_reported)
+    Ok(counts == Some(twice()) && output.bytes() == FRAME && is_reported)
 }
 
 // One less than the sizes of the pieces: single bytes, pieces that end in the middle of a frame, at

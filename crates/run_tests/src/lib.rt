@@ -20,3 +20,5 @@ mod page_send_tests;
 mod seed_runs_tests;
 #[cfg(test)]
 mod send_runs_tests;
+#[cfg(test)]
+mod times;

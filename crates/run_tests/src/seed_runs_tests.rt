@@ -1,36 +1,42 @@
 //! Runs over memory.
 
+use crate::times::times_from;
 use captures::{CaptureCounts, SeedCounts, SeedTo, run_seed};
 use gnss_week::RefWeek;
 use nav_io::MemSink;
+use nav_vectors::Sats;
 use one_run::BridgeFault;
 use std::alloc::{AllocError, Global};
 use std::test::Fail;
 
 // The counts of the capture of two satellites of each system from the seed 7 in week 2295, computed
 // by an independent program.
-const COUNTS: CaptureCounts = CaptureCounts {
-    lines: 15_731,
-    malformed: 0,
-    late: 0,
-    refused: 0,
-    unused: 5_274,
-    whole: 6,
-    partial: 0,
-    contradicted: 0,
-    nohealth: 0,
-    again: 0,
-};
+fn two() -> CaptureCounts {
+    CaptureCounts {
+        lines: 15_731,
+        malformed: 0,
+        late: 0,
+        refused: 0,
+        unused: 5_274,
+        whole: 6,
+        partial: 0,
+        contradicted: 0,
+        nohealth: 0,
+        again: 0,
+        times: times_from(7200, 7200),
+    }
+}
 
 #[test]
 fn writes_the_capture(rt: HostRuntime) -> Result<(), Fail> {
     let week = RefWeek::new(2295).ok_or("a week")?;
     let mut output = MemSink::new(rt.alloc(), 400_000, Vec::new(rt.alloc()))?;
     let mut report = MemSink::new(rt.alloc(), 0, Vec::new(rt.alloc()))?;
+    let sats = Sats::new(1).ok_or("a number of satellites")?;
     let counts = run_seed(
         rt.alloc(),
         7,
-        1,
+        sats,
         week,
         SeedTo::Capture,
         &mut output,
@@ -49,17 +55,18 @@ fn counts_the_capture(rt: HostRuntime) -> Result<(), Fail> {
         contradicted 0\nnohealth 0\nagain 0\n";
     let mut output = MemSink::new(rt.alloc(), 200, Vec::new(rt.alloc()))?;
     let mut report = MemSink::new(rt.alloc(), 200, Vec::new(rt.alloc()))?;
+    let sats = Sats::new(2).ok_or("a number of satellites")?;
     let counts = run_seed(
         rt.alloc(),
         7,
-        2,
+        sats,
         week,
         SeedTo::Count,
         &mut output,
         &mut report,
     );
     assert!(rt;
-        counts == Ok(SeedCounts::Counted(COUNTS))
+        counts == Ok(SeedCounts::Counted(two()))
             && output.bytes() == text.as_slice()
             && report.bytes() == text.as_slice()
     );
@@ -101,12 +108,12 @@ static FAULTS: [Fault; 3] = [
 
 // Whether a run ends with the fault.
 fn is_answered(alloc: Global, case: &Fault) -> Result<bool, AllocError> {
-    let Some(week) = RefWeek::new(2295) else {
+    let (Some(week), Some(sats)) = (RefWeek::new(2295), Sats::new(1)) else {
         return Ok(false);
     };
     let mut output = MemSink::new(alloc, case.room, Vec::new(alloc))?;
     let mut report = MemSink::new(alloc, case.report_room, Vec::new(alloc))?;
-    let counts = run_seed(alloc, 7, 1, week, case.to, &mut output, &mut report);
+    let counts = run_seed(alloc, 7, sats, week, case.to, &mut output, &mut report);
     Ok(counts == Err(case.fault))
 }
 
