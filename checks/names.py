@@ -126,7 +126,7 @@ def look_for_link(page, number, target):
 
 def look_for_word(page, number, word):
     if word.startswith(TOPS) and " " not in word:
-        if "/out/" not in word and "NAME" not in word and "/build" not in word and not glob.glob(word):
+        if not re.search(r"/out(/|$)", word) and "NAME" not in word and "/build" not in word and not glob.glob(word):
             tell(page, number, f"{word}: no such file")
     elif re.fullmatch(r"[\w.-]+\.(md|antt|rt|sh|py|c|h)", word):
         if word not in files:
