@@ -61,7 +61,7 @@ from ._values import (
 )
 
 Error.__module__ = Status.__module__ = __name__
-__version__ = "1.0.0"
+__version__ = "2.0.0"
 __all__ = [
     "Conversion", "Deframer", "E1B", "E5B", "Error", "FRAME_MOST", "Gal", "GalHealth", "GalIon", "GalWord1", "GalWord2", "GalWord3",
     "GalWord4", "Gps", "GpsClock", "GpsIon", "GpsOrbitA", "GpsOrbitB", "GpsSide", "Ion", "Item", "Joined", "Orbit", "PI", "Pages",
