@@ -53,39 +53,26 @@ static void draw_hour(uint64_t seed) {
 
 /* ---- subframes: bits counted from 1, as the standard does ---- */
 
-static const char *parity[6] = {
-    "1 2 3 5 6 10 11 12 13 14 17 18 20 23", "2 3 4 6 7 11 12 13 14 15 18 19 21 24",
-    "1 3 4 5 7 8 12 13 14 15 16 19 20 22", "2 4 5 6 8 9 13 14 15 16 17 20 21 23",
-    "1 3 5 6 7 9 10 14 15 16 17 18 21 22 24", "3 5 6 8 9 10 11 13 15 19 22 23 24"};
-static const int uses_30[6] = {0, 1, 0, 1, 1, 0};
-static uint32_t parity_mask[6];
-
-static void fill_parity(void) {
-    for (int row = 0; row < 6; row++) {
-        char *at = (char *)parity[row];
-        while (*at) parity_mask[row] |= 1u << (24 - strtol(at, &at, 10));
-    }
-}
-
-static unsigned parity_bit(int row, uint32_t source, unsigned last) {
-    return __builtin_parity(source & parity_mask[row]) ^ (uses_30[row] ? last & 1 : last >> 1);
-}
-
 /* The sent words of 300 source bits, of which the places of parity are not looked at. */
 static void send_words(const uint8_t *source, uint8_t *sent) {
     unsigned last = 0;
+    uint32_t w[10];
     for (int word = 0; word < 10; word++) {
         uint32_t bits = get(source, 30 * word, 24);
         if (word == 1 || word == 9) {
             bits &= ~3u;
-            bits |= parity_bit(4, bits, last);
-            bits |= parity_bit(5, bits, last) << 1;
+            unsigned tail = tail_of(bits, last);
+            bits |= (tail >> 1 & 1) | ((tail ^ tail >> 1) & 1) << 1; /* d24 is in both of D29 and D30 */
         }
-        unsigned tail = 0;
-        for (int row = 0; row < 6; row++) tail = tail << 1 | parity_bit(row, bits, last);
-        put(sent, 30 * word, 24, last & 1 ? bits ^ 0xFFFFFF : bits);
-        put(sent, 30 * word + 24, 6, tail);
+        unsigned tail = tail_of(bits, last);
+        w[word] = (last & 1 ? bits ^ 0xFFFFFF : bits) << 6 | tail;
         last = tail & 3;
+    }
+    struct bits b = {0};
+    for (int word = 0; word < 10; word++) add(&b, 30, w[word]);
+    for (int k = 0; k < 5; k++) {
+        uint64_t eight = __builtin_bswap64(b.words[k]);
+        memcpy(sent + 8 * k, &eight, 8);
     }
 }
 
@@ -121,27 +108,18 @@ static void fill_subframe(uint8_t *b, const struct eph *i, int number, int page)
 
 /* ---- lines: kept whole, since their order is that of blocks which are reversed ---- */
 
-struct line { char text[96]; };
+struct line { char text[124]; int size; };
 
 static struct line *lines;
 static size_t lines_held, lines_room;
 
-static char *new_line(void) {
+static struct line *new_line(void) {
     if (lines_held == lines_room) {
         lines_room = lines_room ? 2 * lines_room : 1 << 16;
         lines = realloc(lines, lines_room * sizeof *lines);
         if (!lines) exit(6);
     }
-    return lines[lines_held++].text;
-}
-
-static void hex(char *into, const uint8_t *bytes, int count) {
-    for (int i = 0; i < count; i++) {
-        *into++ = "0123456789abcdef"[bytes[i] >> 4];
-        *into++ = "0123456789abcdef"[bytes[i] & 15];
-    }
-    *into++ = '\n';
-    *into = 0;
+    return &lines[lines_held++];
 }
 
 static void add_subframe(int n, int k, long hour) {
@@ -152,13 +130,15 @@ static void add_subframe(int n, int k, long hour) {
     put(bits, 49, 3, number);
     fill_subframe(bits, &gps[n], number, page);
     send_words(bits, sent);
-    char *text = new_line();
-    hex(text + sprintf(text, "%ld L G%02d ", 3600 * hour + 6 * k, n), sent, 38);
+    struct line *line = new_line();
+    char *into = put_begin(line->text, 3600 * hour + 6 * k, 'L', 'G', n);
+    put_hex(into, sent, 38);
+    into[76] = '\n';
+    line->size = into + 77 - line->text;
 }
 
-static void fill_word(uint8_t *w, const struct eph *i, int number, long second) {
-    unsigned at = 0;
-#define PUT(width, value) (put(w, at, width, value), at += width)
+static void fill_word(struct bits *w, const struct eph *i, int number, long second) {
+#define PUT(width, value) add(w, width, value)
     PUT(6, number);
     if (number >= 1 && number <= 4) PUT(10, i->iode);
     if (number == 1) { PUT(14, i->toe); PUT(32, i->m0); PUT(32, i->e); PUT(32, i->root_a); }
@@ -177,27 +157,39 @@ static void fill_word(uint8_t *w, const struct eph *i, int number, long second) 
     }
 }
 
-/* the halves of a page, 15 bytes each */
-static void fill_page(const uint8_t *word, uint8_t *even, uint8_t *odd) {
-    uint8_t whole[32] = {0};
-    unsigned crc = 0;
-    put(odd, 0, 1, 1);
-    for (int i = 0; i < 14; i++) put(even, 2 + 8 * i, 8, word[i]);
-    put(odd, 2, 16, word[14] << 8 | word[15]);
-    for (int i = 0; i < 114; i++) put(whole, i, 1, get(even, i, 1));
-    for (int i = 0; i < 82; i++) put(whole, 114 + i, 1, get(odd, i, 1));
-    for (int i = 0; i < 196; i++) crc = (crc << 1 & 0xFFFFFF) ^ ((crc >> 23 ^ get(whole, i, 1)) & 1 ? 0x864CFB : 0);
-    put(odd, 82, 24, crc);
+/* the halves of a page, two numbers each */
+static void fill_page(const struct bits *word, uint64_t *even, uint64_t *odd) {
+    uint64_t high = word->words[0], low = word->words[1];
+    even[0] = high >> 2;
+    even[1] = (high << 62 | low >> 2) & ~(uint64_t)0 << 14;
+    odd[0] = (uint64_t)1 << 63 | (low & 0xFFFF) << 46;
+    uint32_t crc = crc_eight(0, __builtin_bswap64(even[0] >> 4));
+    crc = crc_eight(crc, __builtin_bswap64(even[0] << 60 | even[1] >> 4 | odd[0] >> 54));
+    crc = crc_eight(crc, __builtin_bswap64(odd[0] << 10));
+    crc = crc >> 8 ^ crc_table[0][crc & 255];
+    odd[1] = (uint64_t)(__builtin_bswap32(crc) >> 8) << 22;
 }
 
+static uint64_t odds[MOST][2];
+
 static void add_halves(int n, int second, long hour) {
-    uint8_t word[24] = {0}, even[24] = {0}, odd[24] = {0};
-    int j = second / 2, number = j % 15 + 1;
-    if (number <= 5) fill_word(word, &gal[n], number, 3600 * hour + 2 * j);
-    fill_page(word, even, odd);
+    uint64_t half[4];
+    if (second % 2 == 0) {
+        struct bits word = {0};
+        int j = second / 2, number = j % 15 + 1;
+        if (number <= 5) fill_word(&word, &gal[n], number, 3600 * hour + 2 * j);
+        fill_page(&word, half, odds[n]);
+    } else memcpy(half, odds[n], 16);
+    half[0] = __builtin_bswap64(half[0]);
+    half[1] = __builtin_bswap64(half[1]);
     for (int signal = 0; signal < 2; signal++) {
-        char *text = new_line();
-        hex(text + sprintf(text, "%ld P E%02d %c ", 3600 * hour + second, n, "B5"[signal]), second % 2 ? odd : even, 15);
+        struct line *line = new_line();
+        char *into = put_begin(line->text, 3600 * hour + second, 'P', 'E', n);
+        into[0] = "B5"[signal];
+        into[1] = ' ';
+        put_hex(into + 2, (uint8_t *)half, 15);
+        into[32] = '\n';
+        line->size = into + 33 - line->text;
     }
 }
 
@@ -211,7 +203,7 @@ static void write_blocks(int all) {
     size_t from = 0;
     while (from + 16 <= lines_held || (all && from < lines_held)) {
         size_t to = from + 16 < lines_held ? from + 16 : lines_held;
-        for (size_t i = to; i > from; i--) out_put(lines[i - 1].text, strlen(lines[i - 1].text));
+        for (size_t i = to; i > from; i--) out_put(lines[i - 1].text, lines[i - 1].size);
         from = to;
     }
     memmove(lines, lines + from, (lines_held - from) * sizeof *lines);
@@ -223,7 +215,7 @@ static void make_one(uint64_t seed) {
     for (int second = 0; second < 3600; second++) add_second(second, 0);
     write_blocks(1);
     for (int second = 0; second < 30; second++) add_second(second, 0);
-    for (size_t i = 0; i < lines_held; i++) out_put(lines[i].text, strlen(lines[i].text));
+    for (size_t i = 0; i < lines_held; i++) out_put(lines[i].text, lines[i].size);
 }
 
 static void make_hours(uint64_t seed, long hours) {
@@ -277,21 +269,27 @@ static void make_rinex(uint64_t seed, const char *date, int leap) {
 
 static void make_partial(long count) {
     uint8_t bits[48] = {0}, sent[48] = {0};
-    char digits[80], text[128];
+    char text[160];
     struct eph zero = {0};
     put(bits, 0, 8, 0x8B);
     put(bits, 30, 17, 3);
     put(bits, 49, 3, 3);
     fill_subframe(bits, &zero, 3, 0);
     send_words(bits, sent);
-    hex(digits, sent, 38);
     out_put("NAVCAP 1\n", 9);
-    for (long i = 0; i < count; i++) out_put(text, sprintf(text, "%ld L G05 %s", 7201 * i, digits));
+    for (long i = 0; i < count; i++) {
+        char *into = put_begin(text, 7201 * i, 'L', 'G', 5);
+        put_hex(into, sent, 38);
+        into[76] = '\n';
+        out_put(text, into + 77 - text);
+    }
 }
 
 int main(int count, char **words) {
-    fill_tables();
+    fill_crc();
+    fill_digits();
     fill_parity();
+    if (count >= 3 && !strcmp(words[1], "rinex")) fill_scales();
     if (count == 3 && !strcmp(words[1], "partial")) make_partial(atol(words[2]));
     else if (count == 3 && !strcmp(words[1], "list")) {
         char text[64];

@@ -17,48 +17,23 @@ program='' runs=5
 options '--program: --runs: ..' "$@"
 size=$((${arguments[0]:-50} * 1000000))
 built program navbridge
-plain frames streams captures spent
+plain frames streams captures heard files spent
 date=(--date '20240101 000000 UTC' --leap 18)
 week=(--week 2295)
 
-# a file of that name, made by the command where it is not there yet
-made() { # file, command
-  local file=$here/$1
-  shift
-  if [ ! -e "$file" ]; then
-    "$@" > "$file.part"
-    mv "$file.part" "$file"
-  fi
-}
-from_file() { # input, command
-  local input=$1
-  shift
-  "$@" < "$here/$input" 2> /dev/null
-}
 records() { # version: 200,000 records
   head -c 13600000 "$here/distinct.$size" | "$here/streams" "$1" 2295 '20240101 000000 UTC' 18 2> /dev/null
-}
-shuffled() { # capture
-  python3 -c '
-import random, sys
-lines = open(sys.argv[1], "rb").read().splitlines(keepends=True)
-rest = lines[1:]
-random.Random(7).shuffle(rest)
-sys.stdout.buffer.write(lines[0] + b"".join(rest))' "$here/$1"
 }
 made "frames.$size" "$here/frames" make "$size"
 made "start.$size" "$here/frames" start "$size"
 made "start.$((size / 2))" "$here/frames" start $((size / 2))
 made "distinct.$size" "$here/streams" make distinct "$size"
 made "repeated.$size" "$here/streams" make repeated "$size"
-made records.rinex records rinex
-made records.rinex3 records rinex3
-made records.rtcm head -c 13600000 "$here/distinct.$size"
+made "records.$size.rinex" records rinex
+made "records.$size.rinex3" records rinex3
 made hour.capture "$here/captures" make 7 32 2295
-made hour.rinex "$here/captures" rinex 7 32 2295 '20240101 000000 UTC' 18
 made shuffled.capture shuffled hour.capture
 made partial.capture "$here/captures" partial 200000
-made partial.list "$here/captures" list 200000
 for window in 600 7200; do
   for hours in 1 4 10; do made "hours.$hours.$window" "$here/captures" hours 7 12 2295 "$hours" "$window"; done
 done
@@ -117,25 +92,26 @@ job 'repeated frames to rinex' "repeated.$size" - "streams rinex $words" --from 
 job 'distinct frames to rtcm' "distinct.$size" - 'streams rtcm 2295' --from stream --to rtcm "${week[@]}"
 job 'distinct frames to rinex3' "distinct.$size" - "streams rinex3 $words" \
   --from stream --to rinex3 "${week[@]}" "${date[@]}"
-job '200,000 records, rinex to rinex' records.rinex records.rinex - --from rinex --to rinex "${date[@]}"
-job '200,000 records, rinex to rtcm' records.rinex records.rtcm - --from rinex --to rtcm
-job '200,000 records, rinex to list' records.rinex - - --from rinex --to list
-job '200,000 records, rinex to rinex3' records.rinex records.rinex3 - --from rinex --to rinex3 "${date[@]}"
-job '200,000 records, rinex3 to rinex' records.rinex3 records.rinex - --from rinex3 --to rinex "${date[@]}"
-job '200,000 records, rinex to merged' records.rinex - - --from rinex --to merged "${date[@]}"
-job '200,000 records, rinex to cover' records.rinex - - --from rinex --to cover
+head="'20240101 000000 UTC' 18"
+job '200,000 records, rinex to rinex' "records.$size.rinex" - "files rinex rinex $head" --from rinex --to rinex "${date[@]}"
+job '200,000 records, rinex to rtcm' "records.$size.rinex" - 'files rinex rtcm' --from rinex --to rtcm
+job '200,000 records, rinex to list' "records.$size.rinex" - 'files rinex list' --from rinex --to list
+job '200,000 records, rinex to rinex3' "records.$size.rinex" - "files rinex rinex3 $head" --from rinex --to rinex3 "${date[@]}"
+job '200,000 records, rinex3 to rinex' "records.$size.rinex3" - "files rinex3 rinex $head" --from rinex3 --to rinex "${date[@]}"
+job '200,000 records, rinex to merged' "records.$size.rinex" - "files rinex merged $head" --from rinex --to merged "${date[@]}"
+job '200,000 records, rinex to cover' "records.$size.rinex" - 'files rinex cover' --from rinex --to cover
 # (no input is read; the megabytes are those that are written)
-job '32 and 32 satellites, seed to capture' hour.capture hour.capture - \
+job '32 and 32 satellites, seed to capture' hour.capture - 'captures make 7 32 2295' \
   --from seed --to capture --seed 7 --sats 32 "${week[@]}"
-job 'capture of 32 and 32 satellites to rinex' hour.capture hour.rinex - --from capture --to rinex "${week[@]}" "${date[@]}"
-job 'its lines in random order' shuffled.capture hour.rinex - --from capture --to rinex "${week[@]}" "${date[@]}"
-job '200,000 partial periods of one key to list' partial.capture partial.list - --from capture --to list "${week[@]}"
+job 'capture of 32 and 32 satellites to rinex' hour.capture - "heard rinex $head 2295" --from capture --to rinex "${week[@]}" "${date[@]}"
+job 'its lines in random order' shuffled.capture - "heard rinex $head 2295" --from capture --to rinex "${week[@]}" "${date[@]}"
+job '200,000 partial periods of one key to list' partial.capture - 'heard list 2295' --from capture --to list "${week[@]}"
 # (four hours fill two windows of 7,200 s, one hour does not)
 for window in 600 7200; do
   peaks=()
   for hours in 1 4 10; do
     peak=
-    job "12 and 12 satellites, $hours h, window $window s" "hours.$hours.$window" - - --from capture --to rinex "${date[@]}"
+    job "12 and 12 satellites, $hours h, window $window s" "hours.$hours.$window" - "heard rinex $head" --from capture --to rinex "${date[@]}"
     peaks+=("${peak:-nan}")
   done
   awk -v w="$window" -v one="${peaks[0]}" -v four="${peaks[1]}" -v ten="${peaks[2]}" 'BEGIN {

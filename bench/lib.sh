@@ -8,14 +8,34 @@ cd "$top" || exit 2
 here=bench/build
 mkdir -p "$here"
 
-# Compiles plain programs of bench/ into bench/build, where they are older than their sources
+# Compiles plain programs of bench/ into bench/build, where they are older than their sources, for the processors that the programs
+# are compiled for
 plain() {
   local name
   for name; do
-    if [ ! -x "$here/$name" ] || [ -n "$(find "bench/$name.c" bench/records.h -newer "$here/$name")" ]; then
-      ${CC:-cc} -O2 -o "$here/$name" "bench/$name.c"
+    if [ ! -x "$here/$name" ] || [ -n "$(find "bench/$name.c" bench/*.h -newer "$here/$name")" ]; then
+      ${CC:-cc} -O3 -march=x86-64-v2 -w -o "$here/$name" "bench/$name.c"
     fi
   done
+}
+
+# An input in bench/build: its name, and the command that makes it where it is not there yet
+made() {
+  local file=$here/$1
+  shift
+  if [ ! -e "$file" ]; then
+    "$@" > "$file.part"
+    mv "$file.part" "$file"
+  fi
+}
+# The lines behind the first one of a file in an order of their own, always the same
+shuffled() {
+  python3 -c '
+import random, sys
+lines = open(sys.argv[1], "rb").read().splitlines(keepends=True)
+rest = lines[1:]
+random.Random(7).shuffle(rest)
+sys.stdout.buffer.write(lines[0] + b"".join(rest))' "$here/$1"
 }
 
 # The libraries of the repository that a crate stands on by crates.txt, itself among them, into the array `found`

@@ -1,11 +1,13 @@
-/* What the plain programs of this folder share: bits of messages, CRC-24Q by sliced tables, number texts in exact
- * arithmetic of 128 bits, and the records of a RINEX 4.01 navigation file (docs/FORMATS.md has the layouts).
+/* What the plain programs of this folder share: output by blocks, bits of messages, CRC-24Q by sliced tables, number texts
+ * in exact arithmetic of 128 bits, the records of a RINEX 4.01 navigation file, messages, lines of a capture, and the parity
+ * of LNAV words (docs/FORMATS.md has the layouts).
  */
 #include <errno.h>
 #include <stdint.h>
 #include <stdio.h>
 #include <stdlib.h>
 #include <string.h>
+#include <tmmintrin.h>
 #include <unistd.h>
 
 typedef unsigned __int128 wide;
@@ -30,7 +32,7 @@ static char *out_room(size_t bytes) {
     return out_bytes + out_held;
 }
 
-static void out_put(const void *bytes, size_t count) {
+static inline void out_put(const void *bytes, size_t count) {
     memcpy(out_room(count), bytes, count);
     out_held += count;
 }
@@ -38,7 +40,7 @@ static void out_put(const void *bytes, size_t count) {
 /* ---- bits ---- */
 
 /* width 1 to 32; eight bytes from the byte of the first bit on can be read */
-static uint64_t get(const uint8_t *bytes, unsigned at, unsigned width) {
+static inline uint64_t get(const uint8_t *bytes, unsigned at, unsigned width) {
     uint64_t eight;
     memcpy(&eight, bytes + at / 8, 8);
     return __builtin_bswap64(eight) << at % 8 >> (64 - width);
@@ -55,37 +57,40 @@ static inline void put(uint8_t *bytes, unsigned at, unsigned width, uint64_t val
     }
 }
 
-/* ---- CRC-24Q, eight bytes at a time; the register stands in the upper 24 bits ---- */
+/* ---- CRC-24Q, eight bytes at a time; the register is kept as its three bytes stand in memory ---- */
 
 static uint32_t crc_table[8][256];
 
 static void fill_crc(void) {
     for (uint32_t byte = 0; byte < 256; byte++) {
-        uint32_t crc = byte << 24;
-        for (int bit = 0; bit < 8; bit++) crc = crc << 1 ^ (crc >> 31 ? 0x864CFB00u : 0);
-        crc_table[0][byte] = crc;
+        uint32_t crc = byte << 16;
+        for (int bit = 0; bit < 8; bit++) crc = crc << 1 ^ (crc & 0x800000 ? 0x1864CFB : 0);
+        crc_table[0][byte] = __builtin_bswap32(crc << 8);
     }
     for (int slice = 1; slice < 8; slice++)
         for (uint32_t byte = 0; byte < 256; byte++) {
             uint32_t crc = crc_table[slice - 1][byte];
-            crc_table[slice][byte] = crc << 8 ^ crc_table[0][crc >> 24];
+            crc_table[slice][byte] = crc >> 8 ^ crc_table[0][crc & 255];
         }
+}
+
+/* the register behind eight bytes, of which the first is the lowest byte */
+static inline uint32_t crc_eight(uint32_t crc, uint64_t eight) {
+    eight ^= crc;
+    return crc_table[7][eight & 255] ^ crc_table[6][eight >> 8 & 255] ^ crc_table[5][eight >> 16 & 255] ^
+           crc_table[4][eight >> 24 & 255] ^ crc_table[3][eight >> 32 & 255] ^ crc_table[2][eight >> 40 & 255] ^
+           crc_table[1][eight >> 48 & 255] ^ crc_table[0][eight >> 56];
 }
 
 static inline uint32_t crc_of(const uint8_t *bytes, size_t count) {
     uint32_t crc = 0;
     for (; count >= 8; bytes += 8, count -= 8) {
-        uint32_t high, low;
-        memcpy(&high, bytes, 4);
-        memcpy(&low, bytes + 4, 4);
-        high = __builtin_bswap32(high) ^ crc;
-        low = __builtin_bswap32(low);
-        crc = crc_table[7][high >> 24] ^ crc_table[6][high >> 16 & 255] ^ crc_table[5][high >> 8 & 255] ^
-              crc_table[4][high & 255] ^ crc_table[3][low >> 24] ^ crc_table[2][low >> 16 & 255] ^
-              crc_table[1][low >> 8 & 255] ^ crc_table[0][low & 255];
+        uint64_t eight;
+        memcpy(&eight, bytes, 8);
+        crc = crc_eight(crc, eight);
     }
-    for (; count > 0; bytes++, count--) crc = crc << 8 ^ crc_table[0][crc >> 24 ^ *bytes];
-    return crc >> 8;
+    for (; count > 0; bytes++, count--) crc = crc >> 8 ^ crc_table[0][(crc ^ *bytes) & 255];
+    return __builtin_bswap32(crc) >> 8;
 }
 
 /* the frame around a payload that stands at into + 3; gives its size */
@@ -109,8 +114,8 @@ struct scale {
     int two, ten;
     int8_t first[65];        /* by the number of bits of n: the place of the least such n */
     uint64_t least[32];      /* by place: the least n of that place */
-    wide times[32];          /* by place: n x times x 2^-shift (/ 5 where fifth) is the 13 digits */
-    int8_t shift[32], fifth[32];
+    uint64_t high[32];       /* by place: n x (high + low / 2^64) is the 13 digits, or less than n / 2^64 above them */
+    uint64_t low[32];
 };
 
 enum {
@@ -163,12 +168,13 @@ static void fill_scale(struct scale *s) {
             else low = middle + 1;
         }
         s->least[place] = low;
-        int tens = 12 - (place - 20) + s->ten - (s->pi ? 13 : 0);
+        int tens = 12 - (place - 20) + s->ten - (s->pi ? 13 : 0), shift = 64 + s->two + tens;
         wide times = (wide)s->factor * (s->pi ? 31415926535898u : 1);
         for (int i = 0; i < tens && i < 30; i++) times *= 5;
-        s->times[place] = times;
-        s->shift[place] = -(s->two + tens);
-        s->fifth[place] = tens == -1;
+        times = shift >= 0 ? times << shift : times >> -shift;
+        for (int i = tens; i < 0; i++) times /= 5;
+        s->high[place] = times >> 64;
+        s->low[place] = times;
     }
 }
 
@@ -177,23 +183,31 @@ static void fill_scales(void) {
 }
 
 static char two_digits[200];
+static uint32_t exponents[32]; /* by place: the four bytes of an exponent */
 
 static void fill_digits(void) {
     for (int i = 0; i < 100; i++) { two_digits[2 * i] = '0' + i / 10; two_digits[2 * i + 1] = '0' + i % 10; }
+    for (int i = 0; i < 32; i++) {
+        int size = i < 20 ? 20 - i : i - 20;
+        char text[4] = {'D', i < 20 ? '-' : '+', '0' + size / 10, '0' + size % 10};
+        memcpy(&exponents[i], text, 4);
+    }
 }
 
-static void put_two(char *into, unsigned number) { memcpy(into, two_digits + 2 * number, 2); }
+static inline void put_two(char *into, unsigned number) { memcpy(into, two_digits + 2 * number, 2); }
 
-static void put_eight(char *into, uint32_t number) {
-    uint32_t high = number / 10000, low = number % 10000;
-    put_two(into, high / 100);
-    put_two(into + 2, high % 100);
-    put_two(into + 4, low / 100);
-    put_two(into + 6, low % 100);
+/* eight digits, all at once: pairs of four, of two, of one */
+static inline void put_eight(char *into, uint32_t number) {
+    uint64_t fours = number / 10000 | (uint64_t)(number % 10000) << 32;
+    uint64_t hundreds = (fours * 10486 >> 20) & 0x0000007F0000007F;
+    uint64_t twos = hundreds | (fours - 100 * hundreds) << 16;
+    uint64_t tens = (twos * 103 >> 10) & 0x000F000F000F000F;
+    uint64_t ones = (tens | (twos - 10 * tens) << 8) | 0x3030303030303030;
+    memcpy(into, &ones, 8);
 }
 
-/* the 13 digits of n at a scale, and its exponent */
-static uint64_t thirteen_plain(uint64_t n, const struct scale *s, int *exponent) {
+/* the 13 digits of n at a scale, and the place of its exponent */
+static uint64_t thirteen_plain(uint64_t n, const struct scale *s, int *at) {
     wide over, under;
     size_of(s, &over, &under);
     over *= n;
@@ -201,39 +215,40 @@ static uint64_t thirteen_plain(uint64_t n, const struct scale *s, int *exponent)
     for (wide power = under; power * 10 <= over; power *= 10) place++;
     for (int i = place; i < 12; i++) over *= 10;
     for (int i = 12; i < place; i++) under *= 10;
-    *exponent = place - 20;
+    *at = place;
     return nearest(over, under);
 }
 
-static uint64_t thirteen_kept(uint64_t n, const struct scale *s, int *exponent) {
+/* the same by one product, where what it leaves out cannot matter */
+static inline uint64_t thirteen_kept(uint64_t n, const struct scale *s, int *at) {
     int place = s->first[64 - __builtin_clzll(n)];
-    if (n >= s->least[place + 1]) place++;
-    *exponent = place - 20;
-    wide exact = s->times[place] * n;
-    int shift = s->shift[place];
-    if (s->fifth[place]) return nearest(exact, (wide)5 << shift);
-    if (shift <= 0) return exact << -shift;
-    wide rest = exact & (((wide)1 << shift) - 1), half = (wide)1 << (shift - 1);
-    uint64_t whole = exact >> shift;
-    return whole + (rest > half || (rest == half && whole % 2 == 1));
+    place += n >= s->least[place + 1];
+    *at = place;
+    wide low = (wide)s->low[place] * n;
+    uint64_t whole = s->high[place] * n + (uint64_t)(low >> 64), rest = low;
+    if (__builtin_expect(((uint64_t)1 << 63) - rest <= n, 0)) return thirteen_plain(n, s, at);
+    return whole + (rest >> 63);
 }
 
-static char *put_number(char *into, int64_t number, int which) {
-    memcpy(into, " 0.000000000000D+00", 19);
-    if (number == 0) return into + 19;
-    if (number < 0) into[0] = '-';
-    int exponent;
+static inline char *put_number(char *into, int64_t number, int which) {
+    if (number == 0) {
+        memcpy(into, " 0.000000000000D+00", 19);
+        return into + 19;
+    }
+    int place;
     uint64_t size = number < 0 ? -number : number;
-    uint64_t digits = plain_decimals ? thirteen_plain(size, &scales[which], &exponent)
-                                     : thirteen_kept(size, &scales[which], &exponent);
-    if (digits == 10000000000000u) { digits = 1000000000000u; exponent++; }
-    uint32_t high = digits / 100000000, low = digits % 100000000;
-    into[1] = '0' + high / 10000;
-    put_two(into + 3, high % 10000 / 100);
+    uint64_t digits = __builtin_expect(plain_decimals, 0) ? thirteen_plain(size, &scales[which], &place)
+                                                          : thirteen_kept(size, &scales[which], &place);
+    if (__builtin_expect(digits == 10000000000000u, 0)) { digits = 1000000000000u; place++; }
+    uint32_t high = digits / 100000000, low = digits % 100000000, first = high / 10000;
+    into[0] = number < 0 ? '-' : ' ';
+    into[1] = '0' + first;
+    into[2] = '.';
+    high -= first * 10000;
+    put_two(into + 3, high / 100);
     put_two(into + 5, high % 100);
     put_eight(into + 7, low);
-    if (exponent < 0) { into[16] = '-'; exponent = -exponent; }
-    put_two(into + 17, exponent);
+    memcpy(into + 15, &exponents[place], 4);
     return into + 19;
 }
 
@@ -260,7 +275,7 @@ static int sisa_centimetres(int index) {
 }
 
 /* year, month, day of a day counted from 1980-01-06 */
-static char *put_date(char *into, int64_t moment) {
+static inline char *put_date(char *into, int64_t moment) {
     int64_t days = moment / 86400 + 3657 + 719468, second = moment % 86400;
     int64_t era = days / 146097, day = days % 146097;
     int64_t year = (day - day / 1460 + day / 36524 - day / 146096) / 365;
@@ -279,20 +294,20 @@ static char *put_date(char *into, int64_t moment) {
     return into + 19;
 }
 
-static char *put_text(char *into, const char *text) {
+static inline char *put_text(char *into, const char *text) {
     size_t size = strlen(text);
     memcpy(into, text, size);
     return into + size;
 }
 
-static char *put_sat(char *into, int gal, int sat) {
+static inline char *put_sat(char *into, int gal, int sat) {
     *into = gal ? 'E' : 'G';
     put_two(into + 1, sat);
     return into + 3;
 }
 
 /* up to four numbers behind four blanks, and the line's end */
-static char *put_line(char *into, int count, const int64_t *numbers, const int *which) {
+static inline char *put_line(char *into, int count, const int64_t *numbers, const int *which) {
     into = put_text(into, "    ");
     for (int i = 0; i < count; i++) into = put_number(into, numbers[i], which[i]);
     *into++ = '\n';
@@ -336,6 +351,109 @@ static inline void out_header(const char *version, const char *date, int leap) {
                         "navbridge                               %s PGM / RUN BY / DATE\n"
                         "%6d%54sLEAP SECONDS\n%60sEND OF HEADER\n",
                         version, date, leap, "", "");
+}
+
+/* ---- messages 1019 and 1046 ---- */
+
+/* fields behind one another, from the highest bit of the first word on */
+struct bits { uint64_t words[9]; unsigned at; };
+static inline void add(struct bits *b, unsigned width, uint64_t value) {
+    unsigned word = b->at >> 6, from = b->at & 63;
+    value &= ((uint64_t)1 << width) - 1;
+    if (from + width <= 64) b->words[word] |= value << (64 - width - from);
+    else {
+        b->words[word] |= value >> (from + width - 64);
+        b->words[word + 1] |= value << (128 - width - from);
+    }
+    b->at += width;
+}
+
+/* a frame with the message of an ephemeris */
+static inline void put_eph_frame(const struct eph *i) {
+    char *into = out_room(80);
+    struct bits b = {0};
+    add(&b, 12, i->gal ? 1046 : 1019); add(&b, 6, i->sat);
+    if (!i->gal) {
+        add(&b, 10, i->toe_week); add(&b, 4, i->ura); add(&b, 2, i->l2_code); add(&b, 14, i->idot); add(&b, 8, i->iode);
+        add(&b, 16, i->toc); add(&b, 8, i->af2); add(&b, 16, i->af1); add(&b, 22, i->af0); add(&b, 10, i->iodc);
+        add(&b, 16, i->crs); add(&b, 16, i->delta_n); add(&b, 32, i->m0); add(&b, 16, i->cuc); add(&b, 32, i->e);
+        add(&b, 16, i->cus); add(&b, 32, i->root_a); add(&b, 16, i->toe); add(&b, 16, i->cic); add(&b, 32, i->omega0);
+        add(&b, 16, i->cis); add(&b, 32, i->i0); add(&b, 16, i->crc); add(&b, 32, i->omega); add(&b, 24, i->omega_dot);
+        add(&b, 8, i->tgd); add(&b, 6, i->health); add(&b, 1, i->l2p); add(&b, 1, i->fit);
+    } else {
+        add(&b, 12, i->toe_week - 1024); add(&b, 10, i->iode); add(&b, 8, i->ura); add(&b, 14, i->idot); add(&b, 14, i->toc);
+        add(&b, 6, i->af2); add(&b, 21, i->af1); add(&b, 31, i->af0);
+        add(&b, 16, i->crs); add(&b, 16, i->delta_n); add(&b, 32, i->m0); add(&b, 16, i->cuc); add(&b, 32, i->e);
+        add(&b, 16, i->cus); add(&b, 32, i->root_a); add(&b, 14, i->toe); add(&b, 16, i->cic); add(&b, 32, i->omega0);
+        add(&b, 16, i->cis); add(&b, 32, i->i0); add(&b, 16, i->crc); add(&b, 32, i->omega); add(&b, 24, i->omega_dot);
+        add(&b, 10, i->tgd); add(&b, 10, i->bgd); add(&b, 2, i->health >> 7); add(&b, 1, i->health >> 6);
+        add(&b, 2, i->health >> 1); add(&b, 1, i->health);
+    }
+    for (int k = 0; k < 8; k++) {
+        uint64_t word = __builtin_bswap64(b.words[k]);
+        memcpy(into + 3 + 8 * k, &word, 8);
+    }
+    out_held += close_frame((uint8_t *)into, i->gal ? 63 : 61);
+}
+
+/* ---- lines of a capture ---- */
+
+static inline char *put_decimal(char *into, uint64_t number) {
+    char digits[32], *at = digits + 20;
+    for (; number >= 100; number /= 100) { at -= 2; put_two(at, number % 100); }
+    if (number >= 10) { at -= 2; put_two(at, number); }
+    else *--at = '0' + number;
+    size_t size = digits + 20 - at;
+    if (size <= 8) { memcpy(into, at, 8); return into + size; }
+    memcpy(into, at, size);
+    return into + size;
+}
+
+/* bytes as digits, 16 at a time: up to 15 more are read, and twice as many bytes written */
+static inline void put_hex(char *into, const uint8_t *bytes, int count) {
+    const __m128i digits = _mm_setr_epi8('0', '1', '2', '3', '4', '5', '6', '7', '8', '9', 'a', 'b', 'c', 'd', 'e', 'f');
+    for (int i = 0; i < count; i += 16) {
+        __m128i x = _mm_loadu_si128((const __m128i *)(bytes + i)), low = _mm_and_si128(x, _mm_set1_epi8(15));
+        __m128i high = _mm_and_si128(_mm_srli_epi16(x, 4), _mm_set1_epi8(15));
+        low = _mm_shuffle_epi8(digits, low);
+        high = _mm_shuffle_epi8(digits, high);
+        _mm_storeu_si128((__m128i *)(into + 2 * i), _mm_unpacklo_epi8(high, low));
+        _mm_storeu_si128((__m128i *)(into + 2 * i + 16), _mm_unpackhi_epi8(high, low));
+    }
+}
+
+/* a line up to its digits, or its signal */
+static inline char *put_begin(char *into, uint32_t stamp, char kind, char system, int sat) {
+    into = put_decimal(into, stamp);
+    into[0] = ' '; into[1] = kind; into[2] = ' '; into[3] = system;
+    put_two(into + 4, sat);
+    into[6] = ' ';
+    return into + 7;
+}
+
+/* ---- parity of LNAV words (IS-GPS-200, table 20-XIV) ---- */
+
+static const char *parity[6] = {
+    "1 2 3 5 6 10 11 12 13 14 17 18 20 23", "2 3 4 6 7 11 12 13 14 15 18 19 21 24",
+    "1 3 4 5 7 8 12 13 14 15 16 19 20 22", "2 4 5 6 8 9 13 14 15 16 17 20 21 23",
+    "1 3 5 6 7 9 10 14 15 16 17 18 21 22 24", "3 5 6 8 9 10 11 13 15 19 22 23 24"};
+static const int uses_30[6] = {0, 1, 0, 1, 1, 0};
+static uint8_t parity_of[3][256], parity_last[4];
+
+static inline void fill_parity(void) {
+    for (int row = 0; row < 6; row++) {
+        char *at = (char *)parity[row];
+        uint32_t mask = 0;
+        while (*at) mask |= 1u << (24 - strtol(at, &at, 10));
+        for (uint32_t byte = 0; byte < 256; byte++)
+            for (int part = 0; part < 3; part++)
+                parity_of[part][byte] |= __builtin_parity(byte << 8 * part & mask) << (5 - row);
+        for (int last = 0; last < 4; last++) parity_last[last] |= (uses_30[row] ? last & 1 : last >> 1) << (5 - row);
+    }
+}
+
+static inline unsigned tail_of(uint32_t source, unsigned last) {
+    return parity_of[0][source & 255] ^ parity_of[1][source >> 8 & 255] ^ parity_of[2][source >> 16] ^ parity_last[last];
 }
 
 static void fill_tables(void) {

@@ -102,22 +102,30 @@ static void each_frame(taker *take) {
     }
 }
 
-static char *put_whole(char *into, unsigned number) {
-    char digits[10];
-    int count = 0;
-    do digits[count++] = '0' + number % 10; while (number /= 10);
-    while (count > 0) *into++ = digits[--count];
-    return into;
+static uint32_t small_text[4096]; /* the digits of a number, the first in the lowest byte */
+static uint8_t small_size[4096];
+
+static void fill_small(void) {
+    for (unsigned i = 0; i < 4096; i++) {
+        char text[8] = {0};
+        small_size[i] = sprintf(text, "%u", i);
+        memcpy(&small_text[i], text, 4);
+    }
+}
+
+static inline char *put_small(char *into, unsigned number) {
+    memcpy(into, &small_text[number], 4);
+    return into + small_size[number];
 }
 
 static void take_frame(const uint8_t *payload, size_t count) {
-    char *into = out_room(16), *from = into;
+    char *into = out_room(16);
     if (count < 2) *into++ = '-';
-    else into = put_whole(into, payload[0] << 4 | payload[1] >> 4);
+    else into = put_small(into, payload[0] << 4 | payload[1] >> 4);
     *into++ = ' ';
-    into = put_whole(into, count);
+    into = put_small(into, count);
     *into++ = '\n';
-    out_held += into - from;
+    out_held = into - out_bytes;
 }
 
 /* ---- items ---- */
@@ -190,7 +198,12 @@ static uint64_t mix(const struct seen *s) {
 
 static struct seen *place_for(const struct seen *s) {
     size_t at = mix(s) & (table_size - 1);
-    while (table[at].words[7] && memcmp(&table[at], s, sizeof *s)) at = (at + 1) & (table_size - 1);
+    for (;; at = (at + 1) & (table_size - 1)) {
+        const uint64_t *t = table[at].words, *w = s->words;
+        if (!t[7]) break;
+        if (!((t[0] ^ w[0]) | (t[1] ^ w[1]) | (t[2] ^ w[2]) | (t[3] ^ w[3]) | (t[4] ^ w[4]) | (t[5] ^ w[5]) |
+              (t[6] ^ w[6]) | (t[7] ^ w[7]))) break;
+    }
     return &table[at];
 }
 
@@ -204,19 +217,16 @@ static void grow(void) {
     free(old);
 }
 
-/* whether no item of these bits came before; the last byte tells that a place is taken */
-static int is_new(const uint8_t *payload, int gal) {
-    struct seen s;
-    memset(&s, 0, sizeof s);
-    memcpy(&s, payload, gal ? 63 : 61);
-    if (gal) ((uint8_t *)&s)[62] &= 0xFC;
-    ((uint8_t *)&s)[63] = 1;
+/* the place of the item of these bits, and the bits; the last byte tells that a place is taken */
+static struct seen *look(const uint8_t *payload, int gal, struct seen *s) {
     if (2 * table_held >= table_size) grow();
-    struct seen *place = place_for(&s);
-    if (place->words[7]) return 0;
-    *place = s;
-    table_held++;
-    return 1;
+    memcpy(s, payload, 56);
+    uint64_t last = 0;
+    if (gal) memcpy(&last, payload + 56, 7);
+    else memcpy(&last, payload + 56, 5);
+    if (gal) last &= ~((uint64_t)3 << 48);
+    s->words[7] = last | (uint64_t)1 << 56;
+    return place_for(s);
 }
 
 static int to_rtcm, titles = 1;
@@ -236,15 +246,27 @@ static void put_item(const uint8_t *payload, const struct eph *i) {
     out_held += close_frame((uint8_t *)into, size);
 }
 
+/* what came before is only looked up; every item that stands in the table is one that was read */
 static void take_item(const uint8_t *payload, size_t count) {
     struct eph i = {0};
+    struct seen s, *place = NULL;
     frames++;
+    if (count >= 61) {
+        unsigned number = get(payload, 0, 12);
+        int gal = number == 1046;
+        if ((number == 1019 || gal) && count >= (gal ? 63 : 61)) {
+            place = look(payload, gal, &s);
+            if (place->words[7]) return;
+        }
+    }
     const char *reason = read_item(payload, count, &i);
     if (reason && *reason) {
         refused++;
         fprintf(stderr, "frame %llu %s\n", frames, reason);
     } else if (reason) unused++;
-    else if (is_new(payload, i.gal)) {
+    else {
+        *place = s;
+        table_held++;
         items++;
         put_item(payload, &i);
     }
@@ -264,6 +286,7 @@ static int run_items(char **words) {
 int main(int count, char **words) {
     if (count > 2 && !strcmp(words[count - 1], "plain")) { plain_decimals = 1; count--; }
     fill_tables();
+    fill_small();
     draw_state = 7;
     if (count > 3 && !strcmp(words[1], "make")) {
         size_t bytes = strtoull(words[3], 0, 10);
