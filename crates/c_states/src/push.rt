@@ -6,6 +6,7 @@ ghost use Rattle.std.specs.Prelude.{All, IfErr, IfOk, IsUtf8, OnOk, map};
 ghost use Rattle.std.specs.String.{string_bytes};
 ghost use Rattle.one_run.specs.declared.fault.BridgeFault.TheVariants.{NotThisForm};
 ghost use Rattle.one_run.specs.declared.fault.BridgeFault.TheVariants.{ReadFault, TooLong};
+ghost use Rattle.one_run.specs.Ends.{number_of};
 ghost use Rattle.streams.specs.Mirrors.{IsStreamFault};
 ghost use Rattle.bridge_engine.specs.Job.{GivesJob, IsJob};
 ghost use Rattle.c_states.specs.Mirrors.{BreaksOff, Ends, EndsShort, GoesOn};
@@ -18,18 +19,13 @@ use bridge_engine::{BridgeFault, Job, job_of};
 use c_records::put;
 use captures::{CaptureRun, what_is_written_of_a_capture_stays};
 use nav_io::Failed;
+use one_run::Status;
 use std::alloc::{AllocError, Global};
 use std::marker::Model;
 use streams::{StreamRun, what_is_written_of_a_stream_stays};
 
-// The words give no job.
-const NO_JOB: u32 = 2;
-
 // There was no memory.
 const NO_MEMORY: u32 = 6;
-
-// A word is no text.
-const NO_TEXT: u32 = 9;
 
 // The input of the job cannot be pushed.
 const NOT_PUSHED: u32 = 10;
@@ -138,27 +134,31 @@ pub fn new(alloc: Global) -> Conversion
     }
 }
 
-// The job that the words give, or the answer where there is none.
-fn job_in(alloc: Global, words: &[&[u8]]) -> Result<Job, u32>
+/// The job that the words give.
+///
+/// # Errors
+///
+/// `NoJob` where they give none, `NoText` where a word is not UTF-8, `NoMemory`.
+pub fn job_in(alloc: Global, words: &[&[u8]]) -> Result<Job, Status>
     ensures job { IfOk result (IsJob (map (λ word. word.now) words.now)) }
     ensures texts { IfOk result (λ _. All IsUtf8 (map (λ word. word.now) words.now)) }
-    ensures none { IfErr result (λ answer. ((answer ≡ 2)
+    ensures none { IfErr result (λ status. ((number_of status ≡ 2)
         × (¬ GivesJob (map (λ word. word.now) words.now))
         × All IsUtf8 (map (λ word. word.now) words.now))
-        ⊎ ((answer ≡ 6) × All IsUtf8 (map (λ word. word.now) words.now))
-        ⊎ ((answer ≡ 9) × (¬ All IsUtf8 (map (λ word. word.now) words.now)))) }
+        ⊎ ((number_of status ≡ 6) × All IsUtf8 (map (λ word. word.now) words.now))
+        ⊎ ((number_of status ≡ 9) × (¬ All IsUtf8 (map (λ word. word.now) words.now)))) }
 {
     if !are_texts(words) {
-        return Err(NO_TEXT);
+        return Err(Status::NoText);
     }
     let texts = match texts_of(alloc, words) {
         Ok(texts) => texts,
-        Err(AllocError) => return Err(NO_MEMORY),
+        Err(AllocError) => return Err(Status::NoMemory),
     };
     match job_of(alloc, &texts) {
         Ok(Some(job)) => Ok(job),
-        Ok(None) => Err(NO_JOB),
-        Err(AllocError) => Err(NO_MEMORY),
+        Ok(None) => Err(Status::NoJob),
+        Err(AllocError) => Err(Status::NoMemory),
     }
 }
 
@@ -199,9 +199,9 @@ pub fn open(state: &mut Conversion, words: &[&[u8]]) -> u32
             begin(state, &job);
             state.status
         }
-        Err(answer) => {
-            state.status = answer;
-            answer
+        Err(status) => {
+            state.status = u32::from(status.number());
+            state.status
         }
     }
 }

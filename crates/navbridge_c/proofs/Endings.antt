@@ -6,8 +6,9 @@ use Rattle.std.specs.Io.KnownBytes.{Consumes, IsAtEnd}
 use Rattle.nav_io.specs.Prefix.{IsPrefix}
 use Rattle.one_run.specs.declared.fault.BridgeFault.{BridgeFault}
 use Rattle.one_run.specs.declared.fault.BridgeFault.TheVariants.{ReadFault, WriteFault, ReportFault, NotThisForm, TooLong, NoMemory}
-use Rattle.one_run.specs.Runs.{Broke, Done, Ended, World, world}
-use Rattle.one_run.specs.Ends.{RanBy, status_of}
+use Rattle.one_run.specs.Runs.{Broke, Done, Ended, Meaning, World, world}
+use Rattle.one_run.specs.Ends.{status_of, uncounted}
+use Rattle.one_run.proofs.Surface.{forget, forgotten, status_forgotten}
 use Rattle.bridge_engine.specs.Job.{GivesJob, IsJob}
 use Rattle.bridge_engine.specs.Meanings.{meaning_of}
 use Rattle.bridge_engine.proofs.Surface.{limit_of}
@@ -206,42 +207,29 @@ module _ {S T U : Type 0} (left : S → List ℕ) (written : T → List ℕ) (wr
       long_end words _ _ job texts is (begun_of job i i' o o' r r' TooLong none silent broke)
       (long_taken (meaning_of job).reads (left i) (left i') broke.taken broke.consumes (broke.says ∙ limit_of job))
 
-  -- by what the top call ensures
-  pub ended_in_memory : (words : List (List ℕ)) (i i' : S) (o o' : T) (r r' : U) (status : ℕ) → All IsUtf8 words → written o ≡ [] → reported r ≡ []
-      → ((job : Job) × IsJob words job × RanBy (meaning_of job) (λ s. Some (left s)) (λ s. true) (λ s. 0) (λ s. Some (written s)) writes
-      (λ s. Some (reported s)) reports i i' o o' r r' status)
-      ⊎ ((((status ≡ 2) × ¬ GivesJob words) ⊎ (status ≡ 6)) × (i' ≡ i) × (o' ≡ o) × (r' ≡ r))
-      → HasEndedInMemory words (left i) (made_of (written o') (reported r')) (in_memory status)
-  ended_in_memory words i i' o o' r r' status texts none silent (inl (job, is, by)) =
-      subst (λ (s : ℕ). HasEndedInMemory words (left i) (made_of (written o') (reported r')) (in_memory s)) (sym by.is)
-      (by_end words job i i' o o' r r' by.result texts is none silent by.ended)
-  ended_in_memory words i i' o o' r r' status texts none silent (inr (inl (two, not), same, kept, told)) =
-      subst (λ (s : ℕ). HasEndedInMemory words (left i) (made_of (written o') (reported r')) (in_memory s)) (sym two)
-      (subst (λ (made : Made). HasEndedInMemory words (left i) made 2) (nothing_of o o' r r' none silent kept told) (no_job_end words (left i) texts not))
-  ended_in_memory words i i' o o' r r' status texts none silent (inr (inr six, same, kept, told)) =
-      subst (λ (s : ℕ). HasEndedInMemory words (left i) (made_of (written o') (reported r')) (in_memory s)) (sym six)
-      (memory_end words _ _ texts (inl (sym (nothing_of o o' r r' none silent kept told))))
+  -- by what the run of a job ensures
+  pub ended_in_memory : {C : Type 0} (m : Meaning C) (words : List (List ℕ)) (job : Job) (i i' : S) (o o' : T) (r r' : U) (run : Result C BridgeFault) (status : ℕ)
+      → meaning_of job ≡ uncounted m → All IsUtf8 words → IsJob words job → written o ≡ [] → reported r ≡ []
+      → Ended m (world_at i o r) (world_at i' o' r') run → status ≡ in_memory (status_of run)
+      → HasEndedInMemory words (left i) (made_of (written o') (reported r')) status
+  ended_in_memory m words job i i' o o' r r' run status same texts is none silent ended by =
+      subst (λ (s : ℕ). HasEndedInMemory words (left i) (made_of (written o') (reported r')) s) (sym (by ∙ ap in_memory (status_forgotten run)))
+      (by_end words job i i' o o' r r' (forget run) texts is none silent
+      (subst (λ (n : Meaning (Unit {0})). Ended n (world_at i o r) (world_at i' o' r') (forget run)) (sym same)
+      (forgotten m (world_at i o r) (world_at i' o' r') run ended)))
 
--- a word is no text, and nothing was made
-pub text_made : (words : List (List ℕ)) (input o r : List ℕ) (status : ℕ) → o ≡ [] → r ≡ [] → status ≡ 9 → (All IsUtf8 words → ⊥)
+-- there is no job, and nothing was made
+pub no_job_made : (words : List (List ℕ)) (input o r : List ℕ) (status : ℕ) → o ≡ [] → r ≡ []
+    → ((status ≡ 2) × (¬ GivesJob words) × All IsUtf8 words) ⊎ ((status ≡ 6) × All IsUtf8 words) ⊎ ((status ≡ 9) × (¬ All IsUtf8 words))
     → HasEndedInMemory words input (made_of o r) status
-text_made words input o r status none silent is not =
-    subst (λ (s : ℕ). HasEndedInMemory words input (made_of o r) s) (sym is)
-    (subst (λ (l : List ℕ). HasEndedInMemory words input (made_of o l) 9) (sym silent)
-    (subst (λ (l : List ℕ). HasEndedInMemory words input (made_of l []) 9) (sym none) (text_end words input not)))
-
--- there was no memory for the words, and nothing was made
-pub memory_made : (words : List (List ℕ)) (input o r : List ℕ) (status : ℕ) → o ≡ [] → r ≡ [] → status ≡ 6 → All IsUtf8 words
-    → HasEndedInMemory words input (made_of o r) status
-memory_made words input o r status none silent is texts =
-    subst (λ (s : ℕ). HasEndedInMemory words input (made_of o r) s) (sym is)
-    (subst (λ (l : List ℕ). HasEndedInMemory words input (made_of o l) 6) (sym silent)
-    (subst (λ (l : List ℕ). HasEndedInMemory words input (made_of l []) 6) (sym none) (memory_end words input nothing texts (inl refl))))
-
--- the same words in another form
-pub same_words : (words others : List (List ℕ)) (input : List ℕ) (made : Made) (status : ℕ) → words ≡ others → HasEndedInMemory words input made status
-    → HasEndedInMemory others input made status
-same_words words others input made status same h = subst (λ (ws : List (List ℕ)). HasEndedInMemory ws input made status) same h
+no_job_made words input o r status none silent by =
+    subst (λ (l : List ℕ). HasEndedInMemory words input (made_of o l) status) (sym silent)
+    (subst (λ (l : List ℕ). HasEndedInMemory words input (made_of l []) status) (sym none) (ends by)) where
+  ends : ((status ≡ 2) × (¬ GivesJob words) × All IsUtf8 words) ⊎ ((status ≡ 6) × All IsUtf8 words) ⊎ ((status ≡ 9) × (¬ All IsUtf8 words))
+      → HasEndedInMemory words input nothing status
+  ends (inl (two, not, texts)) = subst (λ (s : ℕ). HasEndedInMemory words input nothing s) (sym two) (no_job_end words input texts not)
+  ends (inr (inl (six, texts))) = subst (λ (s : ℕ). HasEndedInMemory words input nothing s) (sym six) (memory_end words input nothing texts (inl refl))
+  ends (inr (inr (nine, not))) = subst (λ (s : ℕ). HasEndedInMemory words input nothing s) (sym nine) (text_end words input not)
 
 -- ---- in the rooms that there are
 

@@ -1,27 +1,22 @@
 //! Conversions over memory.
 
-ghost use Rattle.std.specs.Prelude.{◌≡◌, All, IsUtf8, [], length, map};
-ghost use Rattle.std.specs.String.{string_bytes};
+ghost use Rattle.std.specs.Prelude.{◌≡◌, length, map};
+ghost use Rattle.one_run.specs.Ends.{number_of};
 ghost use Rattle.navbridge_c.specs.Conversions.{Converts, made_of};
 ghost use Rattle.navbridge_c.specs.Mirrors.{HasEndedInMemory, in_memory, in_room};
 
 use crate::memory::Lent;
-use bridge_engine::bridge;
+use bridge_engine::run_job;
 use c_records::put;
-use c_states::{Kept, are_texts, texts_of};
-use std::alloc::{AllocError, Global};
+use c_states::{Kept, push};
+use one_run::Status;
+use std::alloc::Global;
 
 // There was less room for the output than it takes.
 const OUTPUT_ROOM: u8 = 4;
 
-// There was no memory.
-const NO_MEMORY: u8 = 6;
-
 // There was less room for the report than it takes.
 const REPORT_ROOM: u8 = 7;
-
-// A word is no text.
-const NO_TEXT: u8 = 9;
 
 // A conversion that ended, and what was written and reported.
 #[derive(Drop)]
@@ -31,58 +26,40 @@ pub(crate) struct Run {
     pub(crate) report: Kept,
 }
 
-// Nothing was made.
-fn nothing(alloc: Global, status: u8) -> Run
-    ensures status { result.status ≡ status }
-    ensures output { result.output.bytes.items ≡ [] }
-    ensures report { result.report.bytes.items ≡ [] }
-{
-    Run {
-        status,
-        output: Kept::new(alloc),
-        report: Kept::new(alloc),
-    }
-}
-
 // The status of a run whose sinks fail for want of memory alone.
-fn status_in_memory(status: u8) -> u8
-    ensures { result ≡ in_memory status }
+fn in_memory(status: Status) -> Status
+    ensures { number_of result ≡ in_memory (number_of status) }
 {
-    if status == OUTPUT_ROOM || status == REPORT_ROOM {
-        NO_MEMORY
-    } else {
-        status
+    match status {
+        Status::WriteFault | Status::ReportFault => Status::NoMemory,
+        status => status,
     }
 }
 
-// The conversion that these words ask for.
-fn run_texts(alloc: Global, words: &[String], input: &[u8]) -> Run
-    requires { All IsUtf8 (map string_bytes words.now) }
-    ensures { HasEndedInMemory (map string_bytes words.now) input.now
-        (made_of result.output.bytes.items result.report.bytes.items) result.status }
-{
-    let mut source = Lent { left: input };
-    let mut output = Kept::new(alloc);
-    let mut report = Kept::new(alloc);
-    let status = bridge(alloc, words, &mut source, &mut output, &mut report);
-    Run {
-        status: status_in_memory(status),
-        output,
-        report,
-    }
-}
-
-// The same of words that may be no texts.
+// The conversion that the words ask for.
 fn run_words(alloc: Global, words: &[&[u8]], input: &[u8]) -> Run
     ensures { HasEndedInMemory (map (λ word. word.now) words.now) input.now
         (made_of result.output.bytes.items result.report.bytes.items) result.status }
 {
-    if !are_texts(words) {
-        return nothing(alloc, NO_TEXT);
-    }
-    match texts_of(alloc, words) {
-        Ok(texts) => run_texts(alloc, &texts, input),
-        Err(AllocError) => nothing(alloc, NO_MEMORY),
+    let mut output = Kept::new(alloc);
+    let mut report = Kept::new(alloc);
+    let job = match push::job_in(alloc, words) {
+        Ok(job) => job,
+        Err(status) => {
+            let status = status.number();
+            return Run {
+                status,
+                output,
+                report,
+            };
+        }
+    };
+    let mut source = Lent { left: input };
+    let ended = run_job(alloc, &job, &mut source, &mut output, &mut report);
+    Run {
+        status: in_memory(Status::of(&ended)).number(),
+        output,
+        report,
     }
 }
 

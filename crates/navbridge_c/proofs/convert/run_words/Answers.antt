@@ -1,8 +1,18 @@
-use Rattle.std.proofs.Common.{sym, ap, ◌∙◌, subst, map}
-use Rattle.std.specs.Prelude.{All, IsUtf8}
-use Rattle.std.specs.String.{string_bytes}
+use Rattle.std.proofs.Common.{refl, sym, ap, ◌∙◌}
+use Rattle.c_states.specs.declared.kept.Kept.{Kept}
+use Rattle.navbridge_c.specs.declared.memory.Lent.{Lent}
+use Rattle.navbridge_c.specs.Mirrors.{in_memory}
+use Rattle.navbridge_c.proofs.Endings.{ended_in_memory, no_job_made}
 use Rattle.navbridge_c.proofs.convert.run_words.Goals as goal
 
-pub run_texts-requires : goal.run_texts-requires
-run_texts-requires c =
-    subst (All IsUtf8) (sym (ap (map string_bytes) c.deref.ensures.value ∙ c.in-Ok.ensures)) (c.are_texts.ensures.0 c.if-not-are_texts.false)
+pub returns-in-Err : goal.returns-in-Err
+returns-in-Err c =
+    rw c.number-status.ensures
+    (no_job_made _ _ _ _ _ c.new-output.ensures.bytes c.new-report.ensures.bytes c.in-Err.ensures.none)
+
+pub returns : goal.returns
+returns c =
+    ended_in_memory (λ (s : Lent). s.left.now) (λ (s : Kept). s.bytes.items) (λ (s : Kept). s.faults) (λ (s : Kept). s.bytes.items)
+    (λ (s : Kept). s.faults) _ _ _ _ _ _ _ _ _ c.run_job-ended.result _ refl c.in-Ok.ensures.texts c.in-Ok.ensures.job
+    c.new-output.ensures.bytes c.new-report.ensures.bytes c.run_job-ended.ensures.ended
+    (c.number.ensures ∙ c.in_memory.ensures ∙ ap in_memory c.of.ensures)
