@@ -84,7 +84,7 @@ remove_it() { dpkg -P navbridge > "$work/dpkg" 2>&1 || cat "$work/dpkg"; }
 has_page() { man -w "$1" > /dev/null && zcat "/usr/share/man/man1/$1.1.gz" | mandoc -Tlint; }
 silent "installed" install_it
 silent "dpkg -V" dpkg -V navbridge
-silent "five commands" test "$(dpkg -L navbridge | sed -n 's|^/usr/bin/||p' | sort | xargs)" = "merge_archive navbridge navbridge-station navconvert navlog"
+silent "six commands" test "$(dpkg -L navbridge | sed -n 's|^/usr/bin/||p' | sort | xargs)" = "merge_archive navbridge navbridge-station navconvert navlog navreport"
 for name in $(dpkg -L navbridge | sed -n 's|^/usr/bin/||p'); do
   silent "$name has a man page, of which mandoc has nothing to say" has_page "$name"
 done
@@ -126,6 +126,12 @@ merges() {
   cmp "$work/day.rnx" "$work/day2.rnx"
 }
 silent "the installed merge_archive merges a day, with navbridge of the path" merges
+reports() {
+  [ "$(navreport --version)" = "navreport $(dpkg-query -W -f '${Version}' navbridge)" ] || echo "another version"
+  navreport -q -o "$work/site" --date '20240101 000000 UTC' /usr/share/doc/navbridge/examples/archive > /dev/null 2>&1
+  [ -s "$work/site/index.html" ] && [ -s "$work/site/report.json" ] || echo "no site"
+}
+silent "the installed navreport makes a site of an archive" reports
 names_options() {
   local option page
   page=$(man merge_archive | col -b)

@@ -106,6 +106,11 @@ put 644 $share/merge_archive.py examples/merge_archive.py
 sed -i '1s|^#!/usr/bin/env -S python3|#!/usr/bin/python3|' "$root/$share/merge_archive.py"
 ln -s ../share/navbridge/merge_archive.sh "$root/usr/bin/merge_archive"
 page docs/merge_archive.1
+put 755 $share/navreport examples/navreport
+sed -i '1s|^#!/usr/bin/env python3|#!/usr/bin/python3|' "$root/$share/navreport"
+git ls-files examples/report | while read -r it; do put 644 "$share/report/${it##*/}" "$it"; done
+ln -s ../share/navbridge/navreport "$root/usr/bin/navreport"
+page docs/navreport.1
 put 644 $share/station_status.py examples/station/station_status.py
 echo "$version" > "$root/$share/version"
 for completion in packaging/*.bash; do
@@ -119,15 +124,15 @@ cat > "$root/usr/share/lintian/overrides/navbridge" << 'END'
 navbridge: broken-gz [usr/share/doc/navbridge/examples/archive/*]
 END
 for it in README.md CHANGELOG.md; do put 644 "$doc/$it" "$it"; done
-for it in docs/*.md; do put 644 "$doc/$it" "$it"; done
+for it in docs/*.md docs/pictures/*; do put 644 "$doc/$it" "$it"; done
 put 644 "$doc/bench/README.md" bench/README.md
 put 755 "$doc/bench/feeder.py" bench/feeder.py # what examples/station/trial.sh hears
 ln -s docs/OPERATING.md "$root/$doc/OPERATING.md"
 git ls-files examples checks/{archive,lib,runs}.sh | while read -r it; do
   # what is installed already
   case $it in
-    examples/station/navbridge-station* | examples/station/*.service | examples/station/*.timer) continue ;;
-    examples/merge_archive.*)
+    examples/station/navbridge-station* | examples/station/*.service | examples/station/*.timer | examples/report/*) continue ;;
+    examples/merge_archive.* | examples/navreport)
       mkdir -p "$root/$doc/examples"
       ln -s "../../../navbridge/${it##*/}" "$root/$doc/$it"
       continue
