@@ -1,5 +1,6 @@
 #!/usr/bin/env bash
-# Prints the outputs of convbin (RTKLIB), gpsdecode (gpsd) and navbridge for the same streams, if they are installed.
+# Prints the outputs of convbin (RTKLIB), gpsdecode (gpsd) and navbridge for the same streams, if they are installed: seen.txt.
+# The transmission time that convbin takes from the clock is printed as CLOCK.
 #
 #   examples/beside/run.sh [--program FILE]
 #
@@ -22,9 +23,11 @@ beside() { # stream, week of the words, what convbin is told of the time
     rm -f "$out/nav"
     echo "--- convbin -r rtcm3 -v 3.02 ${3:+-tr $3}"
     # shellcheck disable=SC2086
-    convbin -r rtcm3 -v 3.02 ${3:+-tr $3} -n "$out/nav" -od -os "$1" > /dev/null 2>&1
+    { convbin -r rtcm3 -v 3.02 ${3:+-tr $3} -n "$out/nav" -od -os "$1"; } > /dev/null 2>&1
     echo "status $?"
-    [ -f "$out/nav" ] && sed '1,/END OF HEADER/d' "$out/nav"
+    clock=''
+    [ -n "${3:-}" ] || clock='s/^ *[0-9.]*D+08 /                  CLOCK /'
+    [ -f "$out/nav" ] && sed "1,/END OF HEADER/d;$clock" "$out/nav"
   fi
   if command -v gpsdecode > /dev/null; then
     echo "--- gpsdecode"
