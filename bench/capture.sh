@@ -1,11 +1,10 @@
 #!/usr/bin/env bash
-# Lines of a capture: MB/s of nav_io's `Lines` alone, and of `Lines` and capture_lines' `read_line_into`.
+# Measures reading the lines of a capture: MB/s of nav_io's `Lines`, and of `Lines` with capture_lines' `read_line_into`.
 #
-#   bench/capture.sh [MEGABYTES]      12 where none is said
+#   bench/capture.sh [MEGABYTES]      default 12
 #
-# The capture has lines of subframes, page halves and frames, as a logger of twelve satellites of each system writes them,
-# their digits taken at random. A program over the two crates is made in a folder of its own, proved and built there, and
-# timed as a whole, the least of five runs.
+# The capture has lines of subframes, page parts and frames, as a logger of twelve satellites of each system writes them, with random
+# digits. It makes a program over the two crates in its own directory, proves and builds it there, and takes the least of five runs.
 set -eu
 . "$(dirname "$(readlink -f "$0")")/lib.sh"
 options '..' "$@"

@@ -1,10 +1,10 @@
 #!/usr/bin/env bash
-# Numbers at a scale to decimal texts and back: numbers/s of scaled_decimal and of a plain C program in exact
-# arithmetic (bench/decimals.c).
+# Measures decimal texts of scaled numbers, written and read: numbers/s of scaled_decimal and of a C program in exact arithmetic
+# (bench/decimals.c).
 #
-#   bench/decimals.sh [NUMBERS]      5,000,000 where none is said
+#   bench/decimals.sh [NUMBERS]      default 5,000,000
 #
-# A program over the crate is made in a folder of its own, proved and built there, and timed as a whole.
+# It makes a program over the crate in its own directory, proves and builds it there, and measures the complete run.
 set -eu
 . "$(dirname "$(readlink -f "$0")")/lib.sh"
 options '..' "$@"

@@ -1,12 +1,13 @@
 #!/usr/bin/env bash
-# Real faults: the built program with its input, its output or its report broken by the system.
+# Breaks the input, output or report of the built program by the system, and checks exit status and output.
 #
 #   bench/faults.sh [--program FILE]
 #
-# For each fault and each of some jobs: the status (3 where the input is at fault, 4 the output, 7 the report), and whether
-# what was written, as far as it can be seen, is a front of what the run without a fault writes. The end of a pipe whose
-# writer has died is no fault for a reader: there the run must be that of the bytes that came. FILE is
-# navbridge (PROGRAM, or crates/navbridge/out/navbridge).
+#   --program FILE  navbridge (PROGRAM, or crates/navbridge/out/navbridge)
+#
+# For each error and each of some conversions it prints the exit status (3 for the input, 4 for the output, 7 for the report), and
+# whether the output, as far as it can be read, is a prefix of that without an error. The end of a pipe whose writer has died is no
+# error for a reader: the run must then be that of the bytes that came.
 set -eu
 . "$(dirname "$(readlink -f "$0")")/lib.sh"
 program=''

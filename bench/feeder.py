@@ -5,24 +5,24 @@
                   [--clean] [--free]
 
 stream: RTCM 3 frames, messages 1019 and 1046 of each satellite once in 30 seconds and one 1005 each second.
-capture: a line for each subframe (one in six seconds) and for each half page of E1-B and E5b (one in a second) of each satellite.
-ubx: the same as u-blox's receivers log it: NAV-TIMEGPS each second, RXM-SFRBX for each subframe and each page of E1-B and E5b.
+capture: a line for each subframe (one in six seconds) and for each page part of E1-B and E5b (one a second) of each satellite.
+ubx: the same as a u-blox receiver logs it: NAV-TIMEGPS each second, RXM-SFRBX for each subframe and each page of E1-B and E5b.
 
-Ephemerides go on as satellites change them: GPS each two hours, Galileo each ten minutes, all parameters drawn anew, toe and
-the week with them. It begins at second --begin (345600) of --week (2295), and an hour of it goes through the turn of the week.
+Ephemerides change as satellites change them: GPS each two hours, Galileo each ten minutes, with new random parameters, toe and
+week. It begins at second --begin (345600) of --week (2295); an hour of it crosses the end of the week.
 
-  --rate N        so many seconds of data in a second of the clock (100)
+  --rate N        seconds of data in a second of the clock (100)
   --seconds N     of the clock (3600): rate times as many of data
-  --seed N        the values and the faults are drawn from it (7); the same words give the same bytes
+  --seed N        of the random values and errors (7); equal arguments give equal bytes
   --satellites N  of each system, 1 to 32 (32)
   --window N      of the capture's first line (7200)
-  --clean         no faults
+  --clean         no errors
   --free          does not wait for the clock
 
-Faults, each after some 200 frames or lines: a frame or line is cut and the feed goes back up to 50 (a connection that was lost),
-1 to 199 bytes of garbage, a bit turned over, and of a capture a line left out and, after some 10 blocks, 16 lines in reversed
-order. Stamps stay as they are: behind one that reads as much later all lines are late, as the form wants it.
-It writes standard output, and at the end one line on standard error: what it sent, and by how much it fell behind the clock.
+Errors, each after about 200 frames or lines: a frame or line is truncated and the feed goes back up to 50 (a lost connection), 1 to
+199 bytes of garbage, an inverted bit; of a capture a line left out and, after about 10 blocks, 16 lines in reversed order. Time tags
+are unchanged: after one that reads as much later all lines are late, as the format requires.
+It writes standard output, and at the end one line on standard error: what it sent, and its delay against the clock.
 """
 
 import random

@@ -1,12 +1,11 @@
 #!/usr/bin/env bash
-# Frames of a raw stream: MB/s and frames/s of the built program, beside a plain C program (bench/frames.c).
+# Measures the frames of a raw stream: MB/s and frames/s of the built program, compared with a C program (bench/frames.c).
 #
-#   bench/frames.sh [MEGABYTES] [--program FILE]      50 where none is said
-#
-# Each figure is the best of five runs, with the output sent to /dev/null: the program writes each line by a write of its
-# own, and a file or a pipe behind it costs what the system takes for so many writes.
+#   bench/frames.sh [MEGABYTES] [--program FILE]      default 50
 #
 #   --program FILE  navbridge (PROGRAM, or crates/navbridge/out/navbridge)
+#
+# Each figure is the best of five runs with the output to /dev/null. A file or a pipe costs what the system takes for the writes.
 set -eu
 . "$(dirname "$(readlink -f "$0")")/lib.sh"
 program=''

@@ -1,17 +1,17 @@
 #!/usr/bin/env bash
-# What the gate costs from nothing, crate by crate.
+# What CI costs from scratch, crate by crate.
 set -euo pipefail
 
 usage() {
     cat <<'END'
 usage: bench/gate.sh                       prints the table of the last run
-       bench/gate.sh run [PROCESSORS]      runs the whole gate from nothing over what is committed, in a clone, and prints
+       bench/gate.sh run [PROCESSORS]      runs CI from scratch over what is committed, in a clone, and prints
                                            the table; PROCESSORS as taskset has them, such as 0,1
 
-For each crate the processor seconds of its proof, of its tests, of the checks that its mutants begin and end with
-(seed; with an older kit among the mutants), of its mutants, and of what is compiled of a program; how many
-checks of mutants there were, and the longest single check by the clock. The last line has the whole: minutes by
-the clock and of processor time, and by what a fixed loop took the pace of the machine meanwhile.
+For each crate the processor seconds of its proof, of its tests, of the mutation baseline (with an older kit among
+the mutants), of its mutants, and of compiling a program; the number of checks of mutants, and the longest single
+check by the clock. The last line has the sums: minutes by the clock and of processor time, and the speed of the
+machine meanwhile, by a fixed loop.
 END
 }
 

@@ -1,15 +1,14 @@
 #!/usr/bin/env bash
-# Halves of I/NAV pages a second that inav_page takes. First thirty satellites on two signals, a half of each every
-# second, in a window of 7,200 s; then 100,000 halves of one satellite on one signal in two seconds, 50,000 even ones and
-# 50,000 odd ones of other words.
+# Measures how many I/NAV page parts a second inav_page takes. First thirty satellites on two signals, a part of each every second,
+# in a window of 7,200 s; then 100,000 parts of one satellite on one signal in two seconds, 50,000 even ones and 50,000 odd ones of
+# other words.
 #
-#   bench/halves.sh [SECONDS]      7,200 where none is said
+#   bench/halves.sh [SECONDS]      default 7,200
 #
-# With nothing else running, 14,400 seconds, so that halves are forgotten: 864,000 halves in 0.173 s, 5.0 million a second,
-# and the 100,000 of one satellite in 0.050 s, 2.0 million a second; the making of the halves (a word split in its two parts
-# for each) is counted in.
+# On an idle machine, 14,400 seconds, so that parts are dropped: 864,000 parts in 0.173 s, 5.0 million a second, and the 100,000 of
+# one satellite in 0.050 s, 2.0 million a second. This includes making the parts.
 #
-# A program over the crate is made in a folder of its own, proved and built there, and timed as a whole.
+# It makes a program over the crate in its own directory, proves and builds it there, and measures the complete run.
 set -eu
 . "$(dirname "$(readlink -f "$0")")/lib.sh"
 options '..' "$@"

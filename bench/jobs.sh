@@ -1,16 +1,15 @@
 #!/usr/bin/env bash
-# The whole jobs: what the built program takes beside plain C programs of the same job on the same files, in one sitting.
+# Measures the conversions: the built program compared with C programs for the same conversion of the same files.
 #
 #   bench/jobs.sh [MEGABYTES] [--program FILE] [--runs N]
 #
 #   MEGABYTES       of each stream (50)
 #   --program FILE  navbridge (PROGRAM, or crates/navbridge/out/navbridge)
-#   --runs N        of each row, of which the least is told (5)
+#   --runs N        of each row, of which the least is printed (5)
 #
-# Inputs are made in bench/build. First each job is run once into a file, and its bytes are compared with those of the C program, or with
-# what the maker of the input knows; then it is timed with the output sent to /dev/null, the least of the runs. Times
-# are of the processor (user and system), which other work on the machine moves less than the clock; both are printed.
-# "not built" stands where the program answers that the words give no job.
+# Inputs are made in bench/build. First each conversion is run once into a file, and its bytes are compared with those of the C program, or
+# with what the maker of the input knows; then it is timed with the output to /dev/null, the least of the runs. Processor time (user and
+# system) depends less on other work than the clock; both are printed. "not built" means that the program does not have the conversion.
 set -eu
 . "$(dirname "$(readlink -f "$0")")/lib.sh"
 program='' runs=5

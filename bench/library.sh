@@ -1,12 +1,12 @@
 #!/usr/bin/env bash
-# The calls of the library for C: ns a call and MB/s, and RTKLIB's decode_rtcm3, input_rtcm3, gen_rtcm3 and decode_frame on the
-# same frames, where RTKLIB is installed.
+# Measures the calls of the library for C: ns a call and MB/s; and RTKLIB's decode_rtcm3, input_rtcm3, gen_rtcm3 and decode_frame on the
+# same frames, if RTKLIB is installed.
 #
-#   bench/library.sh [MEGABYTES]      of distinct frames of messages 1019 and 1046; 10 where none is said
+#   bench/library.sh [MEGABYTES]      of distinct frames of messages 1019 and 1046; default 10
 #
-#   ARCHIVE=FILE         libnavbridge_c.a (crates/navbridge_c/out/libnavbridge_c.a, which bindings/archive.sh makes)
-#   RTKLIB=FOLDER        where rtklib.h is (/usr/include)
-#   RTKLIB_LIB, RTKLIB_FLAGS   its library, and the definitions that it was made with (those of Debian's)
+#   ARCHIVE=FILE         libnavbridge_c.a (crates/navbridge_c/out/libnavbridge_c.a, by bindings/archive.sh)
+#   RTKLIB=DIRECTORY     of rtklib.h (/usr/include)
+#   RTKLIB_LIB, RTKLIB_FLAGS   its library, and the definitions that it was compiled with (those of Debian)
 #
 # Each row is the least of five runs, in processor time.
 set -eu

@@ -1,12 +1,13 @@
 #!/usr/bin/env bash
-# Memory refused: the built program with its requests refused, one by one, and under limits of its address space.
+# Makes allocations of the built program fail, one by one, and limits its address space.
 #
-#   bench/memory.sh [MOST] [--program FILE]      2,000 where none is said: at most so many requests of a job are refused, spread evenly
+#   bench/memory.sh [MOST] [--program FILE]      at most MOST allocations of a conversion fail, spread evenly; default 2,000
 #
-# A library in front of the C library's (bench/refuse.c) refuses the n-th request alone, and in a second pass the n-th and
-# all after it. Each run must end with 6, or with 0 and the output and the report of the run with ample memory; on 6 what
-# was written must be a front of these. Then `ulimit -v` is set lower and lower, which also refuses what the C library
-# itself asks of the system. FILE is navbridge (PROGRAM, or crates/navbridge/out/navbridge).
+#   --program FILE  navbridge (PROGRAM, or crates/navbridge/out/navbridge)
+#
+# A library in front of the C library (bench/refuse.c) lets the n-th allocation fail, and in a second pass the n-th and all after it. Each
+# run must exit with 6, or with 0 and the output and report of the run with ample memory; with 6 the output must be a prefix of that. Then
+# `ulimit -v` is set lower and lower, which also limits what the C library itself allocates.
 set -eu
 . "$(dirname "$(readlink -f "$0")")/lib.sh"
 program=''

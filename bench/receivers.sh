@@ -1,11 +1,11 @@
 #!/usr/bin/env bash
-# Times navlog over logs of receivers: an hour of UBX with RXM-RAWX of 100 signals a second and RXM-SFRBX of 15 satellites of
-# GPS and 15 of Galileo among them, and logs of false syncs alone.
+# Measures navlog on receiver logs: an hour of UBX with RXM-RAWX of 100 signals a second and RXM-SFRBX of 15 satellites of GPS and 15 of
+# Galileo, and logs of false sync bytes only.
 #
-#   bench/receivers.sh [--navlog FILE] [--folder FOLDER]
+#   bench/receivers.sh [--navlog FILE] [--folder DIRECTORY]
 #
-#   --navlog FILE    navlog (NAVLOG, or crates/navlog/out/navlog)
-#   --folder FOLDER  where the logs are made (one that goes at the end)
+#   --navlog FILE       navlog (NAVLOG, or crates/navlog/out/navlog)
+#   --folder DIRECTORY  of the logs (by default a temporary one)
 set -eu
 . "$(dirname "$(readlink -f "$0")")/lib.sh"
 navlog='' folder=''

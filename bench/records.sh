@@ -1,10 +1,10 @@
 #!/usr/bin/env bash
-# Records of a RINEX navigation file read: MB/s and records/s of rinex_read.
+# Measures reading the records of a RINEX navigation file: MB/s and records/s of rinex_read.
 #
-#   bench/records.sh [RECORDS]      200,000 where none is said
+#   bench/records.sh [RECORDS]      default 200,000
 #
-# A file of two ephemerides in turn is made, and a program over the crate, in a folder of its own, which is proved and
-# built there and timed as a whole, the reading of its standard input included.
+# It makes a file of two alternating ephemerides, and a program over the crate in its own directory, proves and builds it there, and
+# measures the complete run, reading included.
 set -eu
 . "$(dirname "$(readlink -f "$0")")/lib.sh"
 options '..' "$@"

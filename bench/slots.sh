@@ -1,11 +1,11 @@
 #!/usr/bin/env bash
-# Parts taken by the assembly in slots: microseconds for each part, and bytes at the peak.
+# Measures the assembly of issues: microseconds for each data block, and bytes at the peak.
 #
-#   bench/slots.sh [PARTS]      200,000 where none is said
+#   bench/slots.sh [BLOCKS]      default 200,000
 #
-# Four runs: partial periods of one key, each a window and a second after the one before; as many ionospheres of
-# contents of their own, all open at once; and parts of 64 keys again and again, ten seconds apart, in order and in
-# another order. A program over the crate is made in a folder of its own, proved and built there, and timed as a whole.
+# Four runs: partial issues of one key, each a window and a second after the one before; as many different ionosphere parameters, all open
+# at once; and blocks of 64 keys repeated ten seconds apart, in order and in another order. It makes a program over the crate in its own
+# directory, proves and builds it there, and measures the complete run.
 set -eu
 . "$(dirname "$(readlink -f "$0")")/lib.sh"
 options '..' "$@"

@@ -1,19 +1,19 @@
 #!/usr/bin/env bash
-# The program under a feed that goes on: memory by the clock, and that what it writes is what a run over the whole writes.
+# Runs the program on a live feed: its memory over time, and its output compared with that of one run over the complete input.
 #
 #   bench/soak.sh [--seconds N] [--rate N] [--seed N] [--program PATH] [--keep]
 #
 #   --seconds N     of the clock (3600)
 #   --rate N        times the usual rate of frames and lines (100)
-#   --seed N        of the values and the faults (7)
-#   --program PATH  the built program (PROGRAM, or crates/navbridge/out/navbridge, which `rt ci` and `rt run` leave)
-#   --keep          leaves inputs, outputs and samples in bench/build/soak; some 1.4 GB for an hour at a hundred times the rate
+#   --seed N        of the values and errors (7)
+#   --program PATH  navbridge (PROGRAM, or crates/navbridge/out/navbridge, which `rt ci` and `rt run` leave)
+#   --keep          leaves inputs, outputs and samples in bench/build/soak; about 1.4 GB for an hour at a hundred times the rate
 #
-# Two runs side by side, stream to rinex and capture to rinex, fed by bench/feeder.py through a pipe, with connections that are
-# lost, garbage and cut frames in between. Each ten seconds the memory of both is read from /proc: their own (RssAnon) and all
-# that is resident, of which the kernel may drop pages of the program's file at any time. It ends some minutes behind the hour;
-# status 0 where every output and every report is that of the run over the whole, and no ephemeris is missing (of a capture
-# the last ones are whole where the data ends with two hours, as with 3600 s or 1800 s at a hundred times the rate).
+# Two runs at once, stream to rinex and capture to rinex, fed by bench/feeder.py through a pipe, with lost connections, garbage and
+# truncated frames. Each ten seconds the memory of both is read from /proc: their own (RssAnon) and all that is resident, of which the
+# kernel may drop pages of the program's file at any time. It ends some minutes after the hour. Exit status: 0 if every output and
+# report is that of the run over the complete input, and no ephemeris is missing (of a capture the last ones are complete if the data
+# ends with two hours, as with 3600 s or 1800 s at a hundred times the rate).
 set -euo pipefail
 . "$(dirname "$(readlink -f "$0")")/lib.sh"
 seconds=3600 rate=100 seed=7 keep='' program=''

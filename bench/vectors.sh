@@ -1,10 +1,10 @@
 #!/usr/bin/env bash
-# Seconds in which nav_vectors makes a capture of an hour, and its megabytes.
+# Measures the seconds in which nav_vectors makes a capture of an hour, and its megabytes.
 #
-#   bench/vectors.sh [SATELLITES]      32 of each system where none is said
+#   bench/vectors.sh [SATELLITES]      of each system; default 32
 #
-# A program over the crate is made in a folder of its own, proved and built there, and timed as a whole. It makes the
-# capture of the seed 7 in week 2295 and writes it out.
+# It makes a program over the crate in its own directory, proves and builds it there, and measures the complete run. The program makes the
+# capture of number 7 in week 2295 and writes it.
 set -eu
 . "$(dirname "$(readlink -f "$0")")/lib.sh"
 options '..' "$@"

@@ -1,17 +1,17 @@
 #!/usr/bin/env python3
-"""Makes an archive as archives are: a folder a day, a file a station, of both versions, by several converters, packed.
+"""Makes an archive like real ones: a directory a day, a file a station, of both versions, by several converters, packed.
 
-  bench/year.py FOLDER [--days 365] [--stations 40] [--satellites 20] [--heard 60] [--year 2023] [--seed 1] [--jobs N] [--faults N] [--joined]
+  bench/year.py DIRECTORY [--days 365] [--stations 40] [--satellites 20] [--heard 60] [--year 2023] [--seed 1] [--jobs N] [--faults N] [--joined]
 
-Each day has 400 distinct ephemerides, drawn from the seed: 20 GPS satellites each two hours, 20 Galileo satellites each three. A station
-heard some three in five of them (--heard, in a hundred), each at its own time, and writes with one of five programs' habits: version 4.01 as navbridge writes it,
-4.00 with no digit before the point and CR LF, 3.04 with the letter e, 3.05 with I/NAV and F/NAV side by side, 3.03 with a fit interval of
-0 for whatever was sent. Records of GLONASS and BeiDou stand between. Of twenty files one is packed by compress (where that is there), one
-is plain, the others by gzip. With --faults N each N-th file has a fault: cut, empty, of version 2, or no navigation file. With --joined the
-files of a day that one program wrote are one file: five a day, each as large as that of a busy day of real files.
+Each day has 400 distinct random ephemerides: 20 GPS satellites each two hours, 20 Galileo satellites each three. A station receives about
+three in five of them (--heard, percent), each at its own time, and writes in the style of one of five programs: version 4.01 as navbridge,
+4.00 with no digit before the point and CR LF, 3.04 with the letter e, 3.05 with I/NAV and F/NAV records, 3.03 with fit interval 0 in any
+case. Records of GLONASS and BeiDou are between them. Of twenty files one is packed by compress (if installed), one is plain, the others
+by gzip. With --faults N each N-th file is truncated, empty, of version 2, or no navigation file. With --joined the files of a day and
+program are one file: five a day, each as large as one of a busy day.
 
-It prints what it made: files, bytes packed and unpacked, records, distinct ephemerides, and those that differ in the fit interval alone.
-Nothing but Python's own library; the same words make the same bytes.
+It prints what it made: files, bytes packed and unpacked, records, distinct ephemerides, and those that differ only in the fit interval.
+It needs Python's own library only; equal arguments make equal bytes.
 """
 import argparse
 import datetime

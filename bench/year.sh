@@ -1,18 +1,18 @@
 #!/usr/bin/env bash
-# Measures the merging of a year's archive: at once, by days, months and years, beside sort -u and RTKLIB's convbin.
+# Measures the merging of a year's archive: at once, by days, months and years, compared with sort -u and RTKLIB's convbin.
 #
 # bench/year.sh [options] DIR
 #
-# Makes an archive by bench/year.py in DIR (once: what is there is taken), and merges it: all files at once, by days, months and the year,
-# again with nothing new, and the same records in files of a day's size. Each row has the seconds that passed, the processor's seconds, the
-# memory at the peak of the largest process, the bytes unpacked, MB/s of these, and what was kept. Then the plain ways: each record on a
-# line through `sort -u`, of the files of one program, whole and without the time of sending; and convbin, where it is installed.
+# Makes an archive by bench/year.py in DIR, if it is not there, and merges it: all files at once; by days, months and the year; again with
+# nothing new; and the same records in files of a day's size. Each row has the seconds by the clock, the processor seconds, the peak memory
+# of the largest process, the bytes unpacked, MB/s of these, and the records in the merged file. Then other ways: each record on a line
+# through `sort -u`, of the files of one program, complete and without the transmission time; and convbin, if it is installed.
 #
 #   --days N, --stations N   of the archive (365, 40)
-#   --jobs N                 at work at once (as many as there are processors)
+#   --jobs N                 processes at once (as many as there are processors)
 #   --program FILE           navbridge (crates/navbridge/out/navbridge of this repository)
 #
-# Status: 0 measured; 1 bytes differ that should not; 2 the words.
+# Exit status: 0 measured; 1 bytes differ that should not; 2 wrong arguments.
 set -eu
 . "$(dirname "$(readlink -f "$0")")/lib.sh"
 days=365 stations=40 jobs=$(nproc) program=''

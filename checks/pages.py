@@ -43,7 +43,7 @@ if not set(arguments) - {shown} <= OPTIONS or shown.startswith("-"):
 os.chdir(TOP)
 PAGES = sorted(glob.glob("*.md") + glob.glob("docs/*.md") + glob.glob("examples/*.md") + glob.glob("bench/*.md"))
 MANUALS = sorted(glob.glob("docs/*.1") + glob.glob("examples/station/*.1"))
-HELPS = ("examples/*", "examples/*/*", "packaging/*", "bindings/*", "checks/*")
+HELPS = ("examples/*", "examples/*/*", "packaging/*", "bindings/*", "checks/*", "bench/*")
 WRITE = "--write" in arguments
 wrong = 0
 
