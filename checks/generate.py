@@ -85,6 +85,14 @@ def tell(what):
     print(what)
 
 
+def found_in(path, pattern):
+    """The part of a file that fits, of which a table is made."""
+    it = re.search(pattern, read(path), re.M | re.S)
+    if not it:
+        sys.exit(f"generate: {path}: nothing in it fits {pattern}: change checks/generate.py with it")
+    return it[1]
+
+
 crates = {}
 for line in read("crates.txt").splitlines():
     head, _, below = line.split("#")[0].partition(":")
@@ -238,14 +246,14 @@ def parity(_):
     text = read("crates/lnav_subframe/specs/Parity.antt")
     rows = []
     for bit, star, row in re.findall(r"pub d(\d+) : IsEven word last \d+ \((d\d+)_star last\) (row_\d+)", text):
-        bits = re.findall(r"\d+", re.search(rf"^{row} = (.*)", text, re.M)[1])
+        bits = re.findall(r"\d+", found_in("crates/lnav_subframe/specs/Parity.antt", rf"^{row} = ([^\n]*)"))
         rows.append([f"D{bit}", " ".join([f"{star.upper()}\\*", *(f"d{it}" for it in bits)])])
     return table(["Bit", "Sum of"], rows)
 
 
 def ura(_):
-    text = read("crates/rinex_write/specs/Accuracies.antt")
-    metres = lambda name: [f"{int(it) / 100:g}" for it in re.findall(r"\d+", re.search(rf"^{name} =(.*?)\[\]", text, re.M | re.S)[1])]
+    path = "crates/rinex_write/specs/Accuracies.antt"
+    metres = lambda name: [f"{int(it) / 100:g}" for it in re.findall(r"\d+", found_in(path, rf"^{name} =(.*?)\[\]"))]
     nominal, upper = metres("ura_nominal"), metres("ura_greatest")
     return table(["Index", *map(str, range(16))], [["nominal", *nominal], ["upper", *upper, "none"]])
 
@@ -278,7 +286,7 @@ def fields(_):
 
 def man_lists(page, section):
     """The lists of a section of a man page, each of its terms and their texts."""
-    text = re.search(rf"^\.Sh {section}\n(.*?)(?=^\.Sh|\Z)", read(page), re.M | re.S)[1]
+    text = found_in(page, rf"^\.Sh {section}\n(.*?)(?=^\.Sh|\Z)")
     lists = re.findall(r"^\.Bl -tag[^\n]*\n(.*?)^\.El", text, re.M | re.S)
     return [re.findall(r"^\.It ([^\n]*)\n((?:(?!\.It )[^\n]*\n)*)", it, re.M) for it in lists]
 
@@ -302,13 +310,13 @@ def plain(text):
 
 def help_numbers(path, pattern):
     """The exit statuses that the help of a script lists, as `0 ..; 1 ..`."""
-    return set(re.findall(r"(?:^|; )(\d) ", " ".join(re.search(pattern, read(path), re.S)[1].replace("\n# ", " ").split())))
+    return set(re.findall(r"(?:^|; )(\d) ", " ".join(found_in(path, pattern).replace("\n# ", " ").split())))
 
 
 def statuses(_):
     """Of each man page the list of exit statuses; the numbers must be those of the sources."""
     engine = set(re.findall(r"Status::\w+ => (\d+),", read("crates/one_run/src/status.rt")))
-    front = set(re.findall(r" => (\d+),", re.search(r"pub fn status\(.*?\n    \}\n", read("crates/file_words/src/says.rt"), re.S)[0]))
+    front = set(re.findall(r" => (\d+),", found_in("crates/file_words/src/says.rt", r"(pub fn status\(.*?\n    \}\n)")))
     pages = {
         "navbridge": ("docs/navbridge.1", engine),
         # a log has no first line that could be rejected, and an argument is compared as bytes
@@ -372,7 +380,7 @@ def calls(_):
 
 def outcomes(_):
     text = read("examples/merge_archive.py")
-    known = ast.literal_eval(re.search(r"^OUTCOMES = (\{.*?^\})", text, re.M | re.S)[1])
+    known = ast.literal_eval(found_in("examples/merge_archive.py", r"^OUTCOMES = (\{.*?^\})"))
     used = {a or b or c for a, b, c in re.findall(r"Unusable\(\"([\w ]+)\"|outcome(?:\"\] = |=)\"([\w ]+)\"|\.row\(\w+(?:\.\w+)?, \"([\w ]+)\"", text)}
     if used - set(known):
         tell(f"examples/merge_archive.py: outcomes that OUTCOMES lacks: {sorted(used - set(known))}")
