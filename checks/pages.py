@@ -107,7 +107,7 @@ def words():
                 continue
             if len(places) > int(limit):
                 tell(f"{page}: '{word}' {len(places)} times, of {limit}; write: {better}; checks/pages.py --words {page}")
-            if places:
+            if places and int(limit):
                 left[page] = str(min(len(places), int(limit)))
         counted = " ".join(f"{page}:{count}" for page, count in left.items())
         lines.append(f"{word} | {better}" + (f" | {counted}" if left else ""))

@@ -6,7 +6,7 @@ usage() {
 cluster.sh start DIR     makes DIR and starts a Slurm in it: munged, slurmctld, four slurmd; prints the SLURM_CONF to use
 cluster.sh stop DIR      ends them (by the ids that they wrote)
 cluster.sh kill DIR N    waits, a minute at most, until a step runs on node N (1 to 4), and kills the node with all that runs on it,
-                         as a power cut would
+                         as a power failure would
 cluster.sh back DIR N    starts node N again
 
 For tests only: it runs as root, on ports 17000 to 17004, and a user who submits to it is root. Stop it afterwards. Debian: slurm-wlm, munge.
