@@ -56,7 +56,7 @@ sed -n '/^typedef enum nb_status/,/^}/s/^ *\(NB_[A-Z0-9_]*\) = \([0-9]*\).*/\2 \
 if command -v abidw > /dev/null && command -v abidiff > /dev/null; then
   abidw --no-corpus-path --no-comp-dir-path --no-show-locs --no-architecture "$out/calls.so" > "$out/navbridge.abi" || exit 2
 else
-  echo 'layouts: not compared, since abidw or abidiff is not there'
+  echo 'layouts: not compared, since abidw or abidiff is not installed'
 fi
 if [ -n "$write" ]; then
   cp "$out/symbols.txt" "$out/reasons.txt" .

@@ -28,7 +28,7 @@ esac
 top=$(dirname "$(readlink -f "$0")")/..
 cd "$top" || exit 2
 top=$PWD
-kit=$(rt doc 2> /dev/null) || { echo 'archive: no toolchain: rt is not there' >&2; exit 2; }
+kit=$(rt doc 2> /dev/null) || { echo 'archive: no toolchain: rt is not installed' >&2; exit 2; }
 kit=$(dirname "$kit")
 
 # what a crate stands on by crates.txt, and whether that is ours or the toolchain's

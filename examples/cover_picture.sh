@@ -28,16 +28,16 @@ while [ $# -gt 0 ]; do
     --title) title=${2-}; shift ;;
     --width) width=${2-}; shift ;;
     -) names+=("/dev/stdin") ;;
-    -*) echo "cover_picture.sh: $1: no such option; --help says more" >&2; exit 2 ;;
+    -*) echo "cover_picture.sh: $1: no such option; --help" >&2; exit 2 ;;
     *) names+=("$1") ;;
   esac
   shift
 done
 [ "${#names[@]}" -ge 2 ] || { echo "$usage" >&2; exit 2; }
-command -v gnuplot > /dev/null || { echo "cover_picture.sh: gnuplot is not there" >&2; exit 2; }
+command -v gnuplot > /dev/null || { echo "cover_picture.sh: gnuplot is not installed" >&2; exit 2; }
 cover=${names[0]} pictures=("${names[@]:1}")
 for picture in "${pictures[@]}"; do
-  case $picture in *.png | *.svg) ;; *) echo "cover_picture.sh: $picture: .png or .svg is wanted" >&2; exit 2 ;; esac
+  case $picture in *.png | *.svg) ;; *) echo "cover_picture.sh: $picture: a name in .png or .svg is required" >&2; exit 2 ;; esac
 done
 case $width in '' | *[!0-9]*) echo "cover_picture.sh: --width is a number" >&2; exit 2 ;; esac
 [ "$width" -ge 600 ] || { echo "cover_picture.sh: --width is at least 600" >&2; exit 2; }

@@ -42,7 +42,7 @@ for name in "${names[@]}"; do
   fi
 done
 for it in dpkg-deb strip gzip md5sum git; do
-  command -v "$it" > /dev/null || { echo "debian: $it is not there" >&2; exit 2; }
+  command -v "$it" > /dev/null || { echo "debian: $it is not installed" >&2; exit 2; }
 done
 : "${epoch:=$(git log -1 --format=%ct)}"
 : "${maintainer:=$(git log -1 --format='%an <%ae>')}"

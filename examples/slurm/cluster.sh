@@ -80,7 +80,7 @@ case $verb in
       [ "$(sinfo -h -t idle -o %D 2> /dev/null)" = 4 ] && { echo "export SLURM_CONF=$SLURM_CONF"; exit 0; }
       sleep 0.5
     done
-    echo "cluster.sh: the nodes are not ready; $dir/log says why" >&2
+    echo "cluster.sh: the nodes are not ready; see $dir/log" >&2
     exit 1
     ;;
   stop)

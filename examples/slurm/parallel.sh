@@ -22,7 +22,7 @@ step=$here/step.sh
 # shellcheck source=/dev/null
 . "$here/plan.sh"
 read_words "$usage" "$@"
-parallel --version 2> /dev/null | grep -q '^GNU parallel' || { echo "parallel.sh: GNU parallel is not there" >&2; exit 2; }
+parallel --version 2> /dev/null | grep -q '^GNU parallel' || { echo "parallel.sh: GNU parallel is not installed" >&2; exit 2; }
 plan
 
 if [ -z "$HOSTS" ]; then

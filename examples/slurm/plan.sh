@@ -21,14 +21,14 @@ read_words() {
       --cover) COVER=1 ;;
       --strict) STRICT=1 ;;
       --wait) WAIT=1 ;;
-      -*) echo "$(basename "$0"): $1: no such option; --help says more" >&2; exit 2 ;;
+      -*) echo "$(basename "$0"): $1: no such option; --help" >&2; exit 2 ;;
       *) words+=("$1") ;;
     esac
     shift
   done
   [ "${#words[@]}" = 2 ] || { echo "$usage" >&2; exit 2; }
   ARCHIVE=$(readlink -f -- "${words[0]}")
-  [ -d "$ARCHIVE" ] || { echo "$(basename "$0"): ${words[0]}: no such folder" >&2; exit 2; }
+  [ -d "$ARCHIVE" ] || { echo "$(basename "$0"): ${words[0]}: no such directory" >&2; exit 2; }
   # of the repository, or those of the path where the package is installed
   if [ -d "$here/../../crates" ]; then
     PROGRAM=${PROGRAM:-$here/../../crates/navbridge/out/navbridge} MERGE=$here/../merge_archive.sh
@@ -60,7 +60,7 @@ plan() {
     fi
     echo "$year$day" >> "$new/$month.days"
   done
-  [ -s "$new/days" ] || { rmdir "$new"; echo "$(basename "$0"): $ARCHIVE: no folder of a day in it, as 2023/032" >&2; exit 2; }
+  [ -s "$new/days" ] || { rmdir "$new"; echo "$(basename "$0"): $ARCHIVE: no directory of a day in it, as 2023/032" >&2; exit 2; }
   mv "$new"/* "$TREE/state/"
   rmdir "$new"
 }

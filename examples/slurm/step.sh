@@ -33,7 +33,7 @@ below() {
   local lower=$1 list=$2 one
   while read -r one; do
     [ ! -e "$TREE/state/$lower.$one.failed" ] || fail "not made, since $lower $one failed"
-    [ -e "$TREE/$lower/$one.rnx" ] || fail "not made, since $lower $one is not there"
+    [ -e "$TREE/$lower/$one.rnx" ] || fail "not made, since $lower $one is missing"
     echo "$TREE/$lower/$one.rnx"
   done < "$list"
 }

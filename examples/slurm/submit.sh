@@ -25,7 +25,7 @@ step=$here/step.sh
 # shellcheck source=/dev/null
 . "$here/plan.sh"
 read_words "$usage" "$@"
-command -v sbatch > /dev/null || { echo "submit.sh: sbatch is not there" >&2; exit 2; }
+command -v sbatch > /dev/null || { echo "submit.sh: sbatch is not installed" >&2; exit 2; }
 plan
 
 declare -A steps

@@ -25,12 +25,12 @@ while [ $# -gt 0 ]; do
     --stations) stations=$2; shift ;;
     --from) from=$2; shift ;;
     --program) program=$2; shift ;;
-    -*) echo "try.sh: $1: no such option; --help says more" >&2; exit 2 ;;
+    -*) echo "try.sh: $1: no such option; --help" >&2; exit 2 ;;
     *) dir=$1 ;;
   esac
   shift
 done
-{ [ -n "$dir" ] && [ ! -e "$dir" ]; } || { echo "try.sh: the name of a folder that is not there is wanted" >&2; exit 2; }
+{ [ -n "$dir" ] && [ ! -e "$dir" ]; } || { echo "try.sh: the name of a new directory is required" >&2; exit 2; }
 [ -x "$program" ] || { echo "try.sh: $program: build it first (rt ci, or rt run in crates/navbridge), or name it by --program" >&2; exit 2; }
 mkdir -p "$dir"
 dir=$(readlink -f -- "$dir")

@@ -218,7 +218,7 @@ sleep 2
 check "once" once one '137'
 check "records come again" grows one 20
 kill -KILL "$(of_group | awk '$4 ~ /str2str$/ { print $1; exit }')"
-check "str2str is killed: said" until_has one 'str2str was killed by SIGKILL (exit status 137), and with it the source has gone' 10
+check "str2str is killed: said" until_has one 'str2str was killed by SIGKILL (exit status 137), so the source has ended' 10
 ends 20
 check "exit status 3" test "$status" = 3
 check "no process of it is left" none_left
