@@ -1,21 +1,21 @@
 #!/usr/bin/env bash
-# Instructions of each job, beside the plain C program of the same job: what callgrind counts over a small input, without what
-# it counts over an empty one, by frame, line, record or byte. Other work on the machine does not change it.
+# Counts the instructions of each conversion and of the C program for the same conversion: by callgrind over a small input, less
+# those over an empty one, by frame, line, record or byte. Other work on the machine does not change them.
 #
-#   bench/instructions.sh [--write | --check] [--program FILE] [--navlog FILE] [--navconvert FILE] [--by JOB]
+#   bench/instructions.sh [--write | --check] [--program FILE] [--navlog FILE] [--navconvert FILE] [--by NAME]
 #
-#   --write            the table goes to bench/results/instructions.txt
-#   --check            no C program is run: no job may take 3 in 100 more than in that table
-#   --by JOB           where the instructions of one job go, by function (its name in the table)
+#   --write            writes the table to bench/results/instructions.txt
+#   --check            runs no C program: no conversion may take 3 percent more than in that table
+#   --by NAME          the instructions of one conversion, by function (its name in the table)
 #   --program FILE     navbridge (PROGRAM, or crates/navbridge/out/navbridge)
 #   --navlog FILE      navlog (NAVLOG, or crates/navlog/out/navlog)
 #   --navconvert FILE  navconvert (NAVCONVERT, or crates/navconvert/out/navconvert)
 #
 # An empty capture has its first line, an empty navigation file its header, an empty log its first message. Of `seed` and of a
-# whole run of navconvert nothing is left out. Where the outputs of a job and of its C program differ, the row says so.
+# complete run of navconvert nothing is subtracted. If the output differs from that of the C program, the row has a note.
 #
-# Status: 0 the table is made, no job takes more, or skipped, and why; 1 one takes more; 2 the words are wrong, or a program is
-# not there.
+# Exit status: 0 the table is made, nothing takes more, or skipped with a reason; 1 something takes more; 2 the arguments are wrong,
+# or a program is missing.
 set -eu
 . "$(dirname "$(readlink -f "$0")")/lib.sh"
 program='' navlog='' navconvert='' write='' check='' by=''
