@@ -93,6 +93,14 @@ def found_in(path, pattern):
     return it[1]
 
 
+def holder(pattern):
+    """The file of sources or definitions that has this."""
+    found = [it for it in sorted(glob.glob("crates/*/s[rp]*/**/*.*t*", recursive=True)) if os.path.isfile(it) and re.search(pattern, read(it), re.M)]
+    if len(found) != 1:
+        sys.exit(f"generate: {len(found)} files have {pattern}, and should be one: change checks/generate.py with them")
+    return found[0]
+
+
 crates = {}
 for line in read("crates.txt").splitlines():
     head, _, below = line.split("#")[0].partition(":")
@@ -221,17 +229,17 @@ def layouts(path, word, number):
 
 
 def messages(_):
-    return layouts("crates/rtcm_eph/specs/Messages.antt", "", "message number")
+    return layouts(holder(r"^fields_1019 \w"), "", "message number")
 
 
 def words(_):
-    return layouts("crates/inav_word/specs/Words.antt", "word", "word type")
+    return layouts(holder(r"^fields_word1 \w"), "word", "word type")
 
 
 def subframes(_):
     """Bit n of the standard is at offset n - 1."""
     rows = []
-    for it in re.finditer(r"^(head|subframe\d|page\d+)_at bits at = record \{\n(.*?)^\}", read("crates/lnav_subframe/specs/Subframes.antt"), re.M | re.S):
+    for it in re.finditer(r"^(head|subframe\d|page\d+)_at bits at = record \{\n(.*?)^\}", read(holder(r"^subframe1_at bits")), re.M | re.S):
         fields = []
         for name, value in re.findall(r"^  (\w+) = (.*);", it[2], re.M):
             ranges = [(int(a) + 1, int(a) + int(b)) for a, b in re.findall(r"\(at \+ (\d+)\) (\d+)", value)]
@@ -243,16 +251,16 @@ def subframes(_):
 
 
 def parity(_):
-    text = read("crates/lnav_subframe/specs/Parity.antt")
-    rows = []
+    path, rows = holder(r"^row_25 ="), []
+    text = read(path)
     for bit, star, row in re.findall(r"pub d(\d+) : IsEven word last \d+ \((d\d+)_star last\) (row_\d+)", text):
-        bits = re.findall(r"\d+", found_in("crates/lnav_subframe/specs/Parity.antt", rf"^{row} = ([^\n]*)"))
+        bits = re.findall(r"\d+", found_in(path, rf"^{row} = ([^\n]*)"))
         rows.append([f"D{bit}", " ".join([f"{star.upper()}\\*", *(f"d{it}" for it in bits)])])
     return table(["Bit", "Sum of"], rows)
 
 
 def ura(_):
-    path = "crates/rinex_write/specs/Accuracies.antt"
+    path = holder(r"^ura_nominal =")
     metres = lambda name: [f"{int(it) / 100:g}" for it in re.findall(r"\d+", found_in(path, rf"^{name} =(.*?)\[\]"))]
     nominal, upper = metres("ura_nominal"), metres("ura_greatest")
     return table(["Index", *map(str, range(16))], [["nominal", *nominal], ["upper", *upper, "none"]])
@@ -261,10 +269,10 @@ def ura(_):
 def fields(_):
     """Fields that are of equal width and scale in both systems are one row."""
     rows, ranges = {}, {}
-    for doc, name in re.findall(r"((?:^///[^\n]*\n)+)^#[^\n]*\npub struct (\w+) ", read("crates/nav_eph/src/steps.rt"), re.M):
+    for doc, name in re.findall(r"((?:^///[^\n]*\n)+)^#[^\n]*\npub struct (\w+) ", read(holder(r"^pub struct Step16 ")), re.M):
         ranges[name] = (re.search(r"0 to [\d,]*\d(, or \d+)?", doc)[0], int(re.search(r"in (\d+) bits", doc)[1]))
-    for path in ("gps", "galileo", "ion"):
-        for struct in re.finditer(r"^pub struct (\w+) \{\n(.*?)^\}", read(f"crates/nav_eph/src/{path}.rt"), re.M | re.S):
+    for path in (holder(rf"^pub struct {it} ") for it in ("GpsOrbitA", "GalWord1", "GpsIon")):
+        for struct in re.finditer(r"^pub struct (\w+) \{\n(.*?)^\}", read(path), re.M | re.S):
             if not struct[1].startswith(("Gps", "Gal")) or struct[1] in ("GpsEph", "GalEph"):
                 continue
             for doc, name, kind in re.findall(r"((?:    ///[^\n]*\n)+)    pub (\w+): ([\w<>]+),", struct[2]):
@@ -315,8 +323,8 @@ def help_numbers(path, pattern):
 
 def statuses(_):
     """Of each man page the list of exit statuses; the numbers must be those of the sources."""
-    engine = set(re.findall(r"Status::\w+ => (\d+),", read("crates/one_run/src/status.rt")))
-    front = set(re.findall(r" => (\d+),", found_in("crates/file_words/src/says.rt", r"(pub fn status\(.*?\n    \}\n)")))
+    engine = set(re.findall(r"Status::\w+ => (\d+),", read(holder(r"Status::Done => 0,"))))
+    front = set(re.findall(r" => (\d+),", found_in(holder(r"pub fn status\(&self\) -> u8"), r"(pub fn status\(.*?\n    \}\n)")))
     pages = {
         "navbridge": ("docs/navbridge.1", engine),
         # a log has no first line that could be rejected, and an argument is compared as bytes
@@ -348,19 +356,27 @@ def printed(page, known, head):
     return table([head, "Meaning"], [[", ".join(f"`{it}`" for it in names), plain(text).replace("(n is", "(N is")] for names, text in found])
 
 
+def sources_of(page):
+    """The sources that print what a man page explains: those of logs are of navlog."""
+    return [it for it in glob.glob("crates/*/src/**/*.rt", recursive=True)
+            if it.split("/")[1].startswith("receiver_") == (page == "navlog") and "_tests/" not in it]
+
+
 def reasons(page):
-    sources = {"navlog": ["receiver_log/src/report.rt"],
-               "navbridge": ["captures/src/report.rt", "streams/src/frames.rt", "nav_files/src/records.rt", "nav_files/src/told.rt"]}[page]
     known = {"malformed", "late"} if page == "navbridge" else set()
-    for path in sources:
+    for path in sources_of(page):
         arms = r"(?:Refusal|Reason|SendFault|MessageFault)::\w+(?: \{ \w+ \})? => \{?\s*(?:append\(text, |refuse\(number, )?b\"(\w+)"
-        known |= set(re.findall(arms, read(f"crates/{path}")))
+        known |= set(re.findall(arms, read(path)))
     return printed(page, known, "Reason")
 
 
 def counts(page):
-    path = {"navlog": "receiver_log/src/report.rt", "navbridge": "captures/src/counts.rt"}[page]
-    return printed(page, set(re.findall(r"append_count\(\s*&mut text,\s*b\"(\w+)", read(f"crates/{path}"))), "Count")
+    """Those of a capture, or of a log."""
+    for path in sources_of(page):
+        known = set(re.findall(r"append_count\(\s*&mut text,\s*b\"(\w+)", read(path)))
+        if known & {"whole", "messages"}:
+            return printed(page, known, "Count")
+    sys.exit(f"generate: no sources of the counts of {page}")
 
 
 def codes(_):
