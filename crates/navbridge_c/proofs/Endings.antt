@@ -225,11 +225,11 @@ pub no_job_made : (words : List (List ℕ)) (input o r : List ℕ) (status : ℕ
 no_job_made words input o r status none silent by =
     subst (λ (l : List ℕ). HasEndedInMemory words input (made_of o l) status) (sym silent)
     (subst (λ (l : List ℕ). HasEndedInMemory words input (made_of l []) status) (sym none) (ends by)) where
-  ends : ((status ≡ 2) × (¬ GivesJob words) × All IsUtf8 words) ⊎ ((status ≡ 6) × All IsUtf8 words) ⊎ ((status ≡ 9) × (¬ All IsUtf8 words))
-      → HasEndedInMemory words input nothing status
-  ends (inl (two, not, texts)) = subst (λ (s : ℕ). HasEndedInMemory words input nothing s) (sym two) (no_job_end words input texts not)
-  ends (inr (inl (six, texts))) = subst (λ (s : ℕ). HasEndedInMemory words input nothing s) (sym six) (memory_end words input nothing texts (inl refl))
-  ends (inr (inr (nine, not))) = subst (λ (s : ℕ). HasEndedInMemory words input nothing s) (sym nine) (text_end words input not)
+      ends : ((status ≡ 2) × (¬ GivesJob words) × All IsUtf8 words) ⊎ ((status ≡ 6) × All IsUtf8 words) ⊎ ((status ≡ 9) × (¬ All IsUtf8 words))
+          → HasEndedInMemory words input nothing status
+      ends (inl (two, not, texts)) = subst (λ (s : ℕ). HasEndedInMemory words input nothing s) (sym two) (no_job_end words input texts not)
+      ends (inr (inl (six, texts))) = subst (λ (s : ℕ). HasEndedInMemory words input nothing s) (sym six) (memory_end words input nothing texts (inl refl))
+      ends (inr (inr (nine, not))) = subst (λ (s : ℕ). HasEndedInMemory words input nothing s) (sym nine) (text_end words input not)
 
 -- ---- in the rooms that there are
 
