@@ -11,6 +11,7 @@
 #   --navlog FILE      navlog (NAVLOG, or crates/navlog/out/navlog)
 #   --navconvert FILE  navconvert (NAVCONVERT, or crates/navconvert/out/navconvert)
 #
+# The C library clears and copies without `rep`, of which valgrind counts each byte as an instruction.
 # An empty capture has its first line, an empty navigation file its header, an empty log its first message. Of `seed` and of a
 # complete run of navconvert nothing is subtracted. If the output differs from that of the C program, the row has a note.
 #
@@ -27,7 +28,10 @@ built navconvert navconvert
 work_folder
 plain frames streams captures heard files logs
 table=bench/results/instructions.txt
-[ -z "$check" ] || [ -f "$table" ] || fail "there is no $table: bench/instructions.sh --write"
+if [ -n "$check" ] && ! grep -q '^[^|]*|[^|]*|[^|]*| *[0-9]' "$table" 2> /dev/null; then
+  skip "no figure is kept in $table: bench/instructions.sh --write keeps them"
+fi
+export GLIBC_TUNABLES=glibc.cpu.hwcaps=-ERMS
 date=(--date '20240101 000000 UTC' --leap 18)
 week=(--week 2295)
 head="'20240101 000000 UTC' 18"
