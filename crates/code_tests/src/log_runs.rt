@@ -2,6 +2,7 @@
 
 use crate::samples::source_of;
 use nav_io::MemSink;
+use one_run::Status;
 use receiver_frames::{SbfJudge, UbxJudge};
 use receiver_log::{Receiver, run_log};
 use std::alloc::{AllocError, Global};
@@ -76,7 +77,8 @@ impl Log<'_> {
         let ended = run_log::<J, _, _, _>(&mut input, &mut output, &mut told);
         let is_reported = self.report == ANYTHING || told.bytes() == self.report.as_bytes();
         let is_written = output.bytes() == self.capture.as_bytes();
-        Ok(ended == self.status && is_written && is_reported)
+        let is_ended = Status::of(&ended).number() == self.status;
+        Ok(is_ended && is_written && is_reported)
     }
 
     /// Whether a run over the log ends so.

@@ -7,7 +7,7 @@ use Rattle.file_step.specs.Files.{Opens, Stays}
 use Rattle.file_step.specs.Steps.{BrokeOff, Lacks, bytes_of}
 use Rattle.file_step.specs.declared.step.StepFault.{StepFault}
 use Rattle.file_step.specs.declared.step.StepFault.TheVariants.{Begin, Run, Publish}
-use Rattle.receiver_log.specs.LogRuns.{too_many}
+use Rattle.receiver_log.specs.Capture.{too_many}
 use Rattle.front_run.specs.Asked.{CanConvert, ConvertsAs, Makes, PutsAs, ReadsUnder}
 use Rattle.file_form.specs.declared.Kind.{Kind}
 use Rattle.file_form.specs.Stops.{stopped_by}

@@ -5,7 +5,7 @@ use Rattle.nav_io.specs.Causes.{Rose}
 use Rattle.file_step.specs.Steps.{BrokeOff, Lacks}
 use Rattle.file_step.specs.declared.faults.FileFault.{FileFault}
 use Rattle.file_step.specs.declared.step.StepFault.{StepFault}
-use Rattle.receiver_log.specs.LogRuns.{too_many}
+use Rattle.receiver_log.specs.Capture.{too_many}
 use Rattle.front_run.specs.Asked.{CanConvert, Makes, ReadsUnder}
 use Rattle.front_run.specs.Tasks.{accepts, makes_by}
 use Rattle.front_run.specs.declared.plans.Plan.{Plan}

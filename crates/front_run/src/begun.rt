@@ -17,7 +17,7 @@ use bridge_engine::words_give_one_job;
 use file_form::{Kind, Stop, look};
 use file_step::{PeekFault, Peeked, Progress};
 use nav_io::{Sink, Source};
-use receiver_log::Refusals;
+use receiver_log::Refused;
 use std::alloc::Global;
 
 /// The form of an input, and what is done with it.
@@ -38,7 +38,7 @@ pub(crate) struct Begun<U: Sink, R> {
 /// # Errors
 ///
 /// How it ended, where it could not be begun.
-pub(crate) fn begin<S: Source, U: Sink, N: Refusals, P: Progress>(
+pub(crate) fn begin<S: Source, U: Sink, N: Refused + Drop, P: Progress>(
     alloc: Global,
     plan: &Plan,
     source: S,

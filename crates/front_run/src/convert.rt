@@ -13,7 +13,7 @@ use crate::plans::Plan;
 use file_form::Stop;
 use file_step::{Folder, Progress, put_output};
 use nav_io::{Sink, Source};
-use receiver_log::Refusals;
+use receiver_log::Refused;
 use std::alloc::Global;
 
 /// Converts the file of one name to a file of another, as the plan asks: opens it, looks at its
@@ -23,7 +23,7 @@ use std::alloc::Global;
 ///
 /// Every name but that of the part is as it was, and the part is removed where the folder can
 /// remove it.
-pub fn convert_one<F: Folder, U: Sink, N: Refusals, P: Progress>(
+pub fn convert_one<F: Folder, U: Sink, N: Refused + Drop, P: Progress>(
     alloc: Global,
     plan: &Plan,
     folder: &mut F,
@@ -65,7 +65,7 @@ pub fn convert_one<F: Folder, U: Sink, N: Refusals, P: Progress>(
 /// # Errors
 ///
 /// As those of [`convert_one`].
-pub fn convert_source<F: Folder, S: Source, U: Sink, N: Refusals, P: Progress>(
+pub fn convert_source<F: Folder, S: Source, U: Sink, N: Refused + Drop, P: Progress>(
     alloc: Global,
     plan: &Plan,
     folder: &mut F,

@@ -1,7 +1,7 @@
 //! How conversions end.
 
 ghost use Rattle.std.specs.Prelude.{◌≡◌, ◌<◌, Err, None, Some};
-ghost use Rattle.receiver_log.specs.LogRuns.{too_many};
+ghost use Rattle.receiver_log.specs.Capture.{too_many};
 ghost use Rattle.front_run.specs.Steps.{EndsSo, IsLack, LacksMore, told_by};
 
 use crate::begun::Begun;
@@ -10,11 +10,11 @@ use crate::tasks::TaskRun;
 use file_form::{Kind, Stop, stopped_by};
 use file_step::{FileFault, Progress, StepFault};
 use nav_io::{Sink, Source};
-use receiver_log::{Counts, Refusals};
+use receiver_log::{LogCounts, Refused};
 
 /// Who is told of a conversion.
 #[derive(Drop)]
-pub struct Told<U: Sink, N: Refusals, P: Progress> {
+pub struct Told<U: Sink, N: Refused + Drop, P: Progress> {
     /// The report of the job.
     pub report: U,
     /// Who is told which messages of a log are refused.
@@ -35,7 +35,7 @@ pub struct Outcome<U: Sink> {
     /// How many bytes were read.
     pub count: u64,
     /// What was counted of a log.
-    pub counts: Option<Counts>,
+    pub counts: Option<LogCounts>,
 }
 
 /// How the conversion of a source ended, with the source.
@@ -65,7 +65,7 @@ impl<U: Sink> Outcome<U> {
 }
 
 /// How a conversion that was begun has ended, by what the step and what was read say.
-pub(crate) fn ended<S: Source, U: Sink, N: Refusals, P: Progress>(
+pub(crate) fn ended<S: Source, U: Sink, N: Refused + Drop, P: Progress>(
     begun: Begun<U, Input<S, N, P>>,
     done: Result<(), StepFault<u8>>,
 ) -> Sourced<U, S>

@@ -11,7 +11,7 @@
 //!
 //! ```rust
 //! let mut folder = HostFolder::new(rt.alloc(), &rt);
-//! let told = Told { report, refusals: Unheard, progress: Untold };
+//! let told = Told { report, refusals: Nobody, progress: Untold };
 //! let outcome = convert_one(rt.alloc(), &plan, &mut folder, told,
 //!     "station.navcap", "station.rnx.part", "station.rnx");
 //! ```

@@ -2,17 +2,17 @@
 
 ghost use Rattle.std.specs.Prelude.{◌≡◌, ◌<◌};
 ghost use Rattle.std.specs.Option.{option_map};
-ghost use Rattle.receiver_log.specs.LogRuns.{too_many};
+ghost use Rattle.receiver_log.specs.Capture.{too_many};
 ghost use Rattle.front_run.specs.Logs.{read_as};
 
 use file_form::Kind;
 use file_step::{Counted, Peeked, Progress};
 use nav_io::{Failed, Source};
 use receiver_frames::{SbfJudge, UbxJudge};
-use receiver_log::{Counts, LogParts, LogSource, Receiver, Refusals};
+use receiver_log::{LogCounts, LogParts, LogSource, Receiver, Refused};
 
 /// An input as it is read: of a log its capture, and of any other its bytes.
-pub(crate) enum Reading<A: Source, N: Refusals> {
+pub(crate) enum Reading<A: Source, N: Refused + Drop> {
     Plain(A),
     Ubx(LogSource<UbxJudge, A, N>),
     Sbf(LogSource<SbfJudge, A, N>),
@@ -28,10 +28,10 @@ pub(crate) struct Taken<S: Source> {
     /// How many bytes were read.
     pub count: u64,
     /// What was counted of a log.
-    pub counts: Option<Counts>,
+    pub counts: Option<LogCounts>,
 }
 
-impl<A: Source, N: Refusals> Source for Reading<A, N> {
+impl<A: Source, N: Refused + Drop> Source for Reading<A, N> {
     ghost use Rattle.front_run.specs.declared.reading.Reading.TheVariants.{Plain, Ubx, Sbf};
 
     ghost left = { elim [
@@ -63,7 +63,7 @@ impl<A: Source, N: Refusals> Source for Reading<A, N> {
 }
 
 /// An input as it is read under this form.
-pub(crate) fn reading_of<S: Source, N: Refusals, P: Progress>(
+pub(crate) fn reading_of<S: Source, N: Refused + Drop, P: Progress>(
     kind: Kind,
     input: Peeked<S>,
     refusals: N,
@@ -82,7 +82,7 @@ pub(crate) fn reading_of<S: Source, N: Refusals, P: Progress>(
 }
 
 /// What is left of an input.
-pub(crate) fn taken_of<S: Source, N: Refusals, P: Progress>(input: Input<S, N, P>) -> Taken<S>
+pub(crate) fn taken_of<S: Source, N: Refused + Drop, P: Progress>(input: Input<S, N, P>) -> Taken<S>
     // Where there were not too many bytes, it has failed as often as the source inside.
     ensures { result.count < too_many
         → ⟦<Input<S, N, P> as Source>⟧.faults input ≡ S.faults result.source }
@@ -99,7 +99,7 @@ pub(crate) fn taken_of<S: Source, N: Refusals, P: Progress>(input: Input<S, N, P
 }
 
 // What is left of a log.
-fn taken_of_log<J: Receiver, S: Source, N: Refusals, P: Progress>(
+fn taken_of_log<J: Receiver, S: Source, N: Refused + Drop, P: Progress>(
     log: LogSource<J, Counted<Peeked<S>, P>, N>,
 ) -> Taken<S>
     ensures { result.count < too_many

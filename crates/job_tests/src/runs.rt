@@ -8,7 +8,7 @@ use file_step::Untold;
 use file_words::{Refusal, Values, kind_text};
 use front_run::{Outcome, Plan, Sourced, Stop, Teller, Told, convert_one, convert_source, finish};
 use nav_io::{Failed, MemSink, MemSource};
-use receiver_log::Unheard;
+use receiver_log::Nobody;
 use std::alloc::{AllocError, Global};
 use std::test::Fail;
 
@@ -159,10 +159,10 @@ fn plan_of<'a>(target: Target, week: Option<&'a str>) -> Plan<'a> {
 }
 
 // Nobody but a report is told.
-fn listeners(alloc: Global) -> Result<Told<MemSink, Unheard, Untold>, AllocError> {
+fn listeners(alloc: Global) -> Result<Told<MemSink, Nobody, Untold>, AllocError> {
     Ok(Told {
         report: MemSink::new(alloc, 1000, Vec::new(alloc))?,
-        refusals: Unheard,
+        refusals: Nobody,
         progress: Untold,
     })
 }

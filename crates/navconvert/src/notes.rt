@@ -2,7 +2,8 @@
 //! them.
 
 use crate::tally::is_put;
-use receiver_log::{Refusals, refusal};
+use nav_io::Failed;
+use receiver_log::{Refused, refusal};
 use receiver_messages::Reason;
 use std::fs::File;
 
@@ -19,9 +20,16 @@ impl<'a> Notes<'a> {
     }
 }
 
-impl Refusals for Notes<'_> {
+impl Refused for Notes<'_> {
+    ghost use Rattle.std.specs.Prelude.{None};
+
+    ghost reported = { λ _. None };
+
+    ghost faults = { λ _. 0 };
+
     // Where a line cannot be written, the report of the job or the counts will fail.
-    fn refused(&mut self, number: u64, reason: Reason) {
+    fn refused(&mut self, number: u64, reason: Reason) -> Result<(), Failed> {
         let _ = is_put(self.file, refusal(number, reason).as_slice());
+        Ok(())
     }
 }

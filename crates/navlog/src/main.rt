@@ -4,21 +4,16 @@
 //! The report is on standard error: a line for each message that is refused, and nine of counts.
 //! The exit status is 0 where all was read and written, 2 where the command line is neither of
 //! these, 3, 4 and 7 where the input, the output or the report failed, 6 for want of memory, and 8
-//! where there are too many bytes, 2^64 - 16,384 or more.
+//! where there are too many bytes, 2^64 - 1 or more.
 #![tactic(auto)]
 
 use nav_io::{ReadSource, WriteSink};
+use one_run::Status;
 use receiver_frames::{SbfJudge, UbxJudge};
-use receiver_log::run_log;
+use receiver_log::{Receiver, run_log};
 use std::env;
 use std::io::ErrorKind;
 use std::process::ExitCode;
-
-// The command line names no form.
-const NO_FORM: u8 = 2;
-
-// No memory for the command-line words.
-const NO_MEMORY: u8 = 6;
 
 // The forms of logs.
 #[derive(Clone, Copy, PartialEq, Eq)]
@@ -61,25 +56,34 @@ fn form_of(words: &[String]) -> Option<Form> {
     }
 }
 
-fn main(rt: HostRuntime) -> ExitCode {
-    let args = match env::args(&rt) {
+// Runs over standard input, as over a log of this receiver.
+fn run<J: Receiver>(rt: &HostRuntime) -> Status {
+    let mut input = ReadSource::new(rt.stdin());
+    let mut output = WriteSink::new(rt.stdout());
+    let mut report = WriteSink::new(rt.stderr());
+    Status::of(&run_log::<J, _, _, _>(&mut input, &mut output, &mut report))
+}
+
+// Reads the command line, and does what it says.
+fn status_of(rt: &HostRuntime) -> Status {
+    let args = match env::args(rt) {
         Ok(args) => args,
-        Err(error) if error.kind() == ErrorKind::OutOfMemory => return ExitCode::from(NO_MEMORY),
-        Err(_) => return ExitCode::from(NO_FORM),
+        Err(error) if error.kind() == ErrorKind::OutOfMemory => return Status::NoMemory,
+        Err(_) => return Status::NoJob,
     };
     let mut words = Vec::new(rt.alloc());
     for word in args.skip(1) {
         if words.push(word).is_err() {
-            return ExitCode::from(NO_MEMORY);
+            return Status::NoMemory;
         }
     }
-    let mut input = ReadSource::new(rt.stdin());
-    let mut output = WriteSink::new(rt.stdout());
-    let mut report = WriteSink::new(rt.stderr());
-    let status = match form_of(&words) {
-        Some(Form::Ubx) => run_log::<UbxJudge, _, _, _>(&mut input, &mut output, &mut report),
-        Some(Form::Sbf) => run_log::<SbfJudge, _, _, _>(&mut input, &mut output, &mut report),
-        None => NO_FORM,
-    };
-    ExitCode::from(status)
+    match form_of(&words) {
+        Some(Form::Ubx) => run::<UbxJudge>(rt),
+        Some(Form::Sbf) => run::<SbfJudge>(rt),
+        None => Status::NoJob,
+    }
+}
+
+fn main(rt: HostRuntime) -> ExitCode {
+    ExitCode::from(status_of(&rt).number())
 }

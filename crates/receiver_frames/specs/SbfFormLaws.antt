@@ -28,5 +28,5 @@ sbf_is_sync = record {
 pub sbf_is_heading : IsHeading sbf
 sbf_is_heading = sync_is_heading sbf_sync sbf_is_sync
 
-pub sbf_is_short : sbf.longest ≤ 98304
+pub sbf_is_short : sbf.longest ≤ 81920
 sbf_is_short = omega arith

@@ -26,5 +26,5 @@ ubx_is_sync = record {
 pub ubx_is_heading : IsHeading ubx
 ubx_is_heading = sync_is_heading ubx_sync ubx_is_sync
 
-pub ubx_is_short : ubx.longest ≤ 98304
+pub ubx_is_short : ubx.longest ≤ 81920
 ubx_is_short = omega arith

@@ -14,8 +14,8 @@ use crate::search::find;
 use arrayvec::ArrayVec;
 use std::marker::Model;
 
-// The most bytes held.
-const WINDOW: usize = 98_304;
+// The most bytes held before a piece is fed: 16,384 less than there is room for.
+const FULL: usize = 81_920;
 
 /// Takes the bytes of a stream in pieces and gives the messages in them, in order.
 ///
@@ -75,17 +75,14 @@ impl<J: Judge> Deframer<J> {
         }
     }
 
-    /// Takes as many bytes from the start of a piece as there is room for, at least one, and gives
-    /// how many.
+    /// Takes a piece of at most 16,384 bytes.
     ///
     /// Allowed where `may_feed` holds: after `new`, and after each `next_message` that gave
     /// `false`, until `finish` is called.
-    pub fn feed_some(&mut self, piece: &[u8]) -> usize
+    pub fn feed(&mut self, piece: &[u8])
         requires may_feed { MayFeed (format_of J.heading) self.old }
-        requires some { 0 < length piece.now }
-        ensures some { 0 < result }
-        ensures within { result ≤ length piece.now }
-        ensures rest { self.new.rest ≡ self.old.rest ++ take result piece.now }
+        requires short { length piece.now ≤ 16384 }
+        ensures rest { self.new.rest ≡ self.old.rest ++ piece.now }
         ensures finished { self.new.finished ≡ self.old.finished }
     {
         make_room(
@@ -95,9 +92,7 @@ impl<J: Judge> Deframer<J> {
             &mut self.wanted,
         );
         self.found = self.start;
-        let count = piece.len().min(WINDOW - self.bytes.len());
-        append(&mut self.bytes, &piece[..count]);
-        count
+        append(&mut self.bytes, piece);
     }
 
     /// Finds the next message, which `message` then gives, and passes the bytes up to its end;
@@ -176,7 +171,8 @@ fn append(bytes: &mut ArrayVec<u8, 98_304>, piece: &[u8])
     }
 }
 
-// Moves the bytes not yet passed to the start of the buffer, where none are left or it is full.
+// Moves the bytes not yet passed to the start of the buffer, where none are left or a piece has no
+// room behind them.
 fn make_room<J: Judge>(
     bytes: &mut ArrayVec<u8, 98_304>,
     judge: &mut J,
@@ -184,15 +180,15 @@ fn make_room<J: Judge>(
     wanted: &mut usize,
 )
     requires inside { start.old ≤ length bytes.old.items }
-    requires short { length (drop start.old bytes.old.items) < 98304 }
+    requires short { length (drop start.old bytes.old.items) ≤ 81920 }
     requires beside { J.IsBeside judge.old bytes.old.items }
     ensures inside { start.new ≤ length bytes.new.items }
     ensures rest { drop start.new bytes.new.items ≡ drop start.old bytes.old.items }
     ensures wanted { wanted.new - start.new ≡ wanted.old - start.old }
-    ensures room { length bytes.new.items < 98304 }
+    ensures room { length bytes.new.items ≤ 81920 }
     ensures beside { J.IsBeside judge.new bytes.new.items }
 {
-    if *start == bytes.len() || bytes.len() == WINDOW {
+    if *start == bytes.len() || bytes.len() > FULL {
         cut_prefix(bytes, judge, *start);
         *wanted = wanted.saturating_sub(*start);
         *start = 0;

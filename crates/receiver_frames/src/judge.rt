@@ -48,7 +48,7 @@ pub trait Judge: Drop {
 
     ghost is_heading: { IsHeading heading };
 
-    ghost is_short: { heading.longest ≤ 98304 };
+    ghost is_short: { heading.longest ≤ 81920 };
 
     ghost stays: { (judge : Self) (xs ys : List ℕ) → IsBeside judge xs
         → IsBeside judge (xs ++ ys) };

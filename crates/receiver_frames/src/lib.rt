@@ -18,7 +18,7 @@
 //!
 //! ```rust
 //! let mut deframer: UbxDeframer = UbxDeframer::new();
-//! let count = deframer.feed_some(&[0xb5, 0x62, 5, 1, 0, 0, 6, 0x11]);
+//! deframer.feed(&[0xb5, 0x62, 5, 1, 0, 0, 6, 0x11]);
 //! while deframer.next_message() {
 //!     use_payload(payload_of(deframer.message()));
 //! }

@@ -1,63 +1,38 @@
--- Steps of a run over a log: receptions are passed, and their lines written.
-use Rattle.std.proofs.Common.{◌≡◌, ℕ, ◌+◌, Bool, true, false, not, List, [], ◌∷◌, ◌++◌}
-use Rattle.std.proofs.Common.{take, drop, map}
-use Rattle.std.proofs.Common.{refl, sym, ap, subst, ◌∙◌, append-nil, append_assoc}
-use Rattle.std.proofs.KnownBytes.{Appends-trans}
-use Rattle.std.proofs.Math.Seq.{take-add}
-use Rattle.std.proofs.lemmas.List.{take-append-drop}
-use Rattle.std.specs.Prelude.{Option, Some, None, Result, Ok, Err, OnOk, OnErr}
-use Rattle.std.specs.Io.KnownBytes.{Appends}
+-- Steps of a log, one after another: bytes are fed, receptions are passed, and lines wait.
+use Rattle.std.proofs.Common.{◌≡◌, ℕ, ◌+◌, Bool, true, false, List, [], ◌∷◌, ◌++◌, length, map, take, ◌<◌}
+use Rattle.std.proofs.Common.{refl, sym, ap, subst, ◌∙◌, append-nil, append_assoc, arith, length-append}
+use Rattle.std.proofs.KnownBytes.{Appends-trans, Consumes-trans}
+use Rattle.std.specs.Prelude.{Option, Some, None, IsTrue}
+use Rattle.std.specs.Io.KnownBytes.{Appends, Consumes, IsAtEnd, Keeps}
 use Rattle.nav_io.specs.Prefix.{AppendsPrefix}
 use Rattle.receiver_frames.specs.Headings.{Heading, format_of}
 use Rattle.receiver_frames.specs.Messages.{messages, messages_past}
-use Rattle.one_run.proofs.Surface.{prefix_behind, prefix_longer, no_prefix, whole_prefix}
+use Rattle.one_run.proofs.Surface.{prefix_behind}
+use Rattle.one_run.specs.declared.fault.BridgeFault.{BridgeFault}
+use Rattle.one_run.specs.declared.fault.BridgeFault.TheVariants.{ReadFault, WriteFault, ReportFault}
+use Rattle.one_run.specs.declared.fault.BridgeFault.TheVariants.{NotThisForm, TooLong, NoMemory}
 use Rattle.receiver_messages.specs.declared.said.Said.{Said}
 use Rattle.receiver_log.specs.declared.reception.Reception.{Reception}
 use Rattle.receiver_log.specs.declared.state.LogState.{LogState}
 use Rattle.receiver_log.specs.Capture.{counts_after, given, lines_from, refusal_text, refusals_from}
-use Rattle.receiver_log.specs.Capture.{state_after}
+use Rattle.receiver_log.specs.Capture.{state_after, too_many}
 use Rattle.receiver_log.specs.Mirrors.{Place, ahead, fed_with, to_come}
-use Rattle.receiver_log.specs.Steps.{Hears, Passes, Puts, StepTaken, Stops}
+use Rattle.receiver_log.specs.Steps.{Hears, IsOver, LogView, Passes, Reads, Stops, Tells}
 
--- ---- results
+-- ---- known bytes
 
-pub on_ok1 : {T E P R : Type 0} (r : Result T E) → OnOk r P → (P → R) → OnOk r R
-on_ok1 (Ok x) p f = f p
-on_ok1 (Err e) p f = tt
-
-pub on_err1 : {T E P R : Type 0} (r : Result T E) → OnErr r P → (P → R) → OnErr r R
-on_err1 (Ok x) p f = tt
-on_err1 (Err e) p f = f p
-
--- ---- what was written
+pub consumes_none : (left : Option (List ℕ)) → Consumes left left []
+consumes_none None = tt
+consumes_none (Some xs) = refl
 
 pub appends_none : (old : Option (List ℕ)) → Appends old old []
 appends_none None = tt
 appends_none (Some xs) = sym (append-nil xs)
 
-pub puts_none : (w : Option (List ℕ)) (lines : List ℕ) → Puts w w lines lines
-puts_none w lines = record { put = []; grew = appends_none w; parts = refl }
-
-pub puts_all : (w w1 : Option (List ℕ)) (lines rest : List ℕ) → Appends w w1 lines → rest ≡ []
-    → Puts w w1 lines rest
-puts_all w w1 lines rest grew none =
-    record { put = lines; grew = grew; parts = sym (ap (λ t. lines ++ t) none ∙ append-nil lines) }
-
-puts_more : (w w1 w2 : Option (List ℕ)) (a b c d : List ℕ) → Puts w w1 a b → Puts w1 w2 (b ++ c) d
-    → Puts w w2 (a ++ c) d
-puts_more w w1 w2 a b c d p q = record {
-  put = p.put ++ q.put;
-  grew = Appends-trans w w1 w2 p.put q.put p.grew q.grew;
-  parts = ap (λ t. t ++ c) p.parts ∙ append_assoc p.put b c ∙ ap (λ t. p.put ++ t) q.parts
-      ∙ sym (append_assoc p.put q.put d);
-}
-
-puts_prefix : (w w1 w2 : Option (List ℕ)) (a b c : List ℕ) → Puts w w1 a b
-    → AppendsPrefix w1 w2 (b ++ c)
-    → AppendsPrefix w w2 (a ++ c)
-puts_prefix w w1 w2 a b c p f =
-    subst (AppendsPrefix w w2) (sym (ap (λ t. t ++ c) p.parts ∙ append_assoc p.put b c))
-    (prefix_behind w w1 w2 p.put (b ++ c) p.grew f)
+pub keeps_consumes : (old new : Option (List ℕ)) → Keeps old new → Consumes old new []
+keeps_consumes None new a = tt
+keeps_consumes (Some xs) None a = absurd a
+keeps_consumes (Some xs) (Some ys) a = sym a
 
 -- ---- receptions one after another
 
@@ -69,7 +44,7 @@ lines_on s (r ∷ rs) ys =
     ∙ sym (append_assoc (given s r).text (lines_from (given s r).state rs)
     (lines_from (state_after (given s r).state rs) ys))
 
-refusals_on : (s : LogState) (xs ys : List Reception)
+pub refusals_on : (s : LogState) (xs ys : List Reception)
     → refusals_from s (xs ++ ys) ≡ refusals_from s xs ++ refusals_from (state_after s xs) ys
 refusals_on s [] ys = refl
 refusals_on s (r ∷ rs) ys =
@@ -82,285 +57,253 @@ state_on : (s : LogState) (xs ys : List Reception)
 state_on s [] ys = refl
 state_on s (r ∷ rs) ys = state_on (given s r).state rs ys
 
--- the lines of the first of some receptions are a prefix of the lines of all
-pub lines_prefix : (s : LogState) (xs ys : List Reception) (w w1 : Option (List ℕ))
-    → AppendsPrefix w w1 (lines_from s xs) → AppendsPrefix w w1 (lines_from s (xs ++ ys))
-lines_prefix s xs ys w w1 f =
-    subst (AppendsPrefix w w1) (sym (lines_on s xs ys))
-    (prefix_longer w w1 (lines_from s xs) _ f)
+-- ---- what is said of the report
 
-pub refusals_prefix : (s : LogState) (xs ys : List Reception) (r r1 : Option (List ℕ))
-    → AppendsPrefix r r1 (refusals_from s xs) → AppendsPrefix r r1 (refusals_from s (xs ++ ys))
-refusals_prefix s xs ys r r1 f =
-    subst (AppendsPrefix r r1) (sym (refusals_on s xs ys))
-    (prefix_longer r r1 (refusals_from s xs) _ f)
+-- what is said of both parts of a text is said of the whole
+abbrev pub Joins : (p q r : List ℕ → Type 0) → Type 0
+Joins p q r = (t u : List ℕ) → p t → q u → r (t ++ u)
+
+pub both_told : (r r1 r2 : Option (List ℕ)) → Joins (Appends r r1) (Appends r1 r2) (Appends r r2)
+both_told r r1 r2 t u = Appends-trans r r1 r2 t u
+
+pub part_told : (r r1 r2 : Option (List ℕ))
+    → Joins (Appends r r1) (AppendsPrefix r1 r2) (AppendsPrefix r r2)
+part_told r r1 r2 t u = prefix_behind r r1 r2 t u
+
+pub none_told : (p : List ℕ → Type 0) → Joins p (λ u. u ≡ []) p
+none_told p t u told none = subst p (sym (ap (λ v. t ++ v) none ∙ append-nil t)) told
+
+pub told_by : (fault : BridgeFault) (r r1 r2 : Option (List ℕ))
+    → Joins (Appends r r1) (Tells fault r1 r2) (Tells fault r r2)
+told_by ReadFault r r1 r2 t u = Appends-trans r r1 r2 t u
+told_by WriteFault r r1 r2 t u = Appends-trans r r1 r2 t u
+told_by ReportFault r r1 r2 t u = prefix_behind r r1 r2 t u
+told_by NotThisForm r r1 r2 t u = Appends-trans r r1 r2 t u
+told_by TooLong r r1 r2 t u = Appends-trans r r1 r2 t u
+told_by NoMemory r r1 r2 t u = Appends-trans r r1 r2 t u
 
 -- ---- steps
 
 module _ (h : Heading) (said : List ℕ → Said) where
-  pub passes_none : (more : Bool) (p : Place) → Passes h said more p p []
-  passes_none more p = record {
-    stream = λ following last. refl;
-    decides = λ on following. refl;
-    counts = λ following last. refl;
+  pub passes_on : (a b c : LogView) (x y : List ℕ) (xs ys : List Reception)
+      → Passes h said a b x xs → Passes h said b c y ys → Passes h said a c (x ++ y) (xs ++ ys)
+  passes_on a b c x y xs ys p q =
+      let behind : (following : List ℕ) → (c.ended ≡ true → following ≡ [])
+      → b.ended ≡ true → y ++ following ≡ [] =
+      λ following last over. let both = q.stays over in rw (both.1, last both.0) refl in
+      record {
+        stream = λ following last.
+            ap (λ t. ahead h said false a.place t) (append_assoc x y following)
+            ∙ p.stream (y ++ following) (behind following last)
+            ∙ ap (λ t. xs ++ t) (q.stream following last)
+            ∙ sym (append_assoc xs ys (ahead h said false c.place following));
+        decides = λ on following.
+            ap (λ t. ahead h said true a.place t) (append_assoc x y following)
+            ∙ p.decides (still on) (y ++ following)
+            ∙ ap (λ t. xs ++ t) (q.decides on following)
+            ∙ sym (append_assoc xs ys (ahead h said true c.place following));
+        counts = λ following last.
+            ap (λ t. counts_after said a.place.counts (messages (format_of h) (a.place.rest ++ t)))
+            (append_assoc x y following)
+            ∙ p.counts (y ++ following) (behind following last) ∙ q.counts following last;
+        stays = λ over.
+            let first = p.stays over in
+            let second = q.stays first.0 in
+            (second.0, rw (first.1, second.1) refl);
+      }
+    where
+      by_end : (f : Bool) → (f ≡ true → c.ended ≡ true) → c.ended ≡ false → f ≡ false
+      by_end false over on = refl
+      by_end true over on = let no : true ≡ false = sym (over refl) ∙ on in cc
+
+      still : c.ended ≡ false → b.ended ≡ false
+      still = by_end b.ended (λ over. (q.stays over).0)
+
+  pub hears_nothing : (a : LogView) (lines : List ℕ) (p : List ℕ → Type 0) → p []
+      → Hears h said a a [] lines lines p
+  hears_nothing a lines p told = record {
+    heard = [];
+    passes = record {
+      stream = λ following last. refl;
+      decides = λ on following. refl;
+      counts = λ following last. refl;
+      stays = λ over. (over, refl);
+    };
+    state_is = refl;
+    lines_are = sym (append-nil lines);
+    told = told;
   }
 
-  passes_on : (more : Bool) (a b d : Place) (xs ys : List Reception) → Passes h said more a b xs
-      → Passes h said more b d ys → Passes h said more a d (xs ++ ys)
-  passes_on more a b d xs ys x y = record {
-    stream = λ following last.
-        x.stream following last ∙ ap (λ t. xs ++ t) (y.stream following last)
-        ∙ sym (append_assoc xs ys (ahead h said false d following));
-    decides = λ on following.
-        x.decides on following ∙ ap (λ t. xs ++ t) (y.decides on following)
-        ∙ sym (append_assoc xs ys (ahead h said true d following));
-    counts = λ following last. x.counts following last ∙ y.counts following last;
+  -- the lines were removed
+  pub hears_cleared : (a b : LogView) (lines : List ℕ) (p : List ℕ → Type 0) → b ≡ a → lines ≡ []
+      → p [] → Hears h said a b [] [] lines p
+  hears_cleared a b lines p same none told = rw (same, none) (hears_nothing a [] p told)
+
+  pub hears_on : (a b c : LogView) (x y l l1 l2 : List ℕ) (p q r : List ℕ → Type 0) → Joins p q r
+      → Hears h said a b x l l1 p → Hears h said b c y l1 l2 q
+      → Hears h said a c (x ++ y) l l2 r
+  hears_on a b c x y l l1 l2 p q r join m n = record {
+    heard = m.heard ++ n.heard;
+    passes = passes_on a b c x y m.heard n.heard m.passes n.passes;
+    state_is = n.state_is ∙ ap (λ s. state_after s n.heard) m.state_is
+        ∙ sym (state_on a.state m.heard n.heard);
+    lines_are = n.lines_are ∙ ap (λ t. t ++ lines_from b.state n.heard) m.lines_are
+        ∙ append_assoc l (lines_from a.state m.heard) (lines_from b.state n.heard)
+        ∙ ap (λ s. l ++ (lines_from a.state m.heard ++ lines_from s n.heard)) m.state_is
+        ∙ ap (λ t. l ++ t) (sym (lines_on a.state m.heard n.heard));
+    told = subst r (ap (λ s. refusals_from a.state m.heard ++ refusals_from s n.heard) m.state_is
+        ∙ sym (refusals_on a.state m.heard n.heard)) (join _ _ m.told n.told);
   }
 
-  pub ahead_fed : (more : Bool) (a : Place) (p following : List ℕ)
-      → ahead h said more (fed_with a p) following ≡ ahead h said more a (p ++ following)
+  -- lines that were written stand before those that wait
+  pub hears_behind : (a b : LogView) (x l text : List ℕ) (p : List ℕ → Type 0)
+      → Hears h said a b x [] l p → Hears h said a b x text (text ++ l) p
+  hears_behind a b x l text p m = record {
+    heard = m.heard;
+    passes = m.passes;
+    state_is = m.state_is;
+    lines_are = ap (λ t. text ++ t) m.lines_are;
+    told = m.told;
+  }
+
+  -- nothing was read
+  pub reads_none : (a b : LogView) (left : Option (List ℕ)) (l l1 : List ℕ) (p : List ℕ → Type 0)
+      → b.taken ≡ a.taken → b.ended ≡ a.ended → Hears h said a b [] l l1 p
+      → Reads h said a b left left l l1 p
+  reads_none a b left l l1 p taken ended m = record {
+    bytes = [];
+    consumes = consumes_none left;
+    size = omega (arith, taken);
+    end = λ over known. rw taken (known (sym ended ∙ over));
+    hears = m;
+  }
+
+  pub reads_on : (a b c : LogView) (left left1 left2 : Option (List ℕ)) (l l1 l2 : List ℕ)
+      (p q r : List ℕ → Type 0) → Joins p q r
+      → Reads h said a b left left1 l l1 p → Reads h said b c left1 left2 l1 l2 q
+      → Reads h said a c left left2 l l2 r
+  reads_on a b c left left1 left2 l l1 l2 p q r join m n = record {
+    bytes = m.bytes ++ n.bytes;
+    consumes = Consumes-trans left left1 left2 m.bytes n.bytes m.consumes n.consumes;
+    size = omega (arith, m.size, n.size, length-append m.bytes n.bytes);
+    end = λ over known. n.end over (λ before. m.end before known);
+    hears = hears_on a b c m.bytes n.bytes l l1 l2 p q r join m.hears n.hears;
+  }
+
+  -- messages were taken, where no line waited
+  pub reads_took : (a b c : LogView) (left left1 : Option (List ℕ)) (l l1 l2 : List ℕ)
+      (p q r : List ℕ → Type 0) → Joins p q r → l1 ≡ [] → Reads h said a b left left1 l l1 p
+      → c.taken ≡ b.taken → c.ended ≡ b.ended → Hears h said b c [] [] l2 q
+      → Reads h said a c left left1 l l2 r
+  reads_took a b c left left1 l l1 l2 p q r join none m taken ended n =
+      reads_on a b c left left1 left1 l l1 l2 p q r join m
+      (reads_none b c left1 l1 l2 q taken ended
+      (subst (λ t. Hears h said b c [] t l2 q) (sym none) n))
+
+  -- bytes were read
+  pub reads_more : (a b c : LogView) (left left1 left2 : Option (List ℕ)) (l l1 l2 : List ℕ)
+      (p : List ℕ → Type 0) → Reads h said a b left left1 l l1 p
+      → Reads h said b c left1 left2 l1 l2 (λ text. text ≡ [])
+      → Reads h said a c left left2 l l2 p
+  reads_more a b c left left1 left2 l l1 l2 p m n =
+      reads_on a b c left left1 left2 l l1 l2 p (λ text. text ≡ []) p (none_told p) m n
+
+  ahead_fed : (more : Bool) (a : Place) (p following : List ℕ)
+      → ahead h said more a (p ++ following) ≡ ahead h said more (fed_with a p) following
   ahead_fed more a p following = ap
       (λ t. to_come more a.queue a.counts.messages (map said (messages_past (format_of h) more t 0)))
-      (append_assoc a.rest p following)
+      (sym (append_assoc a.rest p following))
 
-  counts_fed : (a : Place) (p following : List ℕ)
-      → counts_after said a.counts (messages (format_of h) ((fed_with a p).rest ++ following))
-      ≡ counts_after said a.counts (messages (format_of h) (a.rest ++ (p ++ following)))
-  counts_fed a p following =
-      ap (λ t. counts_after said a.counts (messages (format_of h) t))
-      (append_assoc a.rest p following)
-
-  passes_fed : (a b : Place) (p : List ℕ) (xs : List Reception) → Passes h said true a b xs
-      → Passes h said true (fed_with a p) (fed_with b p) xs
-  passes_fed a b p xs x = record {
-    stream = λ following last.
-        ahead_fed false a p following ∙ x.stream (p ++ following) (λ e. cc e)
-        ∙ ap (λ t. xs ++ t) (sym (ahead_fed false b p following));
-    decides = λ on following.
-        ahead_fed true a p following ∙ x.decides on (p ++ following)
-        ∙ ap (λ t. xs ++ t) (sym (ahead_fed true b p following));
-    counts = λ following last.
-        counts_fed a p following ∙ x.counts (p ++ following) (λ e. cc e)
-        ∙ sym (counts_fed b p following);
+  -- these bytes were read and fed, or the end was found
+  pub reads_fed : (a b : LogView) (left left1 : Option (List ℕ)) (bytes l : List ℕ)
+      → Consumes left left1 bytes → b.place ≡ fed_with a.place bytes → b.state ≡ a.state
+      → b.taken ≡ a.taken + length bytes → a.ended ≡ false
+      → (b.ended ≡ true → IsOver left1 b.taken)
+      → Reads h said a b left left1 l l (λ text. text ≡ [])
+  reads_fed a b left left1 bytes l consumes place state size on end = record {
+    bytes = bytes;
+    consumes = consumes;
+    size = size;
+    end = λ over known. end over;
+    hears = record {
+      heard = [];
+      passes = record {
+        stream = λ following last. rw place (ahead_fed false a.place bytes following);
+        decides = λ still following. rw place (ahead_fed true a.place bytes following);
+        counts = λ following last. rw place
+            (ap (λ t. counts_after said a.place.counts (messages (format_of h) t))
+            (sym (append_assoc a.place.rest bytes following)));
+        stays = λ over. cc (over, on);
+      };
+      state_is = state;
+      lines_are = sym (append-nil l);
+      told = refl;
+    };
   }
 
-  pub hears_nothing : (more : Bool) (p : Place) (s : LogState) (w r : Option (List ℕ))
-      (lines : List ℕ)
-      → Hears h said more p p s s w w lines lines r r
-  hears_nothing more p s w r lines = record {
-    heard = [];
-    passes = passes_none more p;
-    state_is = refl;
-    puts = subst (λ t. Puts w w t lines) (sym (append-nil lines)) (puts_none w lines);
-    told = appends_none r;
-  }
+  -- the end was found
+  pub reads_end : (a b : LogView) (left left1 : Option (List ℕ)) (n : ℕ) (piece l : List ℕ)
+      → n ≡ 0 → Consumes left left1 (take n piece) → (n ≡ 0 → IsAtEnd left1)
+      → b.place ≡ a.place → b.state ≡ a.state → b.taken ≡ a.taken → a.ended ≡ false
+      → a.taken < too_many → Reads h said a b left left1 l l (λ text. text ≡ [])
+  reads_end a b left left1 n piece l zero consumes end place state taken on few =
+      reads_fed a b left left1 [] l (subst (λ (k : ℕ). Consumes left left1 (take k piece)) zero consumes)
+      (place ∙ ap (λ t. record { rest = t; queue = a.place.queue; counts = a.place.counts })
+      (sym (append-nil a.place.rest))) state (omega (arith, taken)) on
+      (λ over. (end zero, rw taken few))
 
-  -- both runs of receptions
-  lines_both : (s s1 : LogState) (l : List ℕ) (xs ys : List Reception) → s1 ≡ state_after s xs
-      → (l ++ lines_from s xs) ++ lines_from s1 ys ≡ l ++ lines_from s (xs ++ ys)
-  lines_both s s1 l xs ys is =
-      append_assoc l (lines_from s xs) (lines_from s1 ys)
-      ∙ ap (λ t. l ++ (lines_from s xs ++ lines_from t ys)) is
-      ∙ ap (λ t. l ++ t) (sym (lines_on s xs ys))
-
-  told_both : (s s1 : LogState) (xs ys : List Reception) → s1 ≡ state_after s xs
-      → refusals_from s xs ++ refusals_from s1 ys ≡ refusals_from s (xs ++ ys)
-  told_both s s1 xs ys is =
-      ap (λ t. refusals_from s xs ++ refusals_from t ys) is ∙ sym (refusals_on s xs ys)
-
-  pub hears_on : (more : Bool) (a b d : Place) (s s1 s2 : LogState) (w w1 w2 : Option (List ℕ))
-      (l l1 l2 : List ℕ) (r r1 r2 : Option (List ℕ))
-      → Hears h said more a b s s1 w w1 l l1 r r1 → Hears h said more b d s1 s2 w1 w2 l1 l2 r1 r2
-      → Hears h said more a d s s2 w w2 l l2 r r2
-  hears_on more a b d s s1 s2 w w1 w2 l l1 l2 r r1 r2 x y = record {
-    heard = x.heard ++ y.heard;
-    passes = passes_on more a b d x.heard y.heard x.passes y.passes;
-    state_is = y.state_is ∙ ap (λ t. state_after t y.heard) x.state_is
-        ∙ sym (state_on s x.heard y.heard);
-    puts = subst (λ t. Puts w w2 t l2) (lines_both s s1 l x.heard y.heard x.state_is)
-        (puts_more w w1 w2 (l ++ lines_from s x.heard) l1 (lines_from s1 y.heard) l2 x.puts y.puts);
-    told = subst (Appends r r2) (told_both s s1 x.heard y.heard x.state_is)
-        (Appends-trans r r1 r2 (refusals_from s x.heard) (refusals_from s1 y.heard) x.told y.told);
-  }
-
-  -- a step
-  pub hears_step : (more : Bool) (a b d : Place) (s s1 s2 : LogState) (w w1 w2 : Option (List ℕ))
-      (l l1 l2 l3 report : List ℕ) (r r1 r2 : Option (List ℕ))
-      → Hears h said more a b s s1 w w1 l l1 r r1 → StepTaken h said more b d s1 s2 l1 l2 report
-      → Appends r1 r2 report → Puts w1 w2 l2 l3
-      → Hears h said more a d s s2 w w2 l l3 r r2
-  hears_step more a b d s s1 s2 w w1 w2 l l1 l2 l3 report r r1 r2 x y told puts =
-      hears_on more a b d s s1 s2 w w1 w2 l l1 l3 r r1 r2 x (record {
-        heard = y.heard;
-        passes = y.passes;
-        state_is = y.state_is;
-        puts = subst (λ t. Puts w1 w2 t l3) y.lines_are puts;
-        told = subst (Appends r1 r2) y.report_is told;
-      })
-
-  -- bytes were fed
-  pub hears_fed : (a b : Place) (p : List ℕ) (s s1 : LogState) (w w1 : Option (List ℕ))
-      (l l1 : List ℕ) (r r1 : Option (List ℕ))
-      → Hears h said true a b s s1 w w1 l l1 r r1
-      → Hears h said true (fed_with a p) (fed_with b p) s s1 w w1 l l1 r r1
-  hears_fed a b p s s1 w w1 l l1 r r1 x = record {
-    heard = x.heard;
-    passes = passes_fed a b p x.heard x.passes;
-    state_is = x.state_is;
-    puts = x.puts;
-    told = x.told;
-  }
+  -- nothing was read, where a read failed
+  pub reads_failed : (a b : LogView) (left left1 : Option (List ℕ)) (l : List ℕ)
+      → Keeps left left1 → b ≡ a → a.ended ≡ false
+      → Reads h said a b left left1 l l (λ text. text ≡ [])
+  reads_failed a b left left1 l keeps same on = rw same (record {
+    bytes = [];
+    consumes = keeps_consumes left left1 keeps;
+    size = omega arith;
+    end = λ over. cc (over, on);
+    hears = hears_nothing a l (λ text. text ≡ []) refl;
+  })
 
   -- ---- a fault
 
-  pub stops_on : (more : Bool) (a b : Place) (s s1 : LogState) (w w1 w2 : Option (List ℕ))
-      (l l1 : List ℕ) (r r1 r2 : Option (List ℕ))
-      → Hears h said more a b s s1 w w1 l l1 r r1 → Stops h said more b s1 w1 w2 l1 r1 r2
-      → Stops h said more a s w w2 l r r2
-  stops_on more a b s s1 w w1 w2 l l1 r r1 r2 x y = record {
-    heard = x.heard ++ y.heard;
-    stream = λ following last. (
-      (y.stream following last).0,
-      x.passes.stream following last ∙ ap (λ t. x.heard ++ t) (y.stream following last).1
-          ∙ sym (append_assoc x.heard y.heard (y.stream following last).0),
-    );
-    put = subst (AppendsPrefix w w2) (lines_both s s1 l x.heard y.heard x.state_is)
-        (puts_prefix w w1 w2 (l ++ lines_from s x.heard) l1 (lines_from s1 y.heard) x.puts y.put);
-    told = subst (AppendsPrefix r r2) (told_both s s1 x.heard y.heard x.state_is)
-        (prefix_behind r r1 r2 (refusals_from s x.heard) (refusals_from s1 y.heard) x.told y.told);
-  }
-
-  -- at a step whose report, or whose lines, failed
-  pub stops_step : (more : Bool) (a b d : Place) (s s1 s2 : LogState) (w w1 w2 : Option (List ℕ))
-      (l l1 l2 report : List ℕ) (r r1 r2 : Option (List ℕ))
-      → Hears h said more a b s s1 w w1 l l1 r r1 → StepTaken h said more b d s1 s2 l1 l2 report
-      → AppendsPrefix w1 w2 l2 → AppendsPrefix r1 r2 report
-      → Stops h said more a s w w2 l r r2
-  stops_step more a b d s s1 s2 w w1 w2 l l1 l2 report r r1 r2 x y put told =
-      stops_on more a b s s1 w w1 w2 l l1 r r1 r2 x (record {
-        heard = y.heard;
-        stream = λ following last.
-            (ahead h said false d following, y.passes.stream following last);
-        put = subst (AppendsPrefix w1 w2) y.lines_are put;
-        told = subst (AppendsPrefix r1 r2) y.report_is told;
-      })
-
-  pub stops_told : (more : Bool) (a b d : Place) (s s1 s2 : LogState) (w w1 : Option (List ℕ))
-      (l l1 l2 report : List ℕ) (r r1 r2 : Option (List ℕ))
-      → Hears h said more a b s s1 w w1 l l1 r r1 → StepTaken h said more b d s1 s2 l1 l2 report
-      → AppendsPrefix r1 r2 report
-      → Stops h said more a s w w1 l r r2
-  stops_told more a b d s s1 s2 w w1 l l1 l2 report r r1 r2 x y told =
-      stops_step more a b d s s1 s2 w w1 w1 l l1 l2 report r r1 r2 x y (no_prefix w1 l2) told
-
-  pub stops_put : (more : Bool) (a b d : Place) (s s1 s2 : LogState) (w w1 w2 : Option (List ℕ))
-      (l l1 l2 report : List ℕ) (r r1 r2 : Option (List ℕ))
-      → Hears h said more a b s s1 w w1 l l1 r r1 → StepTaken h said more b d s1 s2 l1 l2 report
-      → Appends r1 r2 report → AppendsPrefix w1 w2 l2
-      → Stops h said more a s w w2 l r r2
-  stops_put more a b d s s1 s2 w w1 w2 l l1 l2 report r r1 r2 x y told put =
-      stops_step more a b d s s1 s2 w w1 w2 l l1 l2 report r r1 r2 x y put
-      (whole_prefix r1 r2 report told)
-
-  -- more bytes follow
-  pub stops_fed : (a : Place) (p : List ℕ) (s : LogState) (w w1 : Option (List ℕ)) (l : List ℕ)
+  -- one of the report is not one of a read
+  fault_told : (fault : BridgeFault) (a : LogView) (never : Bool) (reads reads1 : ℕ)
       (r r1 : Option (List ℕ))
-      → Stops h said true a s w w1 l r r1 → Stops h said true (fed_with a p) s w w1 l r r1
-  stops_fed a p s w w1 l r r1 x = record {
-    heard = x.heard;
-    stream = λ following last. (
-      (x.stream (p ++ following) (λ e. cc e)).0,
-      ahead_fed false a p following ∙ (x.stream (p ++ following) (λ e. cc e)).1,
-    );
-    put = x.put;
-    told = x.told;
-  }
+      → Stops h said a [] never reads reads1 0 0 fault
+      → Joins (Appends r r1) (λ u. u ≡ []) (Tells fault r r1)
+  fault_told ReadFault a never reads reads1 r r1 stops = none_told (Appends r r1)
+  fault_told WriteFault a never reads reads1 r r1 stops = absurd stops
+  fault_told ReportFault a never reads reads1 r r1 stops = absurd (omega (arith, stops))
+  fault_told NotThisForm a never reads reads1 r r1 stops = absurd stops
+  fault_told TooLong a never reads reads1 r r1 stops = none_told (Appends r r1)
+  fault_told NoMemory a never reads reads1 r r1 stops = absurd stops
 
-  -- receptions that were passed are the first, whatever follows
-  pub stops_of : (more : Bool) (a b : Place) (s s1 : LogState) (w w1 : Option (List ℕ))
-      (l : List ℕ) (r r1 : Option (List ℕ))
-      → Hears h said more a b s s1 w w1 l [] r r1 → Stops h said more a s w w1 l r r1
-  stops_of more a b s s1 w w1 l r r1 x =
-      stops_on more a b s s1 w w1 w1 l [] r r1 r1 x (record {
-        heard = [];
-        stream = λ following last. (ahead h said false b following, refl);
-        put = no_prefix w1 [];
-        told = no_prefix r1 [];
-      })
+  pub reads_stopped : (fault : BridgeFault) (a b c : LogView) (left left1 left2 : Option (List ℕ))
+      (l l1 l2 : List ℕ) (r r1 : Option (List ℕ)) (never : Bool) (reads reads1 : ℕ)
+      → Reads h said a b left left1 l l1 (Appends r r1)
+      → Reads h said b c left1 left2 l1 l2 (λ text. text ≡ [])
+      → Stops h said c [] never reads reads1 0 0 fault
+      → Reads h said a c left left2 l l2 (Tells fault r r1)
+  reads_stopped fault a b c left left1 left2 l l1 l2 r r1 never reads reads1 m n stops =
+      reads_on a b c left left1 left2 l l1 l2 (Appends r r1) (λ text. text ≡ []) (Tells fault r r1)
+      (fault_told fault c never reads reads1 r r1 stops) m n
 
-  -- ---- a part of a piece
-
-  fed_part : (a : Place) (piece : List ℕ) (fed n : ℕ)
-      → fed_with (fed_with a (take fed piece)) (take n (drop fed piece))
-      ≡ fed_with a (take (fed + n) piece)
-  fed_part a piece fed n = ap
-      (λ t. record { rest = t; queue = a.queue; counts = a.counts })
-      (append_assoc a.rest (take fed piece) (take n (drop fed piece))
-      ∙ ap (λ t. a.rest ++ t) (sym (take-add fed n piece)))
-
-  pub hears_part : (a : Place) (piece : List ℕ) (fed n : ℕ) (b b1 d : Place) (finished : Bool)
-      (s s1 now s2 : LogState) (w w1 w2 r r1 r2 : Option (List ℕ))
-      → Hears h said true (fed_with a (take fed piece)) b s s1 w w1 [] [] r r1
-      → b1 ≡ fed_with b (take n (drop fed piece)) → finished ≡ false → now ≡ s1
-      → Hears h said (not finished) b1 d now s2 w1 w2 [] [] r1 r2
-      → Hears h said true (fed_with a (take (fed + n) piece)) d s s2 w w2 [] [] r r2
-  hears_part a piece fed n b b1 d finished s s1 now s2 w w1 w2 r r1 r2 x fed_is still same y =
-      let p = take n (drop fed piece) in
-      let more : Hears h said true (fed_with b p) d s1 s2 w1 w2 [] [] r1 r2 =
-      subst (λ t. Hears h said true t d s1 s2 w1 w2 [] [] r1 r2) fed_is
-      (subst (λ t. Hears h said (not t) b1 d s1 s2 w1 w2 [] [] r1 r2) still
-      (subst (λ t. Hears h said (not finished) b1 d t s2 w1 w2 [] [] r1 r2) same y)) in
-      subst (λ t. Hears h said true t d s s2 w w2 [] [] r r2) (fed_part a piece fed n)
-      (hears_on true (fed_with (fed_with a (take fed piece)) p) (fed_with b p) d s s1 s2
-      w w1 w2 [] [] [] r r1 r2
-      (hears_fed (fed_with a (take fed piece)) b p s s1 w w1 [] [] r r1 x) more)
-
-  pub stops_part : (a : Place) (piece : List ℕ) (fed n : ℕ) (b b1 : Place) (finished : Bool)
-      (s s1 now : LogState) (w w1 w2 r r1 r2 : Option (List ℕ))
-      → Hears h said true (fed_with a (take fed piece)) b s s1 w w1 [] [] r r1
-      → b1 ≡ fed_with b (take n (drop fed piece)) → finished ≡ false → now ≡ s1
-      → Stops h said (not finished) b1 now w1 w2 [] r1 r2
-      → Stops h said true (fed_with a piece) s w w2 [] r r2
-  stops_part a piece fed n b b1 finished s s1 now w w1 w2 r r1 r2 x fed_is still same y =
-      let p = take n (drop fed piece) in
-      let more : Stops h said true (fed_with b p) s1 w1 w2 [] r1 r2 =
-      subst (λ t. Stops h said true t s1 w1 w2 [] r1 r2) fed_is
-      (subst (λ t. Stops h said (not t) b1 s1 w1 w2 [] r1 r2) still
-      (subst (λ t. Stops h said (not finished) b1 t w1 w2 [] r1 r2) same y)) in
-      let part : Stops h said true (fed_with a (take (fed + n) piece)) s w w2 [] r r2 =
-      subst (λ t. Stops h said true t s w w2 [] r r2) (fed_part a piece fed n)
-      (stops_on true (fed_with (fed_with a (take fed piece)) p) (fed_with b p) s s1
-      w w1 w2 [] [] r r1 r2
-      (hears_fed (fed_with a (take fed piece)) b p s s1 w w1 [] [] r r1 x) more) in
-      subst (λ t. Stops h said true t s w w2 [] r r2)
-      (ap (λ t. record { rest = t; queue = a.queue; counts = a.counts })
-      (append_assoc a.rest (take (fed + n) piece) (drop (fed + n) piece)
-      ∙ ap (λ t. a.rest ++ t) (take-append-drop (fed + n) piece)))
-      (stops_fed (fed_with a (take (fed + n) piece)) (drop (fed + n) piece) s w w2 [] r r2 part)
-
-  -- ---- in the words of the contracts
-
-  pub same_more : (f g : Bool) (b d : Place) (s s1 : LogState) (l l1 report : List ℕ) → f ≡ g
-      → StepTaken h said (not f) b d s s1 l l1 report
-      → StepTaken h said (not g) b d s s1 l l1 report
-  same_more f g b d s s1 l l1 report same x =
-      subst (λ (m : Bool). StepTaken h said (not m) b d s s1 l l1 report) same x
-
-  -- nothing more is decided, and the lines that waited are written
-  pub hears_last : (more : Bool) (a b d : Place) (s s1 s2 : LogState) (w w1 w2 : Option (List ℕ))
-      (l l1 l2 : List ℕ) (r r1 : Option (List ℕ))
-      → Hears h said more a b s s1 w w1 l l1 r r1 → StepTaken h said more b d s1 s2 l1 l2 []
-      → Appends w1 w2 l2
-      → Hears h said more a d s s2 w w2 l [] r r1
-  hears_last more a b d s s1 s2 w w1 w2 l l1 l2 r r1 x y text =
-      hears_step more a b d s s1 s2 w w1 w2 l l1 l2 [] [] r r1 r1 x y (appends_none r1)
-      (puts_all w1 w2 l2 [] text refl)
-
-  -- or not written
-  pub stops_last : (more : Bool) (a b d : Place) (s s1 s2 : LogState) (w w1 w2 : Option (List ℕ))
-      (l l1 l2 : List ℕ) (r r1 : Option (List ℕ))
-      → Hears h said more a b s s1 w w1 l l1 r r1 → StepTaken h said more b d s1 s2 l1 l2 []
-      → AppendsPrefix w1 w2 l2
-      → Stops h said more a s w w2 l r r1
-  stops_last more a b d s s1 s2 w w1 w2 l l1 l2 r r1 x y put =
-      stops_step more a b d s s1 s2 w w1 w2 l l1 l2 [] r r1 r1 x y put (no_prefix r1 [])
+  -- counted from before
+  pub stops_from : (fault : BridgeFault) (a : LogView) (waiting : List ℕ) (never never0 : Bool)
+      (reads reads0 reads1 reports reports0 reports1 : ℕ)
+      → reads ≡ reads0 → reports ≡ reports0 → (IsTrue never0 → IsTrue never)
+      → Stops h said a waiting never reads reads1 reports reports1 fault
+      → Stops h said a waiting never0 reads0 reads1 reports0 reports1 fault
+  stops_from ReadFault a waiting never never0 reads reads0 reads1 reports reports0 reports1 same told
+      quiet (rose, later, cannot, rest, on, idle) =
+      (rw (← same) rose, rw (← same) later, λ still. cannot (quiet still), rest, on, idle)
+  stops_from WriteFault a waiting never never0 reads reads0 reads1 reports reports0 reports1 same told
+      quiet stops = stops
+  stops_from ReportFault a waiting never never0 reads reads0 reads1 reports reports0 reports1 same told
+      quiet stops = rw (← told) stops
+  stops_from NotThisForm a waiting never never0 reads reads0 reads1 reports reports0 reports1 same told
+      quiet stops = stops
+  stops_from TooLong a waiting never never0 reads reads0 reads1 reports reports0 reports1 same told
+      quiet (kept, many) = (kept ∙ same, many)
+  stops_from NoMemory a waiting never never0 reads reads0 reads1 reports reports0 reports1 same told
+      quiet stops = stops

@@ -1,12 +1,13 @@
 -- The capture of a log, and its report.
-use Rattle.std.specs.Prelude.{ℕ, List, [], ◌∷◌, ◌++◌, length, codes, Option, Some, None}
+use Rattle.std.specs.Prelude.{ℕ, ◌-◌, ◌^◌, true, false, List, [], ◌∷◌, ◌++◌, length, codes, Option, Some, None}
 use Rattle.receiver_frames.specs.Messages.{messages, decided}
 use Rattle.receiver_frames.specs.Headings.{Heading, format_of}
 use Rattle.one_run.specs.Reports.{report_line}
+use Rattle.one_run.specs.Runs.{Meaning, no_least}
 use Rattle.receiver_messages.specs.declared.said.Reason.{Reason}
 use Rattle.receiver_messages.specs.declared.said.Said.{Said}
 use Rattle.receiver_log.specs.declared.reception.Reception.{Reception}
-use Rattle.receiver_log.specs.declared.state.Counts.{Counts}
+use Rattle.receiver_log.specs.declared.state.LogCounts.{LogCounts}
 use Rattle.receiver_log.specs.declared.state.LogState.{LogState}
 use Rattle.receiver_log.specs.declared.state.MessageCounts.{MessageCounts}
 use Rattle.receiver_log.specs.Log.{LinesGiven, begun, counted, given_at, none_counted}
@@ -47,7 +48,7 @@ counts_after said c [] = c
 counts_after said c (m ∷ ms) = counts_after said (counted c (length m) (said m)) ms
 
 -- the counts of a log's messages, and of what became of its subframes and pages
-abbrev pub counts_of : (List ℕ → Said) → List (List ℕ) → Counts
+abbrev pub counts_of : (List ℕ → Said) → List (List ℕ) → LogCounts
 counts_of said ms = record {
   log = counts_after said none_counted ms;
   capture = (state_after begun (receptions_of said ms)).counts;
@@ -73,3 +74,24 @@ decided_capture heading said bytes =
 abbrev pub decided_report : Heading → (List ℕ → Said) → List ℕ → List ℕ
 decided_report heading said bytes =
     refusals_from begun (decided_receptions said (decided (format_of heading) bytes))
+
+-- the number of bytes at which a log is too long
+abbrev pub too_many : ℕ
+too_many = 2 ^ 64 - 1
+
+-- what a run makes of a log: its capture, its report and its counts. When a read fails, the lines and the refusals of all
+-- that is decided were written
+abbrev pub log_meaning : Heading → (List ℕ → Said) → Meaning LogCounts
+log_meaning heading said = record {
+  reads = true;
+  reports = true;
+  memory = false;
+  limit = too_many;
+  counts = λ bytes. Some (counts_of said (messages (format_of heading) bytes));
+  whole = record { output = capture_of heading said; report = report_of heading said };
+  least = no_least;
+  flushed = Some (record {
+    output = decided_capture heading said;
+    report = decided_report heading said;
+  });
+}

@@ -2,8 +2,6 @@ pub mod Receptions
 pub mod Log
 pub mod Capture
 pub mod Report
-pub mod LogRuns
 pub mod Mirrors
-pub mod LogPlaces
 pub mod Steps
 pub mod LogLeft

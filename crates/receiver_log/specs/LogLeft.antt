@@ -1,13 +1,12 @@
 -- The part of a log's capture that is left, and why a read of it fails.
-use Rattle.std.specs.Prelude.{◌≡◌, ◌≤◌, ℕ, ◌+◌, ◌-◌, ◌*◌, ◌^◌, nat_lt, Bool, false, if◌then◌else◌}
+use Rattle.std.specs.Prelude.{◌≡◌, ◌≤◌, ℕ, ◌+◌, nat_lt, Bool, false, if◌then◌else◌}
 use Rattle.std.specs.Prelude.{List, [], ◌++◌, length, Option, Some, None, Result, OnOk, OnErr, ◌⊎◌, ⊤}
 use Rattle.nav_io.specs.Causes.{Rose}
 use Rattle.receiver_frames.specs.Headings.{Heading}
 use Rattle.receiver_messages.specs.declared.said.Said.{Said}
-use Rattle.receiver_log.specs.declared.state.LogState.{LogState}
-use Rattle.receiver_log.specs.Capture.{capture_of, lines_from}
-use Rattle.receiver_log.specs.LogRuns.{too_many}
-use Rattle.receiver_log.specs.Mirrors.{Place, ahead}
+use Rattle.receiver_log.specs.Capture.{capture_of, lines_from, too_many}
+use Rattle.receiver_log.specs.Mirrors.{ahead}
+use Rattle.receiver_log.specs.Steps.{LogView}
 
 -- the capture of a log's bytes, where they are known
 abbrev pub capture_left : Heading → (List ℕ → Said) → Option (List ℕ) → Option (List ℕ)
@@ -15,23 +14,18 @@ capture_left heading said None = None
 capture_left heading said (Some bytes) = Some (capture_of heading said bytes)
 
 -- what is left of the capture in the middle of a log: lines that wait, then those of the receptions to come, from the
--- bytes held, from the piece read and from what follows; after the end only from the bytes held
-abbrev pub left_of : Heading → (List ℕ → Said) → LogState → List ℕ → Place → Bool → List ℕ
-    → Option (List ℕ) → Option (List ℕ)
-left_of heading said s waiting place finished piece None = None
-left_of heading said s waiting place finished piece (Some following) =
-    Some (waiting ++ lines_from s (ahead heading said false place
-    (if finished then [] else piece ++ following)))
+-- bytes held and from what follows; after the end only from the bytes held
+abbrev pub left_of : Heading → (List ℕ → Said) → LogView → List ℕ → Option (List ℕ)
+    → Option (List ℕ)
+left_of heading said a waiting None = None
+left_of heading said a waiting (Some following) =
+    Some (waiting ++ lines_from a.state (ahead heading said false a.place
+    (if a.ended then [] else following)))
 
 -- the log's bytes are known, and with those read before are fewer than too_many
 abbrev pub is_short : ℕ → Option (List ℕ) → Bool
 is_short taken None = false
 is_short taken (Some bytes) = nat_lt (taken + length bytes) too_many
-
--- A bound on the steps to come: each step reads bytes, feeds bytes that wait, finds the end or gives lines.
-abbrev pub steps_left : ℕ → ℕ → Bool → Bool → ℕ
-steps_left taken waiting finished has_lines =
-    2 * (2 ^ 64 - taken) + waiting + (if finished then 0 else 1) + (if has_lines then 0 else 1)
 
 -- The length of the log, where known, has not changed: bytes read plus bytes left.
 abbrev pub KeepsLength : ℕ → Option (List ℕ) → ℕ → Option (List ℕ) → Type 0

@@ -1,5 +1,5 @@
 -- What is still to come of a log's subframes and pages while messages come; cited by private functions.
-use Rattle.std.specs.Prelude.{ℕ, ◌+◌, ◌*◌, ◌&&◌, Bool, if◌then◌else◌, List, [], ◌∷◌}
+use Rattle.std.specs.Prelude.{ℕ, min, ◌+◌, ◌*◌, ◌&&◌, Bool, if◌then◌else◌, List, [], ◌∷◌}
 use Rattle.std.specs.Prelude.{◌++◌, length, map, Option, Some, None}
 use Rattle.receiver_frames.specs.Headings.{Heading, format_of}
 use Rattle.receiver_frames.specs.Messages.{messages_past}
@@ -83,11 +83,13 @@ ahead h said more p following =
     to_come more p.queue p.counts.messages
     (map said (messages_past (format_of h) more (p.rest ++ following) 0))
 
--- one where a time is not settled
-abbrev pub unsettled : Option (Option ℕ) → ℕ
-unsettled None = 1
-unsettled (Some time) = 0
+-- one where a time is not settled, and so many wait for it
+abbrev pub unsettled : Option (Option ℕ) → ℕ → ℕ
+unsettled None parts = min parts 1
+unsettled (Some time) parts = 0
 
 -- A bound on the steps to come: each passes a message, settles a time, or gives what waited.
 abbrev pub work_left : Place → ℕ
-work_left p = 3 * length p.rest + length p.queue.waiting + unsettled p.queue.settled
+work_left p =
+    3 * length p.rest + length p.queue.waiting
+    + unsettled p.queue.settled (length p.queue.waiting)

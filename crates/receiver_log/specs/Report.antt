@@ -4,7 +4,7 @@ use Rattle.one_run.specs.Reports.{count_line}
 use Rattle.receiver_messages.specs.declared.said.Reason.{Reason}
 use Rattle.receiver_messages.specs.declared.said.Reason.TheVariants.{Length, Satellite, Untimed}
 use Rattle.receiver_messages.specs.declared.said.Reason.TheVariants.{Late, Far}
-use Rattle.receiver_log.specs.declared.state.Counts.{Counts}
+use Rattle.receiver_log.specs.declared.state.LogCounts.{LogCounts}
 
 -- the report's word for a reason
 abbrev pub reason_word : Reason → List ℕ
@@ -15,7 +15,7 @@ reason_word Late = codes "late"
 reason_word Far = codes "far"
 
 -- the nine lines of counts, of a log of this many bytes
-abbrev pub counts_report : Counts → ℕ → List ℕ
+abbrev pub counts_report : LogCounts → ℕ → List ℕ
 counts_report c bytes =
     (((((((count_line (codes "messages") c.log.messages
     ++ count_line (codes "skipped") (bytes - c.log.within))

@@ -1,60 +1,104 @@
--- A run over a log while it reads; cited by private functions.
-use Rattle.std.specs.Prelude.{◌≡◌, ℕ, Bool, true, false, List, [], ◌++◌, Option}
-use Rattle.std.specs.Io.KnownBytes.{Appends}
+-- A log while its bytes are read; cited by private functions.
+use Rattle.std.specs.Prelude.{◌≡◌, ◌≤◌, ◌<◌, ℕ, ◌+◌, ◌-◌, ◌*◌, ◌^◌, Bool, true, false, not, if◌then◌else◌}
+use Rattle.std.specs.Prelude.{List, [], ◌++◌, length, Option, IsTrue}
+use Rattle.std.specs.Io.KnownBytes.{Appends, Consumes, IsAtEnd}
+use Rattle.nav_io.specs.Causes.{Rose}
 use Rattle.nav_io.specs.Prefix.{AppendsPrefix}
-use Rattle.receiver_frames.specs.Messages.{messages}
+use Rattle.one_run.specs.declared.fault.BridgeFault.{BridgeFault}
+use Rattle.one_run.specs.declared.fault.BridgeFault.TheVariants.{ReadFault, ReportFault, TooLong}
 use Rattle.receiver_frames.specs.Headings.{Heading, format_of}
+use Rattle.receiver_frames.specs.Messages.{messages}
+use Rattle.receiver_frames.specs.State.{DeframerState, IsWaiting}
 use Rattle.receiver_messages.specs.declared.said.Said.{Said}
 use Rattle.receiver_log.specs.declared.reception.Reception.{Reception}
 use Rattle.receiver_log.specs.declared.state.LogState.{LogState}
-use Rattle.receiver_log.specs.Capture.{counts_after, lines_from, refusals_from, state_after}
-use Rattle.receiver_log.specs.Mirrors.{Place, ahead}
+use Rattle.receiver_log.specs.declared.state.MessageCounts.{MessageCounts}
+use Rattle.receiver_log.specs.Capture.{counts_after, lines_from, refusals_from, state_after, too_many}
+use Rattle.receiver_log.specs.Log.{begun}
+use Rattle.receiver_log.specs.Mirrors.{Place, QueueState, ahead, start_of, work_left}
 
--- some of the lines that waited were written, and lines_new are left
-pub record Puts (written written_new : Option (List ℕ)) (lines lines_new : List ℕ) : Type 0 where
-  pub put : List ℕ
-  pub grew : Appends written written_new put
-  pub parts : lines ≡ put ++ lines_new
+-- what a contract sees of a log while its bytes come
+pub record LogView : Type 0 where
+  pub place : Place
+  -- whether its end was found
+  pub ended : Bool
+  pub state : LogState
+  -- how many bytes were read
+  pub taken : ℕ
 
--- Receptions were passed: they are the first of those to come, whatever follows, and the counts go on.
-pub record Passes (h : Heading) (said : List ℕ → Said) (more : Bool) (place place_new : Place)
+-- the same by its parts
+abbrev pub view_of : DeframerState → QueueState → MessageCounts → LogState → ℕ → LogView
+view_of held queue counts state taken = record {
+  place = record { rest = held.rest; queue = queue; counts = counts };
+  ended = held.finished;
+  state = state;
+  taken = taken;
+}
+
+-- a log before its first byte
+abbrev pub fresh : LogView
+fresh = record { place = start_of []; ended = false; state = begun; taken = 0 }
+
+-- Receptions were passed while these bytes were fed: they are the first of those to come, whatever follows, and the counts go
+-- on.
+pub record Passes (h : Heading) (said : List ℕ → Said) (a b : LogView) (fed : List ℕ)
     (heard : List Reception) : Type 0 where
-  pub stream : (following : List ℕ) → (more ≡ false → following ≡ [])
-      → ahead h said false place following ≡ heard ++ ahead h said false place_new following
-  pub decides : more ≡ true → (following : List ℕ)
-      → ahead h said true place following ≡ heard ++ ahead h said true place_new following
-  pub counts : (following : List ℕ) → (more ≡ false → following ≡ [])
-      → counts_after said place.counts (messages (format_of h) (place.rest ++ following))
-      ≡ counts_after said place_new.counts
-      (messages (format_of h) (place_new.rest ++ following))
+  pub stream : (following : List ℕ) → (b.ended ≡ true → following ≡ [])
+      → ahead h said false a.place (fed ++ following) ≡ heard ++ ahead h said false b.place following
+  pub decides : b.ended ≡ false → (following : List ℕ)
+      → ahead h said true a.place (fed ++ following) ≡ heard ++ ahead h said true b.place following
+  pub counts : (following : List ℕ) → (b.ended ≡ true → following ≡ [])
+      → counts_after said a.place.counts
+      (messages (format_of h) (a.place.rest ++ (fed ++ following)))
+      ≡ counts_after said b.place.counts (messages (format_of h) (b.place.rest ++ following))
+  pub stays : a.ended ≡ true → (b.ended ≡ true) × (fed ≡ [])
 
--- Receptions were passed; their lines were written, but for those that wait, and their refusals reported.
-pub record Hears (h : Heading) (said : List ℕ → Said) (more : Bool) (place place_new : Place)
-    (s s_new : LogState)
-    (written written_new : Option (List ℕ)) (lines lines_new : List ℕ)
-    (reported reported_new : Option (List ℕ)) : Type 0 where
+-- Receptions were passed; their lines came to those that wait, and this is so of the report of those that were refused.
+pub record Hears (h : Heading) (said : List ℕ → Said) (a b : LogView) (fed lines lines_new : List ℕ)
+    (tells : List ℕ → Type 0) : Type 0 where
   pub heard : List Reception
-  pub passes : Passes h said more place place_new heard
-  pub state_is : s_new ≡ state_after s heard
-  pub puts : Puts written written_new (lines ++ lines_from s heard) lines_new
-  pub told : Appends reported reported_new (refusals_from s heard)
+  pub passes : Passes h said a b fed heard
+  pub state_is : b.state ≡ state_after a.state heard
+  pub lines_are : lines_new ≡ lines ++ lines_from a.state heard
+  pub told : tells (refusals_from a.state heard)
 
--- A step was taken: its lines wait, and this is its report.
-pub record StepTaken (h : Heading) (said : List ℕ → Said) (more : Bool) (place place_new : Place)
-    (s s_new : LogState) (lines lines_new report : List ℕ) : Type 0 where
-  pub heard : List Reception
-  pub passes : Passes h said more place place_new heard
-  pub state_is : s_new ≡ state_after s heard
-  pub lines_are : lines_new ≡ lines ++ lines_from s heard
-  pub report_is : report ≡ refusals_from s heard
+-- all was read, and it was not too much
+abbrev pub IsOver : Option (List ℕ) → ℕ → Type 0
+IsOver left taken = IsAtEnd left × (taken < too_many)
 
--- A run failed: a prefix of the lines that waited and of those of the first receptions to come was written, and a prefix of
--- their refusals reported.
-pub record Stops (h : Heading) (said : List ℕ → Said) (more : Bool) (place : Place) (s : LogState)
-    (written written_new : Option (List ℕ)) (lines : List ℕ)
-    (reported reported_new : Option (List ℕ)) : Type 0 where
-  pub heard : List Reception
-  pub stream : (following : List ℕ) → (more ≡ false → following ≡ [])
-      → (behind : List Reception) × (ahead h said false place following ≡ heard ++ behind)
-  pub put : AppendsPrefix written written_new (lines ++ lines_from s heard)
-  pub told : AppendsPrefix reported reported_new (refusals_from s heard)
+-- the same, where the bytes were read
+pub record Reads (h : Heading) (said : List ℕ → Said) (a b : LogView)
+    (left left_new : Option (List ℕ)) (lines lines_new : List ℕ) (tells : List ℕ → Type 0) :
+    Type 0 where
+  pub bytes : List ℕ
+  pub consumes : Consumes left left_new bytes
+  pub size : b.taken ≡ a.taken + length bytes
+  pub end : b.ended ≡ true → (a.ended ≡ true → IsOver left a.taken) → IsOver left_new b.taken
+  pub hears : Hears h said a b bytes lines lines_new tells
+
+-- nothing more is decided
+pub record IsIdle (h : Heading) (said : List ℕ → Said) (a : LogView) : Type 0 where
+  pub waiting : IsWaiting (format_of h) a.place.rest
+  pub last : ahead h said (not a.ended) a.place [] ≡ []
+  pub rest : a.ended ≡ true → a.place.rest ≡ []
+
+-- what was reported of a text before this fault: a prefix where the report failed, else all of it
+abbrev pub Tells : BridgeFault → Option (List ℕ) → Option (List ℕ) → List ℕ → Type 0
+Tells ReportFault reported reported_new text = AppendsPrefix reported reported_new text
+Tells fault reported reported_new text = Appends reported reported_new text
+
+-- why no more lines come, by the fault: of a read, of the report, or because the log is too long
+abbrev pub Stops : Heading → (List ℕ → Said) → LogView → List ℕ → Bool → ℕ → ℕ → ℕ → ℕ → BridgeFault
+    → Type 0
+Stops h said a waiting never_fails reads reads_new reports reports_new ReadFault =
+    Rose reads reads_new × (reads ≤ reads_new) × (IsTrue never_fails → ⊥) × (waiting ≡ [])
+    × (a.ended ≡ false) × IsIdle h said a
+Stops h said a waiting never_fails reads reads_new reports reports_new TooLong =
+    (reads_new ≡ reads) × (a.taken ≡ too_many)
+Stops h said a waiting never_fails reads reads_new reports reports_new ReportFault =
+    Rose reports reports_new
+Stops h said a waiting never_fails reads reads_new reports reports_new fault = ⊥
+
+-- A bound on the steps to come: each reads bytes, finds the end, passes a message, settles a time, or gives what waited.
+abbrev pub steps_left : LogView → ℕ
+steps_left a = 4 * (2 ^ 64 - a.taken) + work_left a.place + (if a.ended then 0 else 1)

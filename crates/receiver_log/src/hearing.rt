@@ -11,7 +11,7 @@ ghost use Rattle.receiver_log.specs.Capture.{given};
 ghost use Rattle.receiver_log.specs.Log.{Gives, given_at, head_text, refused_by};
 ghost use Rattle.receiver_log.specs.Log.{reason_in as reason_of, week_of as head_week};
 
-use crate::lines::{Lines, append_half, append_head, append_subframe};
+use crate::lines::{LineBuffer, append_half, append_head, append_subframe};
 use crate::reception::Reception;
 use crate::state::LogState;
 use gnss_week::Moment;
@@ -26,7 +26,7 @@ const WEEK: u64 = 604_800;
 const FAR: u64 = 512;
 
 /// Processes a subframe or a page: appends its lines, and gives the reason where it is refused.
-pub fn hear(state: &mut LogState, reception: &Reception, lines: &mut Lines) -> Option<Reason>
+pub fn hear(state: &mut LogState, reception: &Reception, lines: &mut LineBuffer) -> Option<Reason>
     requires room { array_vec_len lines.old + 8192 ≤ 16384 }
     requires system { IsOfSystem reception.now.content }
     ensures { Gives state.new lines.old.items lines.new.items result
@@ -40,7 +40,7 @@ fn hear_at(
     state: &mut LogState,
     time: Option<Moment>,
     content: &Content,
-    lines: &mut Lines,
+    lines: &mut LineBuffer,
 ) -> Option<Reason>
     requires room { array_vec_len lines.old + 8192 ≤ 16384 }
     requires system { IsOfSystem content.now }
@@ -103,7 +103,7 @@ fn reason_in(week: u64, first: u64, last: u64) -> Option<Reason>
 }
 
 // Writes the first line, with this week, where it was not written.
-fn begin(state: &mut LogState, week: u64, lines: &mut Lines)
+fn begin(state: &mut LogState, week: u64, lines: &mut LineBuffer)
     requires fits { week < 2 ^ 32 }
     requires room { array_vec_len lines.old + 640 ≤ 16384 }
     ensures state { (first : ℕ) → week ≡ head_week state.old.week first
@@ -124,7 +124,7 @@ fn hear_subframe(
     time: Moment,
     sat: Sat,
     words: &[U<30>; 10],
-    lines: &mut Lines,
+    lines: &mut LineBuffer,
 ) -> Option<Reason>
     requires room { array_vec_len lines.old + 8192 ≤ 16384 }
     requires system { sat.system ≡ Gps }
@@ -162,7 +162,7 @@ fn hear_page(
     signal: Signal,
     even: &Bits<15>,
     odd: &Bits<15>,
-    lines: &mut Lines,
+    lines: &mut LineBuffer,
 ) -> Option<Reason>
     requires room { array_vec_len lines.old + 8192 ≤ 16384 }
     requires system { sat.system ≡ Gal }

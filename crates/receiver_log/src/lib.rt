@@ -6,16 +6,16 @@
 //!
 //! - [`Receiver`], a format of messages and their content: `UbxJudge` and `SbfJudge`;
 //! - [`hear`], the lines of one subframe or page;
-//! - [`run_log`], which writes the capture of a log, and reports refused messages and counts;
+//! - [`run_log`], which writes the capture of a log, and reports rejected messages and counts;
 //! - [`LogSource`], over a source of the log's bytes, which gives the same capture however reads
-//!   cut it, so that a conversion of captures can read a log; [`refusal`] and [`counts_text`], what
-//!   the report says of one.
+//!   cut it, so that a conversion of captures can read a log; [`Refused`], who is told of its
+//!   rejected messages, [`refusal`] and [`counts_text`], what the report says of them.
 //!
 //! ```rust
 //! let mut input = ReadSource::new(rt.stdin());
 //! let mut output = WriteSink::new(rt.stdout());
 //! let mut report = WriteSink::new(rt.stderr());
-//! let status = run_log::<UbxJudge, _, _, _>(&mut input, &mut output, &mut report);
+//! let ended = run_log::<UbxJudge, _, _, _>(&mut input, &mut output, &mut report);
 //! ```
 #![tactic(auto)]
 
@@ -29,13 +29,12 @@ mod report;
 mod run;
 mod source;
 mod state;
-mod taking;
 
 pub use crate::hearing::hear;
-pub use crate::lines::Lines;
+pub use crate::lines::LineBuffer;
 pub use crate::receiver::Receiver;
 pub use crate::reception::Reception;
-pub use crate::report::{counts_text, refusal};
+pub use crate::report::{Nobody, Refused, counts_text, refusal};
 pub use crate::run::run_log;
-pub use crate::source::{LogParts, LogSource, Refusals, Unheard};
-pub use crate::state::{CaptureCounts, Counts, LogState, MessageCounts};
+pub use crate::source::{LogParts, LogSource};
+pub use crate::state::{CaptureCounts, LogCounts, LogState, MessageCounts};

@@ -1,4 +1,4 @@
-//! Lines that wait to be written.
+//! LineBuffer that wait to be written.
 
 ghost use Rattle.std.specs.Prelude.{◌≡◌, ◌+◌, ◌*◌, ◌<◌};
 ghost use Rattle.std.specs.Prelude.{◌≤◌, ◌++◌, length, decimal};
@@ -14,10 +14,10 @@ use nav_eph::{Sat, Signal};
 use one_run::{Text, append, append_decimal};
 
 /// A buffer of lines.
-pub type Lines = ArrayVec<u8, 16_384>;
+pub type LineBuffer = ArrayVec<u8, 16_384>;
 
 // Appends a piece, for which there is room.
-pub fn append_lines(lines: &mut Lines, piece: &[u8])
+pub fn append_lines(lines: &mut LineBuffer, piece: &[u8])
     requires { array_vec_len lines.old + length piece.now ≤ 16384 }
     ensures items { lines.new.items ≡ lines.old.items ++ piece.now }
     ensures len { array_vec_len lines.new ≡ array_vec_len lines.old + length piece.now }
@@ -28,7 +28,7 @@ pub fn append_lines(lines: &mut Lines, piece: &[u8])
 }
 
 // Appends the first line of a capture, with this week.
-pub fn append_head(lines: &mut Lines, week: u32)
+pub fn append_head(lines: &mut LineBuffer, week: u32)
     requires { array_vec_len lines.old + 640 ≤ 16384 }
     ensures items { lines.new.items ≡ lines.old.items ++ head_line week }
     ensures short { array_vec_len lines.new ≤ array_vec_len lines.old + 640 }
@@ -41,7 +41,7 @@ pub fn append_head(lines: &mut Lines, week: u32)
 }
 
 // Appends the line of a subframe.
-pub fn append_subframe(lines: &mut Lines, stamp: u32, sat: Sat, bits: &Bits<38>)
+pub fn append_subframe(lines: &mut LineBuffer, stamp: u32, sat: Sat, bits: &Bits<38>)
     requires room { array_vec_len lines.old + 2201 ≤ 16384 }
     requires system { sat.system ≡ Gps }
     ensures items { lines.new.items ≡ lines.old.items ++ lnav_text stamp sat bits.now }
@@ -53,7 +53,7 @@ pub fn append_subframe(lines: &mut Lines, stamp: u32, sat: Sat, bits: &Bits<38>)
 }
 
 // Appends the line of a page part.
-pub fn append_half(lines: &mut Lines, stamp: u32, sat: Sat, signal: Signal, bits: &Bits<15>)
+pub fn append_half(lines: &mut LineBuffer, stamp: u32, sat: Sat, signal: Signal, bits: &Bits<15>)
     requires room { array_vec_len lines.old + 2201 ≤ 16384 }
     requires system { sat.system ≡ Gal }
     ensures items { lines.new.items ≡ lines.old.items ++ half_text stamp sat signal bits.now }

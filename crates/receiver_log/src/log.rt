@@ -1,66 +1,64 @@
-//! A log, message by message: the one step of every run over it.
+//! A log while its bytes are read: the one state of every run over it.
 
-ghost use Rattle.std.specs.Prelude.{◌≡◌, ◌+◌, ◌<◌, ◌≤◌, ◌++◌, ◌∷◌, [], length, take};
-ghost use Rattle.std.specs.Prelude.{Bool, true, false, not, IsTrue, Some, None, Option, ℕ, List};
+ghost use Rattle.std.specs.Prelude.{◌≡◌, ◌+◌, ◌<◌, ◌≤◌, ◌++◌, ◌∷◌, [], length, take, drop};
+ghost use Rattle.std.specs.Prelude.{Bool, true, false, not, IsTrue, None, ℕ, List, IfOk, IfErr, OnOk, OnErr};
+ghost use Rattle.std.specs.Io.KnownBytes.{Appends};
+ghost use Rattle.nav_io.specs.Causes.{HasCause};
+ghost use Rattle.nav_io.specs.Prefix.{AppendsPrefix};
 ghost use Rattle.receiver_frames.specs.Headings.{format_of};
-ghost use Rattle.receiver_frames.specs.State.{IsWaiting, MayFeed};
+ghost use Rattle.receiver_frames.specs.State.{MayFeed};
 ghost use Rattle.receiver_log.specs.Capture.{refusal_line};
 ghost use Rattle.receiver_messages.specs.declared.said.Said.{Said as SaidNow};
-ghost use Rattle.receiver_log.specs.Log.{begun, counted};
-ghost use Rattle.receiver_log.specs.LogPlaces.{place_of, report_in};
-ghost use Rattle.receiver_log.specs.Mirrors.{ahead, fed_with, start_of, to_come, work_left};
-ghost use Rattle.receiver_log.specs.Steps.{StepTaken};
+ghost use Rattle.receiver_log.specs.Log.{counted};
+ghost use Rattle.receiver_log.specs.Mirrors.{to_come, work_left};
+ghost use Rattle.receiver_log.specs.Steps.{Hears, IsIdle, Reads, Stops, Tells, fresh, steps_left, view_of};
 
 use crate::hearing::hear;
-use crate::lines::Lines;
+use crate::lines::LineBuffer;
 use crate::queue::{Pending, Queue};
 use crate::receiver::Receiver;
-use crate::state::{Counts, LogState, MessageCounts};
+use crate::report::Refused;
+use crate::state::{LogCounts, LogState, MessageCounts};
 use arrayvec::ArrayVec;
+use nav_io::{Failed, Source};
+use one_run::{BridgeFault, read_piece};
 use receiver_frames::Deframer;
 use receiver_messages::{Reason, Said};
 
-/// While at most this many bytes of lines wait, the lines of one more message have room.
-pub const ROOM: usize = 8_192;
+// While at most this many bytes of lines wait, the lines of one more message have room.
+const ROOM: usize = 8_192;
 
-/// The most bytes of one read.
-pub const PIECE: usize = 16_384;
+// The most bytes of one read.
+const PIECE: usize = 16_384;
 
-/// The count of bytes from which a log is too long: 2^64 - 16,384.
-pub const TOO_MANY: u64 = 18_446_744_073_709_535_232;
+// The number of bytes at which a log is too long.
+const TOO_MANY: u64 = u64::MAX;
 
-/// A refused message, by its number in the log.
-#[derive(Clone, Copy)]
-pub struct Refusal {
-    pub number: u64,
-    pub reason: Reason,
-}
-
-/// A log while its bytes come.
+/// A log while its bytes are read.
 #[derive(Drop)]
 pub struct Log<J: Receiver> {
-    /// Bytes, of which the messages are taken.
-    pub deframer: Deframer<J>,
-    /// The counts of these.
-    pub counts: MessageCounts,
-    /// Subframes and pages that wait for their time.
-    pub queue: Queue,
-    /// The capture's week, and its counts.
-    pub state: LogState,
-    /// Lines that wait to be written.
-    pub lines: Lines,
-    /// What the last step refused.
-    pub refused: Option<Refusal>,
+    // bytes, of which the messages are taken
+    deframer: Deframer<J>,
+    // the counts of these
+    counts: MessageCounts,
+    // subframes and pages that wait for their time
+    queue: Queue,
+    // the capture's week, and its counts
+    state: LogState,
+    // lines, of which the first `given` bytes were given
+    lines: LineBuffer,
+    given: usize,
+    /// How many bytes were read.
+    pub taken: u64,
     ghost dated: { J.has_times ≡ true → queue.time ≡ None },
+    ghost within: { given ≤ length lines.items },
 }
 
 impl<J: Receiver> Log<J> {
     /// A log before its first byte.
     pub fn new() -> Self
-        ensures place { place_of result.deframer result.queue result.counts ≡ start_of [] }
-        ensures state { result.state ≡ begun }
-        ensures finished { result.deframer.finished ≡ false }
-        ensures lines { result.lines.items ≡ [] }
+        ensures fresh { (view_of result.deframer result.queue result.counts result.state result.taken) ≡ fresh }
+        ensures lines { (drop result.given result.lines.items) ≡ [] }
     {
         Log {
             deframer: Deframer::new(),
@@ -68,80 +66,121 @@ impl<J: Receiver> Log<J> {
             queue: Queue::new(),
             state: LogState::new(),
             lines: ArrayVec::new(),
-            refused: None,
+            given: 0,
+            taken: 0,
         }
     }
 
-    /// Takes as many bytes of a piece as there is room for, at least one, and gives how many.
-    pub fn feed_some(&mut self, piece: &[u8]) -> usize
-        requires may_feed { MayFeed (format_of J.heading) self.old.deframer }
-        requires some { 0 < length piece.now }
-        ensures some { 0 < result }
-        ensures within { result ≤ length piece.now }
-        ensures place { place_of self.new.deframer self.new.queue self.new.counts
-            ≡ fed_with (place_of self.old.deframer self.old.queue self.old.counts)
-            (take result piece.now) }
+    /// Reads until lines wait; `false` at the end of the log.
+    ///
+    /// # Errors
+    ///
+    /// - `ReadFault` where a read fails; nothing more is decided then.
+    /// - `TooLong` where 18,446,744,073,709,551,615 bytes were read.
+    /// - `ReportFault` where a rejected message can't be reported.
+    pub fn next_lines<S: Source, R: Refused>(
+        &mut self,
+        source: &mut S,
+        refused: &mut R,
+    ) -> Result<bool, BridgeFault>
+        ensures reads { OnOk result (Reads J.heading J.said (view_of self.old.deframer self.old.queue self.old.counts self.old.state self.old.taken) (view_of self.new.deframer self.new.queue self.new.counts self.new.state self.new.taken)
+            (S.left source.old) (S.left source.new) (drop self.old.given self.old.lines.items) (drop self.new.given self.new.lines.items)
+            (Appends (R.reported refused.old) (R.reported refused.new))) }
+        ensures stopped { IfErr result (λ fault. Reads J.heading J.said (view_of self.old.deframer self.old.queue self.old.counts self.old.state self.old.taken) (view_of self.new.deframer self.new.queue self.new.counts self.new.state self.new.taken)
+            (S.left source.old) (S.left source.new) (drop self.old.given self.old.lines.items) (drop self.new.given self.new.lines.items)
+            (Tells fault (R.reported refused.old) (R.reported refused.new))) }
+        ensures faults { OnOk result ((S.faults source.new ≡ S.faults source.old)
+            × (R.faults refused.new ≡ R.faults refused.old)) }
+        ensures why { IfErr result (Stops J.heading J.said (view_of self.new.deframer self.new.queue self.new.counts self.new.state self.new.taken) (drop self.new.given self.new.lines.items)
+            (S.never_fails source.old) (S.faults source.old) (S.faults source.new)
+            (R.faults refused.old) (R.faults refused.new)) }
+        ensures never { IsTrue (S.never_fails source.old) → IsTrue (S.never_fails source.new) }
+        ensures some { IfOk result (λ more. more ≡ true → 0 < length (drop self.new.given self.new.lines.items)) }
+        ensures end { IfOk result (λ more. more ≡ false → ((drop self.new.given self.new.lines.items) ≡ [])
+            × (self.new.deframer.finished ≡ true) × IsIdle J.heading J.said (view_of self.new.deframer self.new.queue self.new.counts self.new.state self.new.taken)) }
+        ensures onward { IfOk result (λ more. more ≡ true → (drop self.old.given self.old.lines.items) ≡ []
+            → steps_left (view_of self.new.deframer self.new.queue self.new.counts self.new.state self.new.taken) < steps_left (view_of self.old.deframer self.old.queue self.old.counts self.old.state self.old.taken)) }
+    {
+        while self.given >= self.lines.len() {
+            match self.take(refused) {
+                Ok(()) => {}
+                Err(Failed) => return Err(BridgeFault::ReportFault),
+            }
+            if self.lines.is_empty() {
+                if !self.deframer.may_feed() {
+                    return Ok(false);
+                }
+                self.fill(source)?;
+            }
+        }
+        Ok(true)
+    }
+
+    // Takes messages, until there are many lines or none is decided.
+    fn take<R: Refused>(&mut self, refused: &mut R) -> Result<(), Failed>
+        ensures hears { OnOk result (Hears J.heading J.said (view_of self.old.deframer self.old.queue self.old.counts self.old.state self.old.taken) (view_of self.new.deframer self.new.queue self.new.counts self.new.state self.new.taken) []
+            [] self.new.lines.items (Appends (R.reported refused.old) (R.reported refused.new))) }
+        ensures stopped { OnErr result (Hears J.heading J.said (view_of self.old.deframer self.old.queue self.old.counts self.old.state self.old.taken) (view_of self.new.deframer self.new.queue self.new.counts self.new.state self.new.taken) []
+            [] self.new.lines.items
+            (AppendsPrefix (R.reported refused.old) (R.reported refused.new))) }
+        ensures cause { HasCause (R.faults refused.old) (R.faults refused.new) result }
+        ensures given { self.new.given ≡ 0 }
+        ensures taken { self.new.taken ≡ self.old.taken }
         ensures finished { self.new.deframer.finished ≡ self.old.deframer.finished }
-        ensures state { self.new.state ≡ self.old.state }
-        ensures lines { self.new.lines.items ≡ self.old.lines.items }
+        ensures idle { OnOk result (length self.new.lines.items ≤ 8192
+            → IsIdle J.heading J.said (view_of self.new.deframer self.new.queue self.new.counts self.new.state self.new.taken)) }
+        ensures steady { OnOk result (steps_left (view_of self.new.deframer self.new.queue self.new.counts self.new.state self.new.taken) ≤ steps_left (view_of self.old.deframer self.old.queue self.old.counts self.old.state self.old.taken)) }
+        ensures onward { OnOk result (0 < length self.new.lines.items
+            → steps_left (view_of self.new.deframer self.new.queue self.new.counts self.new.state self.new.taken) < steps_left (view_of self.old.deframer self.old.queue self.old.counts self.old.state self.old.taken)) }
     {
-        self.deframer.feed_some(piece)
+        self.clear();
+        while self.lines.len() <= ROOM {
+            if !self.step(refused)? {
+                return Ok(());
+            }
+        }
+        Ok(())
     }
 
-    /// Says that no byte follows.
-    pub fn finish(&mut self)
-        ensures place { place_of self.new.deframer self.new.queue self.new.counts
-            ≡ place_of self.old.deframer self.old.queue self.old.counts }
-        ensures finished { self.new.deframer.finished ≡ true }
-        ensures state { self.new.state ≡ self.old.state }
-        ensures lines { self.new.lines.items ≡ self.old.lines.items }
-    {
-        self.deframer.finish();
-    }
-
-    /// Gives what waited and has its time, or else takes the next message, or settles what waits at
-    /// the end of the log; `false` where nothing more is decided.
-    pub fn step(&mut self) -> bool
+    // Gives what waited and has its time, or else takes the next message, or settles what waits at
+    // the end of the log; `false` where nothing more is decided.
+    fn step<R: Refused>(&mut self, refused: &mut R) -> Result<bool, Failed>
         requires room { length self.old.lines.items ≤ 8192 }
-        ensures taken { IsTrue result → StepTaken J.heading J.said
-            (not self.old.deframer.finished)
-            (place_of self.old.deframer self.old.queue self.old.counts)
-            (place_of self.new.deframer self.new.queue self.new.counts)
-            self.old.state self.new.state self.old.lines.items self.new.lines.items
-            (report_in self.new.refused) }
-        ensures none { result ≡ false → StepTaken J.heading J.said
-            (not self.old.deframer.finished)
-            (place_of self.old.deframer self.old.queue self.old.counts)
-            (place_of self.new.deframer self.new.queue self.new.counts)
-            self.old.state self.new.state self.old.lines.items self.new.lines.items [] }
-        ensures onward { IsTrue result
-            → work_left (place_of self.new.deframer self.new.queue self.new.counts)
-            < work_left (place_of self.old.deframer self.old.queue self.old.counts) }
-        ensures waiting { result ≡ false → IsWaiting (format_of J.heading) self.new.deframer.rest }
-        ensures last { result ≡ false → ahead J.heading J.said (not self.new.deframer.finished)
-            (place_of self.new.deframer self.new.queue self.new.counts) [] ≡ [] }
-        ensures rest { result ≡ false → self.new.deframer.finished ≡ true
-            → self.new.deframer.rest ≡ [] }
+        requires given { self.old.given ≡ 0 }
+        ensures hears { OnOk result (Hears J.heading J.said (view_of self.old.deframer self.old.queue self.old.counts self.old.state self.old.taken) (view_of self.new.deframer self.new.queue self.new.counts self.new.state self.new.taken) []
+            self.old.lines.items self.new.lines.items
+            (Appends (R.reported refused.old) (R.reported refused.new))) }
+        ensures stopped { OnErr result (Hears J.heading J.said (view_of self.old.deframer self.old.queue self.old.counts self.old.state self.old.taken) (view_of self.new.deframer self.new.queue self.new.counts self.new.state self.new.taken) []
+            self.old.lines.items self.new.lines.items
+            (AppendsPrefix (R.reported refused.old) (R.reported refused.new))) }
+        ensures cause { HasCause (R.faults refused.old) (R.faults refused.new) result }
+        ensures given { self.new.given ≡ 0 }
+        ensures taken { self.new.taken ≡ self.old.taken }
         ensures finished { self.new.deframer.finished ≡ self.old.deframer.finished }
+        ensures onward { IfOk result (λ more. more ≡ true
+            → steps_left (view_of self.new.deframer self.new.queue self.new.counts self.new.state self.new.taken) < steps_left (view_of self.old.deframer self.old.queue self.old.counts self.old.state self.old.taken)) }
+        ensures steady { IfOk result (λ more. more ≡ false
+            → (steps_left (view_of self.new.deframer self.new.queue self.new.counts self.new.state self.new.taken) ≤ steps_left (view_of self.old.deframer self.old.queue self.old.counts self.old.state self.old.taken))
+            × (self.new.lines.items ≡ self.old.lines.items)) }
+        ensures idle { IfOk result (λ more. more ≡ false → IsIdle J.heading J.said (view_of self.new.deframer self.new.queue self.new.counts self.new.state self.new.taken)) }
     {
-        self.refused = None;
         if let Some(reception) = self.queue.next() {
             let reason = hear(&mut self.state, &reception, &mut self.lines);
-            self.refused = refusal_of(reception.number, reason);
-            return true;
+            tell(refused, reception.number, reason)?;
+            return Ok(true);
         }
         if self.deframer.next_message() {
             self.take_message();
-            return true;
+            return Ok(true);
         }
         if self.queue.is_empty() {
-            return false;
+            return Ok(false);
         }
         if self.deframer.may_feed() {
-            return false;
+            return Ok(false);
         }
         self.queue.end();
-        true
+        Ok(true)
     }
 
     // Takes the message found last.
@@ -156,7 +195,7 @@ impl<J: Receiver> Log<J> {
         ensures deframer { self.new.deframer ≡ self.old.deframer }
         ensures state { self.new.state ≡ self.old.state }
         ensures lines { self.new.lines.items ≡ self.old.lines.items }
-        ensures refused { self.new.refused ≡ self.old.refused }
+        ensures kept { (self.new.given ≡ self.old.given) × (self.new.taken ≡ self.old.taken) }
         ensures few { length self.new.queue.waiting ≤ length self.old.queue.waiting + 1 }
     {
         let message = self.deframer.message();
@@ -173,22 +212,95 @@ impl<J: Receiver> Log<J> {
         }
     }
 
+    // Reads a piece of the log, or finds its end.
+    fn fill<S: Source>(&mut self, source: &mut S) -> Result<(), BridgeFault>
+        requires may_feed { MayFeed (format_of J.heading) self.old.deframer }
+        ensures reads { Reads J.heading J.said (view_of self.old.deframer self.old.queue self.old.counts self.old.state self.old.taken) (view_of self.new.deframer self.new.queue self.new.counts self.new.state self.new.taken)
+            (S.left source.old) (S.left source.new) self.old.lines.items self.new.lines.items
+            (λ text. text ≡ []) }
+        ensures lines { (self.new.lines.items ≡ self.old.lines.items)
+            × (self.new.given ≡ self.old.given) }
+        ensures faults { OnOk result (S.faults source.new ≡ S.faults source.old) }
+        ensures same { OnErr result ((view_of self.new.deframer self.new.queue self.new.counts self.new.state self.new.taken) ≡ (view_of self.old.deframer self.old.queue self.old.counts self.old.state self.old.taken)) }
+        ensures why { (text : List ℕ) → (reports : ℕ) → text ≡ []
+            → IsIdle J.heading J.said (view_of self.old.deframer self.old.queue self.old.counts self.old.state self.old.taken)
+            → IfErr result (Stops J.heading J.said (view_of self.new.deframer self.new.queue self.new.counts self.new.state self.new.taken) text
+            (S.never_fails source.old) (S.faults source.old) (S.faults source.new)
+            reports reports) }
+        ensures never { IsTrue (S.never_fails source.old) → IsTrue (S.never_fails source.new) }
+        ensures onward { OnOk result (steps_left (view_of self.new.deframer self.new.queue self.new.counts self.new.state self.new.taken) < steps_left (view_of self.old.deframer self.old.queue self.old.counts self.old.state self.old.taken)) }
+    {
+        if self.taken >= TOO_MANY {
+            return Err(BridgeFault::TooLong);
+        }
+        let mut piece = [0u8; PIECE];
+        match read_piece(source, TOO_MANY - self.taken, &mut piece) {
+            Err(Failed) => Err(BridgeFault::ReadFault),
+            Ok(0) => {
+                self.deframer.finish();
+                Ok(())
+            }
+            Ok(count) => {
+                self.taken += count as u64;
+                self.deframer.feed(&piece[..count]);
+                Ok(())
+            }
+        }
+    }
+
+    /// The lines that wait.
+    pub fn waiting(&self) -> &[u8]
+        ensures { result.now ≡ (drop self.now.given self.now.lines.items) }
+    {
+        &self.lines.as_slice()[self.given..]
+    }
+
+    /// Gives lines that wait, as many bytes as there is room for, and how many.
+    pub fn give(&mut self, into: &mut [u8]) -> usize
+        ensures within { result ≤ length into.new }
+        ensures some { 0 < length into.new → 0 < length (drop self.old.given self.old.lines.items) → 0 < result }
+        ensures bytes { take result into.new ≡ take result (drop self.old.given self.old.lines.items) }
+        ensures rest { (drop self.new.given self.new.lines.items) ≡ drop result (drop self.old.given self.old.lines.items) }
+        ensures view { (view_of self.new.deframer self.new.queue self.new.counts self.new.state self.new.taken) ≡ (view_of self.old.deframer self.old.queue self.old.counts self.old.state self.old.taken) }
+    {
+        let count = (self.lines.len() - self.given).min(into.len());
+        into[..count].copy_from_slice(&self.waiting()[..count]);
+        self.given += count;
+        count
+    }
+
+    /// Removes the lines, once they are written.
+    pub fn clear(&mut self)
+        ensures lines { self.new.lines.items ≡ [] }
+        ensures given { self.new.given ≡ 0 }
+        ensures view { (view_of self.new.deframer self.new.queue self.new.counts self.new.state self.new.taken) ≡ (view_of self.old.deframer self.old.queue self.old.counts self.old.state self.old.taken) }
+    {
+        self.lines.clear();
+        self.given = 0;
+    }
+
     /// The counts so far.
-    pub fn counts(&self) -> Counts
+    pub fn counts(&self) -> LogCounts
         ensures log { result.log ≡ self.now.counts }
         ensures capture { result.capture ≡ self.now.state.counts }
     {
-        Counts {
+        LogCounts {
             log: self.counts,
             capture: self.state.counts,
         }
     }
 }
 
-// A refusal, where there is a reason.
-fn refusal_of(number: u64, reason: Option<Reason>) -> Option<Refusal>
-    ensures { report_in result ≡ refusal_line number reason }
+// Tells of a message, where it is rejected.
+fn tell<R: Refused>(refused: &mut R, number: u64, reason: Option<Reason>) -> Result<(), Failed>
+    ensures told { OnOk result (Appends (R.reported refused.old) (R.reported refused.new)
+        (refusal_line number reason)) }
+    ensures part { OnErr result (AppendsPrefix (R.reported refused.old) (R.reported refused.new)
+        (refusal_line number reason)) }
+    ensures cause { HasCause (R.faults refused.old) (R.faults refused.new) result }
 {
-    let reason = reason?;
-    Some(Refusal { number, reason })
+    match reason {
+        Some(reason) => refused.refused(number, reason),
+        None => Ok(()),
+    }
 }

@@ -1,12 +1,61 @@
-//! The lines of the report.
+//! The lines of the report, and who is told of rejected messages.
 
-ghost use Rattle.std.specs.Prelude.{◌≡◌, ◌≤◌, length, codes};
+ghost use Rattle.std.specs.Prelude.{◌≡◌, ◌≤◌, ℕ, List, length, codes, Option, Some, MatchResult};
+ghost use Rattle.std.specs.Io.KnownBytes.{Appends};
+ghost use Rattle.nav_io.specs.Causes.{HasCause};
+ghost use Rattle.nav_io.specs.Prefix.{AppendsPrefix};
 ghost use Rattle.one_run.specs.Reports.{report_line};
+ghost use Rattle.receiver_log.specs.Capture.{refusal_line};
 ghost use Rattle.receiver_log.specs.Report.{counts_report, reason_word};
 
-use crate::state::Counts;
+use crate::state::LogCounts;
+use nav_io::{Failed, Sink};
 use one_run::{Text, append_count, report_text};
 use receiver_messages::Reason;
+
+/// Who is told of rejected messages: any sink, as lines of a report, or [`Nobody`].
+pub trait Refused {
+    // The report so far, where it is known.
+    ghost reported: { Self → Option (List ℕ) };
+
+    // The count of its faults, which never falls and saturates at 2^64 - 1.
+    ghost faults: { Self → ℕ };
+
+    /// Takes note that the message of this number, from 1, is rejected.
+    fn refused(&mut self, number: u64, reason: Reason) -> Result<(), Failed>
+        ensures line { MatchResult result
+            (λ _. Appends (reported self.old) (reported self.new)
+            (refusal_line number (Some reason)))
+            (λ _. AppendsPrefix (reported self.old) (reported self.new)
+            (refusal_line number (Some reason))) }
+        ensures cause { HasCause (faults self.old) (faults self.new) result };
+}
+
+impl<U: Sink> Refused for U {
+    ghost reported = { U.written };
+
+    ghost faults = { U.faults };
+
+    fn refused(&mut self, number: u64, reason: Reason) -> Result<(), Failed> {
+        self.write(refusal(number, reason).as_slice())
+    }
+}
+
+/// Nobody is told.
+#[derive(Clone, Copy, Drop)]
+pub struct Nobody;
+
+impl Refused for Nobody {
+    ghost use Rattle.std.specs.Prelude.{None};
+
+    ghost reported = { λ _. None };
+
+    ghost faults = { λ _. 0 };
+
+    fn refused(&mut self, _number: u64, _reason: Reason) -> Result<(), Failed> {
+        Ok(())
+    }
+}
 
 /// The report line of a refused message.
 pub fn refusal(number: u64, reason: Reason) -> Text
@@ -30,7 +79,7 @@ fn word_of(reason: Reason) -> &'static [u8]
 }
 
 /// The report lines of the counts, for a log of `taken` bytes.
-pub fn counts_text(counts: &Counts, taken: u64) -> Text
+pub fn counts_text(counts: &LogCounts, taken: u64) -> Text
     ensures { result.items ≡ counts_report counts.now taken }
 {
     let mut text = Text::new();

@@ -5,7 +5,7 @@ ghost use Rattle.receiver_log.specs.Log.{begun, counted, none_counted};
 
 use receiver_messages::Said;
 
-/// Counts of a log's messages. Each saturates at 18,446,744,073,709,551,615.
+/// LogCounts of a log's messages. Each saturates at 18,446,744,073,709,551,615.
 #[derive(Clone, Copy, PartialEq, Eq)]
 pub struct MessageCounts {
     /// Complete messages with the right checksum.
@@ -18,7 +18,7 @@ pub struct MessageCounts {
     pub other: u64,
 }
 
-/// Counts of a log's subframes and pages. Each saturates at 18,446,744,073,709,551,615.
+/// LogCounts of a log's subframes and pages. Each saturates at 18,446,744,073,709,551,615.
 #[derive(Clone, Copy, PartialEq, Eq)]
 pub struct CaptureCounts {
     /// Subframes written.
@@ -33,9 +33,9 @@ pub struct CaptureCounts {
     pub parity: u64,
 }
 
-/// Counts of a log.
+/// LogCounts of a log.
 #[derive(Clone, Copy, PartialEq, Eq)]
-pub struct Counts {
+pub struct LogCounts {
     /// Of its messages.
     pub log: MessageCounts,
     /// Of what became of its subframes and pages.
@@ -82,7 +82,7 @@ impl MessageCounts {
         }
     }
 
-    // Counts a message of this many bytes and this content.
+    // LogCounts a message of this many bytes and this content.
     pub(crate) fn count(&mut self, bytes: usize, said: &Said)
         ensures { self.new ≡ counted self.old bytes said.now }
     {
