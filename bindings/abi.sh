@@ -1,13 +1,16 @@
 #!/usr/bin/env bash
-# Checks what programs that are linked with the library rely on: its symbols, its return codes, the layout of its structs.
+# Checks what programs that are linked with the library rely on: its symbols, its return codes with their names and texts, the
+# layout of its structs.
 #
 #   bindings/abi.sh [--library FILE] [--write]
 #
 #   --library FILE   a shared object whose symbols are compared too
-#   --write          writes bindings/c/symbols.txt, reasons.txt and navbridge.abi from navbridge.h, after an addition
+#   --write          writes these files from navbridge.h, after an addition
 #
-# These files are compared with navbridge.h, the layouts by abidw and abidiff (Debian: abigail-tools) if they are installed. If a
-# stored line has to change, the shared object needs a new name (SONAME in bindings/c/Makefile).
+# In bindings: c/symbols.txt; c/reasons.txt, and of it the sources c/statuses.c, python/navbridge/_statuses.py and
+# rust/src/statuses.rs; c/navbridge.abi. They are compared with navbridge.h, the layouts by abidw and abidiff (Debian:
+# abigail-tools) if they are installed. If a symbol, the number or name of a reason or a layout has to change, the shared object
+# needs a new name (SONAME in bindings/c/Makefile).
 #
 # Exit status: 0 all is unchanged; 1 something differs; 2 the arguments are wrong, or a tool is missing.
 set -u
@@ -48,22 +51,57 @@ symbols() { nm -D --defined-only "$1" | awk '$2 == "T" { sub("@@", " ", $3); pri
 {
   echo '#include "navbridge.h"'
   cc -E -P navbridge.h | tr '\n' ' ' | sed 's/[;}]/&\n/g' \
-    | sed -n 's/^ *\(nb_status\|uint32_t\|size_t\|_Bool\|void\) \(nb_[a-z_0-9]*\)(\(.*\));$/\1 \2(\3) { __builtin_trap(); }/p'
+    | sed -n 's/^ *\(nb_status \|uint32_t \|size_t \|_Bool \|void \|const char \*\)\(nb_[a-z_0-9]*\)(\(.*\));$/\1\2(\3) { __builtin_trap(); }/p'
 } > "$out/calls.c"
 cc -std=c99 -g -fPIC -shared -w -I. -Wl,--version-script=exports.map -o "$out/calls.so" "$out/calls.c" || exit 2
 symbols "$out/calls.so" > "$out/symbols.txt"
-sed -n '/^typedef enum nb_status/,/^}/s/^ *\(NB_[A-Z0-9_]*\) = \([0-9]*\).*/\2 \1/p' navbridge.h > "$out/reasons.txt"
+# a line for each reason: its number, its name, its text
+sed -n '/^typedef enum nb_status/,/^}/s,^ *\(NB_[A-Z0-9_]*\) = \([0-9]*\)\,\{0\,1\} *\/\*\*< \(.*\) \*/$,\2 \1 \3,p' navbridge.h > "$out/reasons.txt"
+made='Made by bindings/abi.sh --write of navbridge.h'
+row() { sed "s,^\([0-9]*\) NB_\([A-Z0-9_]*\) \(.*\),$1," "$out/reasons.txt"; }
+{
+  printf '/* The names and texts of statuses. %s. */\n#include "navbridge.h"\n\n' "$made"
+  printf 'static const struct {\n    nb_status status;\n    const char *name, *text;\n} statuses[] = {\n'
+  row '    {NB_\2\, "NB_\2"\, "\3"}\,'
+  printf '};\n'
+  for it in name text; do
+    printf '\nconst char *nb_status_%s(nb_status status) {\n    size_t i;\n' $it
+    printf '    for (i = 0; i < sizeof statuses / sizeof *statuses; i++)\n        if (statuses[i].status == status) return statuses[i].%s;\n' $it
+    printf '    return "unknown status";\n}\n'
+  done
+} > "$out/statuses.c"
+{
+  printf '"""The statuses of the library. %s."""\n\nimport enum\n\n\n' "$made"
+  printf 'class Status(enum.IntEnum):\n    """The statuses of the library, as navbridge.h names them."""\n\n'
+  row '    \2 = \1  # \3'
+} > "$out/_statuses.py"
+{
+  printf '// The reasons of navbridge.h. %s.\nreasons! {\n' "$made"
+  # of the words of a subframe error.rs has one
+  awk '$1 != 0 && $2 !~ /_PARITY_/ {
+    n = split(substr($2, 4), words, "_")
+    name = ""
+    for (i = 1; i <= n; i++) name = name substr(words[i], 1, 1) tolower(substr(words[i], 2))
+    printf "    %s %s \"%s\"\n", $1, name, substr($0, length($1 $2) + 3)
+  }' "$out/reasons.txt"
+  printf '}\n'
+} > "$out/statuses.rs"
 if command -v abidw > /dev/null && command -v abidiff > /dev/null; then
   abidw --no-corpus-path --no-comp-dir-path --no-show-locs --no-architecture "$out/calls.so" > "$out/navbridge.abi" || exit 2
 else
   echo 'layouts: not compared, since abidw or abidiff is not installed'
 fi
 if [ -n "$write" ]; then
-  cp "$out/symbols.txt" "$out/reasons.txt" .
+  cp "$out/symbols.txt" "$out/reasons.txt" "$out/statuses.c" .
+  cp "$out/_statuses.py" ../python/navbridge
+  cp "$out/statuses.rs" ../rust/src
   [ ! -e "$out/navbridge.abi" ] || cp "$out/navbridge.abi" .
 fi
 diff symbols.txt "$out/symbols.txt" || differs 'the calls of navbridge.h are not those of bindings/c/symbols.txt'
 diff reasons.txt "$out/reasons.txt" || differs 'the reasons of navbridge.h are not those of bindings/c/reasons.txt'
+for it in statuses.c ../python/navbridge/_statuses.py ../rust/src/statuses.rs; do
+  diff "$it" "$out/${it##*/}" || differs "the reasons of navbridge.h are not those of bindings/c/$it; bindings/abi.sh --write"
+done
 [ -z "$(cut -d ' ' -f 1 "$out/reasons.txt" | sort | uniq -d)" ] || differs 'two reasons have one number'
 [ ! -e "$out/navbridge.abi" ] || abidiff navbridge.abi "$out/navbridge.abi" || differs 'the layouts of navbridge.h are not those of bindings/c/navbridge.abi'
 if [ -n "$library" ]; then

@@ -93,6 +93,7 @@ for program in convert convert++ follow follow++; do
 done
 vectors=bindings/c/tests/vectors
 for suffix in '' ++; do
+  $valgrind "$made/statuses$suffix" bindings/c/reasons.txt || differs "statuses$suffix"
   $valgrind "$made/messages$suffix" $vectors/items.txt $vectors/records.txt || differs "messages$suffix"
   $valgrind "$made/parts$suffix" $vectors/lnav_subframes.txt $vectors/inav_words.txt || differs "parts$suffix"
   "$made/rooms$suffix" examples/three.navcap examples/expected/three.rnx examples/expected/three.report --from=capture --to=rinex \

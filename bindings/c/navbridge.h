@@ -30,30 +30,31 @@
 extern "C" {
 #endif
 
-/** Return codes: 0, or the reason. No two have the same number, and none changes its number. */
+/** Return codes: 0, or the reason. No two have the same number, and none changes its number. The comment of each is its
+ * nb_status_text(). */
 typedef enum nb_status {
     NB_OK = 0,            /**< all was done */
-    NB_NO_JOB = 2,        /**< nb_convert(): the arguments name no conversion */
-    NB_OUTPUT_ROOM = 4,   /**< nb_convert(): the output is longer than its buffer; its length is returned */
-    NB_NOT_THIS_FORM = 5, /**< nb_convert(): the first line of a capture, or the header of a navigation file, is rejected */
-    NB_NO_MEMORY = 6,     /**< out of memory: malloc or realloc failed */
-    NB_REPORT_ROOM = 7,   /**< nb_convert(): the report is longer than its buffer; its length is returned */
-    NB_TOO_LONG = 8,      /**< nb_convert(): the input has more than 4,294,967,295 bytes; nb_push(): see there */
-    NB_NO_TEXT = 9,       /**< nb_convert(): an argument is not UTF-8 */
-    NB_NOT_PUSHED = 10,   /**< nb_push_open(): the input of this conversion cannot be pushed: use nb_convert() */
-    NB_ENDED = 11,        /**< nb_push(), nb_push_finish(): nb_push_finish() was called before */
-    NB_CLOSED = 12,       /**< nb_push(), nb_push_finish(): no conversion is open */
+    NB_NO_JOB = 2,        /**< the arguments name no conversion */
+    NB_OUTPUT_ROOM = 4,   /**< the output is longer than its buffer */
+    NB_NOT_THIS_FORM = 5, /**< the first line of a capture, or the header of a navigation file, is rejected */
+    NB_NO_MEMORY = 6,     /**< out of memory */
+    NB_REPORT_ROOM = 7,   /**< the report is longer than its buffer */
+    NB_TOO_LONG = 8,      /**< the input has 2^32 bytes or more, or a stream that is pushed 2^64 */
+    NB_NO_TEXT = 9,       /**< an argument is not UTF-8 */
+    NB_NOT_PUSHED = 10,   /**< the input of this conversion cannot be pushed */
+    NB_ENDED = 11,        /**< the input has ended */
+    NB_CLOSED = 12,       /**< no conversion is open */
 
-    NB_NO_NUMBER = 16,     /**< a payload of fewer than two bytes, which has no message number */
-    NB_OTHER_MESSAGE = 17, /**< a message other than 1019 and 1046 */
-    NB_SHORT = 18,         /**< a payload shorter than its message: 61 bytes for 1019, 63 for 1046 */
-    NB_BAD_SATELLITE = 19, /**< a satellite number that is not 1 to 32 (GPS) or 1 to 36 (Galileo) */
-    NB_BAD_TIME = 20,      /**< toe or toc past the end of the week */
-    NB_SPARE_SISA = 21,    /**< a spare SISA index, 126 to 254 */
+    NB_NO_NUMBER = 16,     /**< the payload has fewer than two bytes, and so no message number */
+    NB_OTHER_MESSAGE = 17, /**< the message is neither 1019 nor 1046 */
+    NB_SHORT = 18,         /**< the payload is shorter than its message: 61 bytes for 1019, 63 for 1046 */
+    NB_BAD_SATELLITE = 19, /**< the satellite of the message is not 1 to 32 (GPS) or 1 to 36 (Galileo) */
+    NB_BAD_TIME = 20,      /**< toe or toc is past the end of the week */
+    NB_SPARE_SISA = 21,    /**< the SISA index is a spare one, 126 to 254 */
     NB_NO_WEEK = 22,       /**< the reference week is not 1024 to 8191 */
-    NB_NO_ITEM = 23,       /**< no valid item: an unknown kind, a field out of its range, parts of two issues */
-    NB_NO_VERSION = 24,    /**< a version of navigation files other than 3 and 4 */
-    NB_NO_MESSAGE = 25,    /**< ionospheric parameters, which no message carries */
+    NB_NO_ITEM = 23,       /**< the item is not valid: an unknown kind, a field out of its range, or parts of two issues */
+    NB_NO_VERSION = 24,    /**< the version of navigation files is not 3 or 4 */
+    NB_NO_MESSAGE = 25,    /**< no message carries ionospheric parameters */
 
     NB_RECORD_SATELLITE = 32,   /**< the record has no satellite of its system, or two */
     NB_RECORD_SHORT = 33,       /**< the record ends before the last line of its kind */
@@ -65,32 +66,32 @@ typedef enum nb_status {
     NB_RECORD_FIT = 39,         /**< the fit interval is 2 or 3 hours, to which no flag corresponds */
     NB_RECORD_STEP = 40,        /**< the epoch is no multiple of the step of toc */
     NB_RECORD_FAR = 41,         /**< the epoch is not within half a week of toe */
-    NB_RECORD_PASSED_OVER = 42, /**< a record of another kind, which is skipped */
+    NB_RECORD_PASSED_OVER = 42, /**< the record is of another kind, which is skipped */
 
-    NB_SUBFRAME_PREAMBLE = 48,  /**< it begins neither with the preamble nor with its complement */
-    NB_SUBFRAME_PARITY_1 = 49,  /**< word 1 is the first with wrong parity; nb_parity_word() returns its number */
-    NB_SUBFRAME_PARITY_2 = 50,  /**< word 2 */
-    NB_SUBFRAME_PARITY_3 = 51,  /**< word 3 */
-    NB_SUBFRAME_PARITY_4 = 52,  /**< word 4 */
-    NB_SUBFRAME_PARITY_5 = 53,  /**< word 5 */
-    NB_SUBFRAME_PARITY_6 = 54,  /**< word 6 */
-    NB_SUBFRAME_PARITY_7 = 55,  /**< word 7 */
-    NB_SUBFRAME_PARITY_8 = 56,  /**< word 8 */
-    NB_SUBFRAME_PARITY_9 = 57,  /**< word 9 */
-    NB_SUBFRAME_PARITY_10 = 58, /**< word 10 */
-    NB_SUBFRAME_TOW = 59,       /**< the TOW count is 100,800 or more */
-    NB_SUBFRAME_UNUSED = 60,    /**< not subframe 1, 2 or 3, nor page 18 of subframe 4 */
-    NB_SUBFRAME_TIME = 61,      /**< toc or toe past the end of the week */
+    NB_SUBFRAME_PREAMBLE = 48,  /**< the subframe begins neither with the preamble nor with its complement */
+    NB_SUBFRAME_PARITY_1 = 49,  /**< the parity of word 1 is wrong */
+    NB_SUBFRAME_PARITY_2 = 50,  /**< the parity of word 2 is wrong */
+    NB_SUBFRAME_PARITY_3 = 51,  /**< the parity of word 3 is wrong */
+    NB_SUBFRAME_PARITY_4 = 52,  /**< the parity of word 4 is wrong */
+    NB_SUBFRAME_PARITY_5 = 53,  /**< the parity of word 5 is wrong */
+    NB_SUBFRAME_PARITY_6 = 54,  /**< the parity of word 6 is wrong */
+    NB_SUBFRAME_PARITY_7 = 55,  /**< the parity of word 7 is wrong */
+    NB_SUBFRAME_PARITY_8 = 56,  /**< the parity of word 8 is wrong */
+    NB_SUBFRAME_PARITY_9 = 57,  /**< the parity of word 9 is wrong */
+    NB_SUBFRAME_PARITY_10 = 58, /**< the parity of word 10 is wrong */
+    NB_SUBFRAME_TOW = 59,       /**< the TOW count of the subframe is 100,800 or more */
+    NB_SUBFRAME_UNUSED = 60,    /**< the subframe is neither 1, 2 or 3 nor page 18 of subframe 4 */
+    NB_SUBFRAME_TIME = 61,      /**< toc or toe of the subframe is past the end of the week */
     NB_NO_SATELLITE = 62,       /**< the given satellite is not 1 to 32 (GPS) or 1 to 36 (Galileo) */
     NB_NO_TOW_COUNT = 63,       /**< the given TOW count is 100,800 or more */
 
     NB_PAGE_ALERT = 65,     /**< a page part is of an alert page */
-    NB_PAGE_NO_PAIR = 66,   /**< the parts are not an even one and an odd one */
-    NB_PAGE_CRC = 67,       /**< the CRC is wrong: a damaged bit, or parts of two pages */
+    NB_PAGE_NO_PAIR = 66,   /**< the page parts are not an even one and an odd one */
+    NB_PAGE_CRC = 67,       /**< the CRC of the page is wrong: a damaged bit, or parts of two pages */
     NB_WORD_UNUSED = 68,    /**< the word type is not 1 to 5 */
     NB_WORD_SATELLITE = 69, /**< word type 4 names another satellite */
-    NB_WORD_TIME = 70,      /**< toe, toc or TOW past the end of the week */
-    NB_WORD_SISA = 71,      /**< a spare SISA index, 126 to 254 */
+    NB_WORD_TIME = 70,      /**< toe, toc or TOW of the word is past the end of the week */
+    NB_WORD_SISA = 71,      /**< the SISA index of the word is a spare one, 126 to 254 */
     NB_NO_SIGNAL = 72       /**< the given signal is no nb_signal */
 } nb_status;
 
@@ -277,6 +278,12 @@ typedef struct nb_item {
 /** The version of the library: NB_VERSION of the header that fits it. */
 uint32_t nb_version(void);
 
+/** The text of a status: a short sentence without a full stop, or "unknown status". Never NULL, and not to be released. */
+const char *nb_status_text(nb_status status);
+
+/** The name of a status, such as "NB_BAD_TIME", or "unknown status". Never NULL, and not to be released. */
+const char *nb_status_name(nb_status status);
+
 /**
  * @brief A complete conversion: what the program navbridge does with these arguments, in memory.
  *
@@ -431,8 +438,8 @@ nb_status nb_page_write(const nb_word *word, uint32_t satellite, nb_page_bits *p
 /** The most bytes that page parts need; nb_pages_size() returns the number. */
 #define NB_PAGES_MOST 1024
 
-/** Memory for page parts, initialised by nb_pages_init(), and used by the calls below only, one at a time. Between two calls it
- * may be moved by memcpy. */
+/** Memory for page parts, initialised by nb_pages_init() (zeroed memory is not), and used by the calls below only, one at a time.
+ * Between two calls it may be moved by memcpy. */
 typedef union nb_pages {
     uint64_t aligned;            /**< so that it is aligned */
     uint8_t room[NB_PAGES_MOST]; /**< private bytes of the library */
@@ -463,7 +470,8 @@ void nb_pages_init(nb_pages *at, uint32_t window);
 /**
  * @brief Takes a part, in any order with the others. Pages of the part before that were not fetched are dropped.
  * @param part      its 120 bits, 15 bytes, most significant bit first
- * @param stamp     the time tag: when it was received, in seconds of any clock that does not jump
+ * @param stamp     the time tag: when it was received, in seconds of any clock that does not jump. After one
+ *                  far in the future the parts before the window find no partner, until nb_pages_init() is called again
  * @param satellite the Galileo satellite that sent it, 1 to 36
  * @param signal    an nb_signal
  * @return NB_OK; or the first of NB_NO_SATELLITE, NB_PAGE_ALERT, NB_NO_SIGNAL and NB_NO_MEMORY that applies, and then
@@ -529,8 +537,8 @@ nb_status nb_record_write(const nb_item *item, uint32_t version, uint8_t *text, 
 /** The most bytes that a deframer needs; nb_deframer_size() returns the number. */
 #define NB_DEFRAMER_MOST 24576
 
-/** Memory for a deframer, initialised by nb_deframer_init(), and used by the calls below only, one at a time. Between two calls it
- * may be moved by memcpy. */
+/** Memory for a deframer, initialised by nb_deframer_init() (zeroed memory is not), and used by the calls below only, one at a
+ * time. Between two calls it may be moved by memcpy. */
 typedef union nb_deframer {
     uint64_t aligned;               /**< so that it is aligned */
     uint8_t room[NB_DEFRAMER_MOST]; /**< private bytes of the library */
@@ -539,7 +547,7 @@ typedef union nb_deframer {
 /** The bytes that a deframer needs, at most NB_DEFRAMER_MOST, for programs without this header. */
 size_t nb_deframer_size(void);
 
-/** Initialises this memory, whatever its content. */
+/** Initialises this memory, whatever its content. It needs 36 KB of stack. */
 void nb_deframer_init(nb_deframer *at);
 
 /**
@@ -586,8 +594,8 @@ void nb_deframer_finish(nb_deframer *at);
 /** The most bytes that a conversion needs; nb_push_size() returns the number. */
 #define NB_PUSH_MOST 65536
 
-/** Memory for a conversion, initialised by nb_push_open(), and used by the calls below only, one at a time. Between two calls it
- * may be moved by memcpy. */
+/** Memory for a conversion, initialised by nb_push_open() (zeroed memory is not), and used by the calls below only, one at a time.
+ * Between two calls it may be moved by memcpy. */
 typedef union nb_push_state {
     uint64_t aligned;           /**< so that it is aligned */
     uint8_t room[NB_PUSH_MOST]; /**< private bytes of the library */
@@ -614,8 +622,12 @@ nb_status nb_push_open(nb_push_state *at, const nb_bytes *words, size_t n_words)
  */
 nb_status nb_push(nb_push_state *at, const uint8_t *bytes, size_t n);
 
-/** Ends the input: an incomplete frame may contain complete ones, a last line may lack its end, the open issues of a capture are
- * closed, and the report ends with the counts. Returns NB_OK, or as nb_push(), but never NB_TOO_LONG. */
+/**
+ * @brief Ends the input: an incomplete frame may contain complete ones, a last line may lack its end, the open issues of a capture
+ *        are closed, and the report ends with the counts.
+ * @return NB_OK; NB_NOT_THIS_FORM or NB_NO_MEMORY as nb_push(). After any code but NB_OK of nb_push_open() or nb_push(), also
+ *         after NB_TOO_LONG, it returns that code; NB_ENDED after nb_push_finish(), NB_CLOSED after nb_push_close().
+ */
 nb_status nb_push_finish(nb_push_state *at);
 
 /** Writes the next bytes of the output, as many as are available and fit, and returns how many. */

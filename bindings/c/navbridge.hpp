@@ -47,6 +47,8 @@ public:
     explicit operator bool() const noexcept { return status_ == NB_OK; }
     /** NB_OK, or the reason. */
     nb_status status() const noexcept { return status_; }
+    /** Its nb_status_text(). */
+    const char *what() const noexcept { return nb_status_text(status_); }
     /** The value; one that says nothing where there is a reason. */
     Value &operator*() noexcept { return value_; }
     const Value &operator*() const noexcept { return value_; }

@@ -58,8 +58,11 @@ class Header(unittest.TestCase):
             self.assertEqual(_values._LAYOUT[kind].size, size, kind.__name__)
 
     def test_reasons(self):
-        kept = [line.split() for line in (HERE.parent / "c" / "reasons.txt").read_text().splitlines()]
-        self.assertEqual([(it.name, it.value) for it in navbridge.Status], [(name[3:], int(number)) for number, name in kept])
+        kept = [line.split(" ", 2) for line in (HERE.parent / "c" / "reasons.txt").read_text().splitlines()]
+        self.assertEqual(
+            [(str(int(it)), "NB_" + it.name, str(navbridge.Error(it))) for it in navbridge.Status], [tuple(it) for it in kept]
+        )
+        self.assertEqual((str(navbridge.Error(200)), navbridge.Error(200).status), ("unknown status 200", 200))
 
 
 class Refused(unittest.TestCase):

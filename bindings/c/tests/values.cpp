@@ -28,7 +28,8 @@ int main(int count, char **names) {
     want(whole && whole->output == records, "convert");
     want(navbridge::convert({"--from=nothing"}, stream).status() == NB_NO_JOB, "no job");
     want(navbridge::push::open({"--from=rinex", "--to=list"}).status() == NB_NOT_PUSHED, "a job that is not pushed");
-    want(navbridge::message_read(std::string(), 2295).status() == NB_NO_NUMBER, "no number");
+    const auto none = navbridge::message_read(std::string(), 2295);
+    want(none.status() == NB_NO_NUMBER && none.what() == std::string_view(nb_status_text(NB_NO_NUMBER)), "no number");
     for (std::size_t size : {std::size_t(1), std::size_t(7), stream.size()}) {
         auto opened = navbridge::push::open(words);
         navbridge::push job = std::move(*opened);

@@ -43,7 +43,7 @@ True
 >>> message_read(b"", week=2295)
 Traceback (most recent call last):
     ...
-navbridge.Error: the payload has no message number
+navbridge.Error: the payload has fewer than two bytes, and so no message number
 >>> gal.satellite = 37
 Traceback (most recent call last):
     ...
@@ -54,7 +54,8 @@ from ._calls import (
     E1B, E5B, FRAME_MOST, Conversion, Deframer, Joined, Pages, Push, convert, ephemerides, frame_make, frames, is_frame,
     message_read, message_write, page_read, page_write, record_read, record_write, subframe_read, subframe_write,
 )
-from ._library import Error, Status
+from ._library import Error
+from ._statuses import Status
 from ._values import (
     PI, Gal, GalHealth, GalIon, GalWord1, GalWord2, GalWord3, GalWord4, Gps, GpsClock, GpsIon, GpsOrbitA, GpsOrbitB, GpsSide, Ion,
     Item, Orbit, Subframe, Word, array,

@@ -7,7 +7,8 @@ import mmap
 import threading
 from typing import Any, BinaryIO, Callable, Iterator, NamedTuple, Sequence
 
-from ._library import Bytes, Error, Status, done, library, number, view
+from ._library import Bytes, Error, done, library, number, view
+from ._statuses import Status
 from ._values import ITEM_SIZE, SUBFRAMES, WORDS, Gal, Gps, Item, Subframe, Word, _kept, _wanted, item_bytes, item_of
 
 FRAME_MOST = 1029

@@ -3,75 +3,26 @@
 from __future__ import annotations
 
 import ctypes
-import enum
 import operator
 import os
 from pathlib import Path
 from typing import Any
 
-VERSION = 3  # NB_VERSION of navbridge.h
+from ._statuses import Status
 
-# as navbridge.h has them, without NB_
-_REASONS = (
-    (0, "OK", "all was done"),
-    (2, "NO_JOB", "the words name no job"),
-    (4, "OUTPUT_ROOM", "the output is longer than its room"),
-    (5, "NOT_THIS_FORM", "the first line of the capture, or the header of the navigation file, is not as it must be"),
-    (6, "NO_MEMORY", "there is no memory"),
-    (7, "REPORT_ROOM", "the report is longer than its room"),
-    (8, "TOO_LONG", "the input is too long"),
-    (9, "NO_TEXT", "a word is not UTF-8"),
-    (10, "NOT_PUSHED", "the input of this job cannot be pushed"),
-    (11, "ENDED", "the input has ended"),
-    (12, "CLOSED", "no job is open"),
-    (16, "NO_NUMBER", "the payload has no message number"),
-    (17, "OTHER_MESSAGE", "a message other than 1019 and 1046"),
-    (18, "SHORT", "the payload is shorter than its message"),
-    (19, "BAD_SATELLITE", "the message names no satellite of its system"),
-    (20, "BAD_TIME", "toe or toc is past the end of the week"),
-    (21, "SPARE_SISA", "a spare SISA index, 126 to 254"),
-    (22, "NO_WEEK", "the reference week is not 1024 to 8191"),
-    (23, "NO_ITEM", "the numbers are no ephemeris: a field is out of its range, or two issues are mixed"),
-    (24, "NO_VERSION", "the version of navigation files is not 3 or 4"),
-    (25, "NO_MESSAGE", "no message carries ionospheric parameters"),
-    (32, "RECORD_SATELLITE", "the record names no satellite of its system, or two"),
-    (33, "RECORD_SHORT", "the record ends before its last line"),
-    (34, "RECORD_NO_NUMBER", "a number or a part of the date is none"),
-    (35, "RECORD_BLANK", "a column is blank that must not be"),
-    (36, "RECORD_RANGE", "a number is out of the range of its field"),
-    (37, "RECORD_NO_DATE", "the calendar has no such date"),
-    (38, "RECORD_WEEK", "the date is in no week that has a number"),
-    (39, "RECORD_FIT", "a fit interval of 2 or 3 hours, to which no flag corresponds"),
-    (40, "RECORD_STEP", "the epoch is no multiple of the step of toc"),
-    (41, "RECORD_FAR", "the epoch is not within half a week of toe"),
-    (42, "RECORD_PASSED_OVER", "a record of another kind"),
-    (48, "SUBFRAME_PREAMBLE", "no preamble"),
-    *((48 + word, f"SUBFRAME_PARITY_{word}", f"the parity of word {word} is wrong") for word in range(1, 11)),
-    (59, "SUBFRAME_TOW", "the TOW count of the subframe is 100,800 or more"),
-    (60, "SUBFRAME_UNUSED", "not subframe 1, 2 or 3, nor page 18 of subframe 4"),
-    (61, "SUBFRAME_TIME", "toc or toe is past the end of the week"),
-    (62, "NO_SATELLITE", "the satellite is not 1 to 32 (GPS) or 1 to 36 (Galileo)"),
-    (63, "NO_TOW_COUNT", "the TOW count is 100,800 or more"),
-    (65, "PAGE_ALERT", "a part is of an alert page"),
-    (66, "PAGE_NO_PAIR", "the parts are not an even one and an odd one"),
-    (67, "PAGE_CRC", "the CRC is wrong"),
-    (68, "WORD_UNUSED", "the word type is not 1 to 5"),
-    (69, "WORD_SATELLITE", "word type 4 names another satellite"),
-    (70, "WORD_TIME", "toe, toc or TOW is past the end of the week"),
-    (71, "WORD_SISA", "a spare SISA index, 126 to 254"),
-    (72, "NO_SIGNAL", "the signal is not E1B or E5B"),
-)
-Status = enum.IntEnum("Status", [(name, number) for number, name, _ in _REASONS])  # type: ignore[misc]
-Status.__doc__ = "The statuses of the library, as navbridge.h names them."
-_TEXTS = {number: text for number, _, text in _REASONS}
+VERSION = 3  # NB_VERSION of navbridge.h
 
 
 class Error(ValueError):
     """What was asked for cannot be given; ``status`` is the reason as navbridge.h names it, a :class:`Status`."""
 
     def __init__(self, status: int) -> None:
-        super().__init__(_TEXTS.get(status, f"status {status}"))
-        self.status = Status(status) if status in _TEXTS else status
+        text: str = library().nb_status_text(status).decode()
+        try:
+            self.status: int = Status(status)
+        except ValueError:
+            self.status, text = status, f"{text} {status}"
+        super().__init__(text)
 
     def __reduce__(self) -> Any:
         return Error, (int(self.status),)
@@ -107,6 +58,7 @@ def library() -> ctypes.CDLL:
         words, to_size = ctypes.POINTER(Bytes), ctypes.POINTER(ctypes.c_size_t)
         for call, takes, gives in (
             ("version", [], number),
+            ("status_text", [number], ctypes.c_char_p),
             ("convert", [words, size, at, size, at, size, to_size, at, size, to_size], number),
             ("is_frame", [at, size], ctypes.c_bool),
             ("frame_make", [at, size, at, size], size),

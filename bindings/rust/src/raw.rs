@@ -3,6 +3,7 @@
 use crate::error::Error;
 use crate::values::*;
 use crate::{Item as Value, Subframe as SubframeValue, Word as WordValue};
+use std::os::raw::c_char;
 
 #[repr(C)]
 pub struct Bytes {
@@ -269,6 +270,7 @@ const _: () = assert!(std::mem::size_of::<Word>() == 152 && std::mem::size_of::<
 
 // a state is an array of u64, which is aligned; only the library looks at it
 extern "C" {
+    pub fn nb_status_text(status: u32) -> *const c_char;
     pub fn nb_convert(
         words: *const Bytes,
         n_words: usize,
