@@ -24,7 +24,7 @@ items_from some other to item h =
     let there = map_in item_line other line.0 (in_from_contains other line.0 (to line.0 (contains_from_in some line.0 line.1))) in
     subst (Contains (line_items_of other)) line.2 (contains_from_in (line_items_of other) (item_line line.0) there)
 
-same_items : (some other : List Line) → ((line : Line) → Contains some line ↔ Contains other line)
+pub same_items : (some other : List Line) → ((line : Line) → Contains some line ↔ Contains other line)
     → SameItems (line_items_of some) (line_items_of other)
 same_items some other same item s stamp =
     (items_from some other (λ line. (same line).0) item, items_from other some (λ line. (same line).1) item)
@@ -45,7 +45,7 @@ module _ (law : (r window : ℕ) (some other : List Line) → SameItems (line_it
     → periods_of r window (parts_of window some) ≡ periods_of r window (parts_of window other)) where
   same_periods : (c d : Capture) → SayTheSame c d → periods c ≡ periods d
   same_periods c d say =
-      law c.week c.window c.lines d.lines (same_items c.lines d.lines say.same) say.timely
+      law c.week c.window c.lines d.lines say.same say.timely
       (subst (λ (w : ℕ). NoneLate w (line_items_of d.lines)) (sym say.window) say.other_timely)
       ∙ (λ i. periods_of (say.week i) (say.window i) (parts_of (say.window i) d.lines))
 

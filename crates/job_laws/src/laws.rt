@@ -1,10 +1,12 @@
 //! Laws of conversions of captures: each is the contract of an empty function.
 
-ghost use Rattle.std.specs.Prelude.{◌≡◌, ℕ, List, Option, Some, IfSome};
+ghost use Rattle.std.specs.Prelude.{◌≡◌, ◌↔◌, ℕ, List, Contains, Option, Some, IfSome};
+ghost use Rattle.nav_io.specs.Lines.{Line};
 ghost use Rattle.gnss_week.specs.Weeks.{IsReference};
 ghost use Rattle.rinex_write.specs.Texts.{IsHeader};
 ghost use Rattle.rinex_write.specs.declared.words.HeaderWords.{HeaderWords};
 ghost use Rattle.outlets.specs.declared.target.Target.TheVariants as targets;
+ghost use Rattle.capture_log.specs.Heard.{SameItems};
 ghost use Rattle.capture_log.specs.Log.{line_items_of};
 ghost use Rattle.job_laws.specs.Counted.{ArePairsHeard, Pair};
 ghost use Rattle.captures.specs.Captures.{Capture, capture_meaning, capture_of, counts_of};
@@ -16,8 +18,9 @@ ghost use Rattle.job_laws.specs.CountedLines.{CountLines};
 ghost use Rattle.job_laws.specs.SayTheSame.{IsOfPeriods, SayTheSame};
 ghost use Rattle.job_laws.specs.Written.{ConvertCapture, IsWritten};
 
-/// Two captures of one week and one window with the same lines, in any order and repeated or not,
-/// none of them late, give the same output in every form but the counts.
+/// Two captures of one week and one window whose lines have the same items, in any order, however
+/// spelled and repeated or not, none of them late, give the same output in every form but the
+/// counts. The same lines, in any order and repeated or not, have the same items.
 pub fn order_of_lines_changes_no_text()
     ensures captures { (to : CaptureTo) (week named : Option ℕ) (bytes other : List ℕ)
         (c d : Capture) → IsOfPeriods to → capture_of week bytes ≡ Some c
@@ -29,6 +32,9 @@ pub fn order_of_lines_changes_no_text()
         → ConvertCapture words to week → ConvertCapture others to named
         → capture_of week bytes ≡ Some c → capture_of named other ≡ Some d → SayTheSame c d
         → IsWritten words bytes text → IsWritten others other another → text ≡ another }
+    ensures lines { (some other : List Line)
+        → ((line : Line) → Contains some line ↔ Contains other line)
+        → SameItems (line_items_of some) (line_items_of other) }
 {
     capture_log::order_of_lines_does_not_matter();
     bridge_engine::words_give_one_job();
