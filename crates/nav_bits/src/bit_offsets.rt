@@ -49,7 +49,7 @@ fn eight_bytes(bytes: &[u8], first: usize) -> u64
 
 /// The unsigned value of the `width` bits from bit offset `at`, by one shift and mask where eight
 /// bytes hold them.
-pub(crate) fn number_in_bytes(bytes: &[u8], at: usize, width: usize) -> u64
+pub fn number_in_bytes(bytes: &[u8], at: usize, width: usize) -> u64
     requires most { width ≤ 64 }
     requires inside { at + width ≤ 8 * length bytes.now }
     ensures { result ≡ number_at bytes.now at width }

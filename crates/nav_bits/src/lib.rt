@@ -33,6 +33,7 @@ mod layout;
 mod signed;
 mod unsigned;
 
+pub use crate::bit_offsets::number_in_bytes;
 pub use crate::bits::Bits;
 pub use crate::fields::put_numbers;
 pub use crate::laws::{
@@ -40,5 +41,5 @@ pub use crate::laws::{
     packed_are_the_only, packed_stand, signed_numbers_fit,
 };
 pub use crate::layout::{BitForm, Layout};
-pub use crate::signed::S;
+pub use crate::signed::{S, sign_extended};
 pub use crate::unsigned::U;

@@ -40,8 +40,8 @@ fn magnitude(value: i64) -> u64
     }
 }
 
-// The two's complement value of `width` bits, by sign extension to 64 bits.
-pub(crate) fn sign_extended(bit_pattern: u64, width: u32) -> i64
+/// The two's complement value of `width` bits, by sign extension to 64 bits.
+pub fn sign_extended(bit_pattern: u64, width: u32) -> i64
     requires some { 1 ≤ width }
     requires most { width ≤ 64 }
     requires fits { bit_pattern < 2 ^ width }

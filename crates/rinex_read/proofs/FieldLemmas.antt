@@ -1,9 +1,10 @@
 -- The fields that are written are those that are read.
-use Rattle.std.proofs.Common.{◌≡◌, ℕ, zero, suc, ◌+◌, ◌<◌, ◌≤◌, ◌==◌, ◌&&◌, nat_le, Bool, true, if◌then◌else◌, List, [], ◌∷◌, ◌++◌, length, take, drop, get_or, codes, Result, Ok, Err, refl, ap, sym, ◌∙◌, inl, inr, ⊎_elim, subst, arith, ℤ, pos, negsuc, ◌≤ℤ◌, int_le, unsigned_abs, append_assoc, length-append, eqb-true, ne_eqb}
+use Rattle.std.proofs.Common.{◌≡◌, ℕ, zero, suc, ◌+◌, ◌<◌, ◌≤◌, ◌==◌, ◌&&◌, ◌||◌, not, ◌⊎◌, nat_le, Bool, true, false, if◌then◌else◌, List, [], ◌∷◌, ◌++◌, length, take, drop, get_or, codes, Result, Ok, Err, refl, ap, sym, ◌∙◌, inl, inr, ⊎_elim, subst, arith, ℤ, pos, negsuc, ◌≤ℤ◌, int_le, unsigned_abs, append_assoc, length-append, eqb-true, ne_eqb}
 use Rattle.std.proofs.lemmas.Bool.{and_parts, cases_lt, leb-true}
 use Rattle.std.proofs.lemmas.Int.{ints}
+use Rattle.std.proofs.lemmas.Bool.Decides.{nat_tests}
 use Rattle.scaled_decimal.specs.declared.scales.Scale.{Scale}
-use Rattle.scaled_decimal.specs.ScaleValue.{size_of, AreWithin, IsScale}
+use Rattle.scaled_decimal.specs.ScaleValue.{size_of, AreWithin, AreFar, IsAccepted, IsScale}
 use Rattle.scaled_decimal.specs.NumberReading.{number, seen}
 use Rattle.scaled_decimal.proofs.Surface.{is_scale}
 use Rattle.scaled_decimal.proofs.Surface.{text_seen}
@@ -12,7 +13,7 @@ use Rattle.rinex_write.specs.declared.columns.Rule.{Rule}
 use Rattle.rinex_write.specs.declared.columns.Rule.TheVariants.{Plain, OrZero, Ura, Sisa, Fit, Sent, Unread}
 use Rattle.rinex_write.specs.declared.columns.Column.{Column}
 use Rattle.rinex_write.specs.Accuracies.{first_from, ura_nominal, ura_greatest, ura_of, sisa_value, sisa_nominal, sisa_from, sisa_of}
-use Rattle.rinex_write.specs.Columns.{shown, IsField, AreFields, column_text, row_text, row_lines, joined_rows, is_good_scale, is_good_range, is_good_rule, are_good}
+use Rattle.rinex_write.specs.Columns.{shown, IsField, AreFields, column_text, row_text, row_lines, joined_rows, is_good_scale, is_near_scale, is_far_scale, is_good_range, is_good_rule, are_good}
 use Rattle.rinex_read.specs.declared.reason.Reason.{Reason}
 use Rattle.rinex_read.specs.declared.reason.Reason.TheVariants as reasons
 use Rattle.rinex_read.specs.Fields.{◌>>=◌, in_range, sent_or_unknown, taken, field_at, read_row, read_rows}
@@ -152,8 +153,8 @@ shown_small (Unread n) z good h =
     abs_small n (le_from (negsuc 4294967294) n both.0) (le_from n (pos 4294967295) both.1)
 
 -- the bounds of a good scale and a good range
-pub scale_within : (s : Scale) → is_good_scale s ≡ true → AreWithin s.factor s.two s.ten
-scale_within s good =
+near_within : (s : Scale) → is_near_scale s ≡ true → AreWithin s.factor s.two s.ten
+near_within s good =
     let a = nat_le 1 s.factor in
     let b = nat_le s.factor 60 in
     let c = int_le (negsuc 58) s.two in
@@ -172,6 +173,35 @@ scale_within s good =
       le_from (negsuc 1) s.ten p4.1,
       le_from s.ten (pos 0) p5.1,
     )
+
+or_parts : (a b : Bool) → (a || b) ≡ true → (a ≡ true) ⊎ (b ≡ true)
+or_parts true b e = inl refl
+or_parts false b e = inr e
+
+far_shape : (s : Scale) (h : (int_le (negsuc 65) s.two && int_le s.two (negsuc 59) && int_le (pos 0) s.ten && int_le s.ten (pos 0)) ≡ true)
+    → (negsuc 65 ≤ℤ s.two) × (s.two ≤ℤ negsuc 59) × (s.ten ≡ pos 0)
+far_shape s h = grind (arith, nat_tests, ints)
+
+far_flat : (s : Scale) (h : (int_le (pos 0) s.two && int_le s.two (pos 0) && int_le (negsuc 9) s.ten && int_le s.ten (pos 0)) ≡ true)
+    → (s.two ≡ pos 0) × (negsuc 9 ≤ℤ s.ten) × (s.ten ≤ℤ pos 0)
+far_flat s h = grind (arith, nat_tests, ints)
+
+plain : (b : Bool) → not b ≡ true → b ≡ false
+plain true e = absurd cc
+plain false e = refl
+
+far_within : (s : Scale) → is_far_scale s ≡ true → AreFar s.pi s.factor s.two s.ten
+far_within s e =
+    let a = int_le (negsuc 65) s.two && int_le s.two (negsuc 59) && int_le (pos 0) s.ten && int_le s.ten (pos 0) in
+    let b = int_le (pos 0) s.two && int_le s.two (pos 0) && int_le (negsuc 9) s.ten && int_le s.ten (pos 0) in
+    let all = and_parts (not s.pi && nat_le 1 s.factor && nat_le s.factor 1000) (a || b) e in
+    let two = and_parts (not s.pi && nat_le 1 s.factor) (nat_le s.factor 1000) all.0 in
+    let one = and_parts (not s.pi) (nat_le 1 s.factor) two.0 in
+    (plain s.pi one.0, leb-true 1 s.factor one.1, leb-true s.factor 1000 two.1,
+    elim (or_parts a b all.1) [ inl h ↦ inl (far_shape s h) | inr h ↦ inr (far_flat s h) ])
+
+pub scale_within : (s : Scale) → is_good_scale s ≡ true → IsAccepted s
+scale_within s e = elim (or_parts (is_near_scale s) (is_far_scale s) e) [ inl h ↦ inl (near_within s h) | inr h ↦ inr (far_within s h) ]
 
 pub range_within : (low high : ℤ) → is_good_range low high ≡ true → (negsuc 4294967294 ≤ℤ low) × (high ≤ℤ pos 4294967295)
 range_within low high good =

@@ -27,3 +27,4 @@ pub mod TakenLemmas
 pub mod WholeLemmas
 pub mod WrittenLemmas
 pub mod Surface
+pub mod RowsAgain

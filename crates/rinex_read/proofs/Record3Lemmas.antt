@@ -1,8 +1,8 @@
 -- The records that are written of ephemerides give them.
-use Rattle.std.proofs.Common.{◌≡◌, ℕ, ◌≤◌, ◌==◌, ◌&&◌, not, true, false, if◌then◌else◌, List, [], ◌∷◌, ◌++◌, length, get_or, drop, codes, refl, ap, sym, ◌∙◌, arith, le-leb, ℤ, pos}
+use Rattle.std.proofs.Common.{◌≡◌, ℕ, ◌≤◌, ◌==◌, ◌&&◌, not, true, false, if◌then◌else◌, List, [], ◌∷◌, ◌++◌, length, get_or, drop, codes, refl, ap, sym, ◌∙◌, inl, arith, le-leb, ℤ, pos}
 use Rattle.std.proofs.lemmas.Int.{ints}
 use Rattle.std.specs.List.{flat_map}
-use Rattle.scaled_decimal.specs.ScaleValue.{size_of, AreWithin}
+use Rattle.scaled_decimal.specs.ScaleValue.{size_of, IsAccepted}
 use Rattle.scaled_decimal.specs.NumberText.{digits, number_text}
 use Rattle.scaled_decimal.specs.NumberReading.{seen, number, read_of}
 use Rattle.scaled_decimal.proofs.Surface.{is_scale, text_seen, length-number_text}
@@ -107,8 +107,8 @@ galileo_table sat date (r ∷ rs) zs more some h inav =
     let ls : List (List ℕ) = row_lines (codes "    ") rs (drop (length r) zs) ++ more in
     judged3_galileo l ls h inav ∙ ap (λ (t : List ℕ). judged (t ∷ l ∷ ls)) (titled_galileo sat date (row_text r zs))
 
-whole_within : AreWithin 1 (pos 0) (pos 0)
-whole_within = (omega arith, omega arith, omega (arith, ints), omega (arith, ints), omega (arith, ints), omega (arith, ints))
+whole_within : IsAccepted whole
+whole_within = inl (omega arith, omega arith, omega (arith, ints), omega (arith, ints), omega (arith, ints), omega (arith, ints))
 
 -- 517 in the columns of the data sources means I/NAV
 sources_say : (lines : List (List ℕ)) (prefix rest : List ℕ) → 6 ≤ length lines → get_or lines 5 [] ≡ prefix ++ (number_text (size_of whole) (pos 517) ++ rest) → length prefix ≡ 23 → is_inav lines ≡ true

@@ -53,14 +53,14 @@ satellite_again system n is h =
     ∙ ap (λ b. if b && nat_le n (most system) then Ok (record { system = system; number = n }) else Err reasons.BadSat) least
     ∙ ap (λ b. if b then Ok (record { system = system; number = n }) else Err reasons.BadSat) greatest
 
-moment_again : (m : ℕ) → IsMoment m → moment_said (moment_to (civil_to m)) ≡ Ok m
+pub moment_again : (m : ℕ) → IsMoment m → moment_said (moment_to (civil_to m)) ≡ Ok m
 moment_again m is = ap moment_said (moment_to-again (civil_to m) m (civil_to-date m is) is)
 
-length-date : (m : ℕ) → length (date_text (civil_to m)) ≡ 19
+pub length-date : (m : ℕ) → length (date_text (civil_to m)) ≡ 19
 unfolding date_text digits
 length-date m = refl
 
-length-row_lines : (start : List ℕ) (rows : List (List Column)) (zs : List ℤ) → length (row_lines start rows zs) ≡ length rows
+pub length-row_lines : (start : List ℕ) (rows : List (List Column)) (zs : List ℤ) → length (row_lines start rows zs) ≡ length rows
 length-row_lines start [] zs = refl
 length-row_lines start (r ∷ rs) zs = ap suc (length-row_lines (codes "    ") rs (drop (length r) zs))
 

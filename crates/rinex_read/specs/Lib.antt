@@ -8,3 +8,4 @@ pub mod Lines
 pub mod Mirrors
 pub mod RoundTrip
 pub mod States
+pub mod RowReads

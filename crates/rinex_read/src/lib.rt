@@ -43,6 +43,7 @@ mod reader;
 mod reason;
 mod record;
 mod records3;
+mod row;
 mod said;
 mod title;
 
@@ -61,3 +62,4 @@ pub use crate::reader::{RecordReader, Records};
 pub use crate::reason::Reason;
 pub use crate::record::RecordLines;
 pub use crate::records3::Records3;
+pub use crate::row::{RowSaid, layouts_are_rows, read_row_lines, written_rows_are_read};

@@ -1,10 +1,10 @@
 -- The fields of items are in the ranges of their columns, and their texts can be written.
-use Rattle.std.proofs.Common.{◌≡◌, ℕ, ◌-◌, ◌^◌, ◌<◌, ◌&&◌, Bool, true, List, [], ◌∷◌, refl, ◌∙◌, ap, inl, inr, arith, ℤ, pos, negsuc, neg_ℤ, ◌≤ℤ◌, FitsSigned, w64, to_z, of_z, rules, false, map, length, lit<, lit≤}
+use Rattle.std.proofs.Common.{◌≡◌, ℕ, ◌-◌, ◌^◌, ◌<◌, ◌≤◌, ◌&&◌, ◌||◌, not, ◌⊎◌, nat_le, int_le, zero, suc, Bool, true, List, [], ◌∷◌, refl, ◌∙◌, ap, inl, inr, arith, ℤ, pos, negsuc, neg_ℤ, ◌≤ℤ◌, FitsSigned, w64, to_z, of_z, rules, false, map, length, lit<, lit≤}
 use lib.Signed.{mag}
 use Rattle.std.proofs.lemmas.Int.{ints, to_z-of_z}
 use Rattle.std.proofs.lemmas.Bool.Decides.{nat_tests}
 use Rattle.scaled_decimal.specs.declared.scales.Scale.{Scale}
-use Rattle.scaled_decimal.specs.ScaleValue.{AreWithin}
+use Rattle.scaled_decimal.specs.ScaleValue.{AreWithin, AreFar, IsAccepted}
 use Rattle.nav_bits.specs.Signed.{IsSigned}
 use Rattle.nav_eph.specs.Steps.{IsSisa}
 use Rattle.nav_eph.specs.declared.items.GpsEph.{GpsEph}
@@ -22,7 +22,7 @@ use Rattle.rinex_write.specs.declared.columns.Rule.{Rule}
 use Rattle.rinex_write.specs.declared.columns.Rule.TheVariants.{Plain, OrZero, Ura, Sisa, Fit, Sent, Unread}
 use Rattle.rinex_write.specs.declared.columns.Column.{Column}
 use Rattle.rinex_write.specs.Accuracies.{health_of}
-use Rattle.rinex_write.specs.Columns.{AreFields, IsField, joined_rows, is_good_scale, is_good_range, is_good_rule, are_good}
+use Rattle.rinex_write.specs.Columns.{AreFields, IsField, joined_rows, is_good_scale, is_near_scale, is_far_scale, is_good_range, is_good_rule, are_good}
 use Rattle.rinex_write.specs.Layouts.{gps_rows, galileo_rows, gps_ionosphere_rows, galileo_ionosphere_rows}
 use Rattle.rinex_write.specs.Fields.{sent_field, gps_fields, galileo_fields, gps_ionosphere_fields, galileo_ionosphere_fields}
 use Rattle.rinex_write.specs.Mirrors.{IsSmall, IsWritable, AreReady, IsKept, AreKept, IsTable}
@@ -144,8 +144,38 @@ both : (a b : Bool) → (a && b) ≡ true → (a ≡ true) × (b ≡ true)
 both true b e = (refl, e)
 both false b e = cc
 
-good_scale : (s : Scale) → is_good_scale s ≡ true → AreWithin s.factor s.two s.ten
-good_scale s e = grind (arith, nat_tests, ints)
+or_parts : (a b : Bool) → (a || b) ≡ true → (a ≡ true) ⊎ (b ≡ true)
+or_parts true b e = inl refl
+or_parts false b e = inr e
+
+near_within : (s : Scale) → is_near_scale s ≡ true → AreWithin s.factor s.two s.ten
+near_within s e = grind (arith, nat_tests, ints)
+
+far_shape : (s : Scale) (h : (int_le (negsuc 65) s.two && int_le s.two (negsuc 59) && int_le (pos 0) s.ten && int_le s.ten (pos 0)) ≡ true)
+    → (negsuc 65 ≤ℤ s.two) × (s.two ≤ℤ negsuc 59) × (s.ten ≡ pos 0)
+far_shape s h = grind (arith, nat_tests, ints)
+
+far_flat : (s : Scale) (h : (int_le (pos 0) s.two && int_le s.two (pos 0) && int_le (negsuc 9) s.ten && int_le s.ten (pos 0)) ≡ true)
+    → (s.two ≡ pos 0) × (negsuc 9 ≤ℤ s.ten) × (s.ten ≤ℤ pos 0)
+far_flat s h = grind (arith, nat_tests, ints)
+
+plain : (b : Bool) → not b ≡ true → b ≡ false
+plain true e = absurd cc
+plain false e = refl
+
+far_within : (s : Scale) → is_far_scale s ≡ true → AreFar s.pi s.factor s.two s.ten
+far_within s e =
+    let a = int_le (negsuc 65) s.two && int_le s.two (negsuc 59) && int_le (pos 0) s.ten && int_le s.ten (pos 0) in
+    let b = int_le (pos 0) s.two && int_le s.two (pos 0) && int_le (negsuc 9) s.ten && int_le s.ten (pos 0) in
+    let all = both (not s.pi && nat_le 1 s.factor && nat_le s.factor 1000) (a || b) e in
+    let two = both (not s.pi && nat_le 1 s.factor) (nat_le s.factor 1000) all.0 in
+    let one = both (not s.pi) (nat_le 1 s.factor) two.0 in
+    let from : 1 ≤ s.factor = grind (arith, nat_tests, one.1) in
+    let to : s.factor ≤ 1000 = grind (arith, nat_tests, two.1) in
+    (plain s.pi one.0, from, to, elim (or_parts a b all.1) [ inl h ↦ inl (far_shape s h) | inr h ↦ inr (far_flat s h) ])
+
+good_scale : (s : Scale) → is_good_scale s ≡ true → IsAccepted s
+good_scale s e = elim (or_parts (is_near_scale s) (is_far_scale s) e) [ inl h ↦ inl (near_within s h) | inr h ↦ inr (far_within s h) ]
 
 good_range : (low high : ℤ) → is_good_range low high ≡ true → (negsuc 4294967294 ≤ℤ low) × (high ≤ℤ pos 4294967295)
 good_range low high e = grind (arith, nat_tests, ints)

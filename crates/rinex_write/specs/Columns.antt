@@ -1,5 +1,5 @@
 -- Numbers in columns: which number is written for a field, and the lines of a table of columns.
-use Rattle.std.specs.Prelude.{◌≡◌, ℕ, ◌⊎◌, ◌&&◌, nat_le, Bool, true, List, [], ◌∷◌, ◌++◌, length, drop, codes, ℤ, pos, negsuc, ◌≤ℤ◌, int_le, unsigned_abs, get_or}
+use Rattle.std.specs.Prelude.{◌≡◌, ℕ, ◌⊎◌, ◌&&◌, ◌||◌, not, nat_le, Bool, true, List, [], ◌∷◌, ◌++◌, length, drop, codes, ℤ, pos, negsuc, ◌≤ℤ◌, int_le, unsigned_abs, get_or}
 use Rattle.scaled_decimal.specs.declared.scales.Scale.{Scale}
 use Rattle.scaled_decimal.specs.ScaleValue.{size_of}
 use Rattle.scaled_decimal.specs.NumberText.{number_text}
@@ -55,11 +55,20 @@ abbrev pub joined_rows : List (List Column) → List Column
 joined_rows [] = []
 joined_rows (r ∷ rs) = r ++ joined_rows rs
 
--- each number of this scale can be written and read back
-abbrev pub is_good_scale : Scale → Bool
-is_good_scale s =
+abbrev pub is_near_scale : Scale → Bool
+is_near_scale s =
     nat_le 1 s.factor && nat_le s.factor 60 && int_le (negsuc 58) s.two && int_le s.two (pos 16)
     && int_le (negsuc 1) s.ten && int_le s.ten (pos 0)
+
+abbrev pub is_far_scale : Scale → Bool
+is_far_scale s =
+    not s.pi && nat_le 1 s.factor && nat_le s.factor 1000
+    && ((int_le (negsuc 65) s.two && int_le s.two (negsuc 59) && int_le (pos 0) s.ten && int_le s.ten (pos 0))
+    || (int_le (pos 0) s.two && int_le s.two (pos 0) && int_le (negsuc 9) s.ten && int_le s.ten (pos 0)))
+
+-- each number of this scale can be written and read back
+abbrev pub is_good_scale : Scale → Bool
+is_good_scale s = is_near_scale s || is_far_scale s
 
 -- the range has numbers of at most 32 bits and a sign
 abbrev pub is_good_range : ℤ → ℤ → Bool

@@ -5,3 +5,4 @@ pub mod Layouts
 pub mod Mirrors
 pub mod Texts
 pub mod Texts3
+pub mod RowTexts

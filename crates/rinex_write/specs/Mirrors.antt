@@ -1,6 +1,6 @@
 -- Invariants and helper definitions of private functions; no public clause cites them.
 use Rattle.std.specs.Prelude.{◌≡◌, ℕ, ◌+◌, ◌*◌, ◌<◌, ◌≤◌, ◌++◌, List, [], ◌∷◌, length, sum, take, drop, codes, ℤ, pos, ◌≤ℤ◌, unsigned_abs}
-use Rattle.scaled_decimal.specs.ScaleValue.{AreWithin}
+use Rattle.scaled_decimal.specs.ScaleValue.{IsAccepted}
 use Rattle.rinex_write.specs.declared.columns.Rule.{Rule}
 use Rattle.rinex_write.specs.declared.columns.Rule.TheVariants.{Plain, OrZero, Ura, Sisa, Fit, Sent, Unread}
 use Rattle.rinex_write.specs.declared.columns.Column.{Column}
@@ -22,7 +22,7 @@ IsWritable (Unread n) z = IsSmall n
 
 -- a field whose text can be written
 pub record IsReady (c : Column) (z : ℤ) : Type 0 where
-  pub scale : AreWithin c.scale.factor c.scale.two c.scale.ten
+  pub scale : IsAccepted c.scale
   pub field : IsWritable c.rule z
 
 -- there is a field for each column, and its text can be written

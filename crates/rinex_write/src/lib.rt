@@ -27,6 +27,7 @@
 #![tactic(auto)]
 
 mod columns;
+mod fdma;
 mod fields;
 mod header;
 mod item;
@@ -34,10 +35,12 @@ mod laws;
 mod layouts;
 mod numbers;
 mod record;
+mod row;
 mod words;
 mod write3;
 
 pub use crate::columns::{Column, Rule};
+pub use crate::fdma::{FDMA, FDMA_ROWS, fdma_layout};
 pub use crate::header::{write_header, write_header_of};
 pub use crate::item::{epoch_of, write_body, write_item};
 pub use crate::laws::{
@@ -47,5 +50,6 @@ pub use crate::laws::{
 pub use crate::layouts::{
     RecordLayout, galileo_ionosphere_layout, galileo_layout, gps_ionosphere_layout, gps_layout,
 };
+pub use crate::row::{RowHead, write_row};
 pub use crate::words::HeaderWords;
 pub use crate::write3::{write_header3, write_item3};

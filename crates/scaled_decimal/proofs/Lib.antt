@@ -7,6 +7,7 @@ pub mod SpanLemmas
 pub mod TextLemmas
 pub mod ColumnLemmas
 pub mod SizeLemmas
+pub mod FarLemmas
 pub mod BlankLemmas
 pub mod PrintLemmas
 pub mod DigitLemmas

@@ -64,8 +64,8 @@ most_of f a t p b u q hf ha ht hp some hb hu =
     let under : 1 * (1 * q) ≤ b * (u * q) = mul-le-mul hb (mul-le-mul hu (omega arith)) in
     omega arith
 
-pub is_scale : (s : Scale) → AreWithin s.factor s.two s.ten → IsScale (size_of s)
-is_scale s h =
+pub near_scale : (s : Scale) → AreWithin s.factor s.two s.ten → IsScale (size_of s)
+near_scale s h =
     let two = two_parts s.two h.2 h.3 in
     let ten = ten_parts s.ten h.4 h.5 in
     let pi = pi_parts s.pi in

@@ -3,9 +3,10 @@
 ghost use Rattle.std.specs.Prelude.{◌≡◌, ◌+◌, ◌*◌, ◌/◌, ◌^◌};
 ghost use Rattle.std.specs.Prelude.{◌<◌, ◌≤◌, ◌≤ℤ◌, pos, negsuc};
 ghost use Rattle.scaled_decimal.specs.Fractions.{IsNearest, two_to, ten_to};
-ghost use Rattle.scaled_decimal.specs.ScaleValue.{size_of, pi_part, AreWithin};
+ghost use Rattle.scaled_decimal.specs.ScaleValue.{IsAccepted};
+ghost use Rattle.scaled_decimal.specs.ScaleValue.{size_of, pi_part, AreWithin, AreFar};
 
-use crate::powers::{fifths, power_of_five, power_of_two};
+use crate::powers::{fifths, power_of_five, power_of_ten, power_of_two};
 use crate::scales::Scale;
 
 /// The value of a scale times 10^20, as `over` / 2^`bits`.
@@ -58,8 +59,8 @@ fn hundredths(ten: i32) -> u64
     }
 }
 
-/// The value of a scale.
-pub(crate) fn ratio_of(scale: &Scale) -> Ratio
+// The value of a scale of the usual box.
+fn near_ratio(scale: &Scale) -> Ratio
     requires { AreWithin scale.now.factor scale.now.two scale.now.ten }
     ensures same { (size_of scale.now).over * (2 ^ result.bits * 10 ^ 20)
         ≡ result.over * (size_of scale.now).under }
@@ -72,6 +73,45 @@ pub(crate) fn ratio_of(scale: &Scale) -> Ratio
     let (power, bits) = two_parts(scale.two);
     let over = u128::from(tens) * u128::from(whole) << power;
     Ratio { over, bits }
+}
+
+// The value of a scale of the further boxes.
+fn far_ratio(scale: &Scale) -> Ratio
+    requires { AreFar scale.now.pi scale.now.factor scale.now.two scale.now.ten }
+    ensures same { (size_of scale.now).over * (2 ^ result.bits * 10 ^ 20)
+        ≡ result.over * (size_of scale.now).under }
+    ensures bits { result.bits ≤ 59 }
+    ensures least { 2 ^ result.bits ≤ result.over }
+    ensures most { 4294967296 * result.over ≤ 10 ^ 37 }
+{
+    let factor = u128::from(scale.factor);
+    if scale.two == 0 {
+        let over = factor * power_of_ten(20 - scale.ten.unsigned_abs());
+        Ratio { over, bits: 0 }
+    } else {
+        let over = factor * FIVES_20;
+        let bits = scale.two.unsigned_abs() - 20;
+        Ratio { over, bits }
+    }
+}
+
+// 5^20.
+const FIVES_20: u128 = 95_367_431_640_625;
+
+/// The value of a scale.
+pub(crate) fn ratio_of(scale: &Scale) -> Ratio
+    requires { IsAccepted scale.now }
+    ensures same { (size_of scale.now).over * (2 ^ result.bits * 10 ^ 20)
+        ≡ result.over * (size_of scale.now).under }
+    ensures bits { result.bits ≤ 59 }
+    ensures least { 2 ^ result.bits ≤ result.over }
+    ensures most { 4294967296 * result.over ≤ 10 ^ 37 }
+{
+    if scale.is_near() {
+        near_ratio(scale)
+    } else {
+        far_ratio(scale)
+    }
 }
 
 // The quotient `whole` or the next integer, by the remainder of a division, ties to even.

@@ -4,7 +4,7 @@ ghost use Rattle.std.specs.Prelude.{◌≡◌, ◌↔◌, ℕ, ℤ, ◌<◌, ◌
 ghost use Rattle.std.specs.Prelude.{Some, None, length, unsigned_abs};
 ghost use Rattle.scaled_decimal.specs.declared.scales.Scale.{Scale};
 ghost use Rattle.scaled_decimal.specs.Fractions.{Fraction, IsNearest, nearest_to};
-ghost use Rattle.scaled_decimal.specs.ScaleValue.{size_of, AreWithin, IsScale};
+ghost use Rattle.scaled_decimal.specs.ScaleValue.{size_of, IsAccepted, IsScale};
 ghost use Rattle.scaled_decimal.specs.NumberText.{IsTextOf, number_text, AreShown, EndsInDigit};
 ghost use Rattle.scaled_decimal.specs.Grammar.{IsDecimalText};
 ghost use Rattle.scaled_decimal.specs.Values.{Decimal};
@@ -18,7 +18,7 @@ pub fn one_number_is_nearest()
 
 /// At a scale that `Scale::new` accepts, each 32-bit number has a decimal exponent from -20 to 16.
 pub fn accepted_scales_are_scales()
-    ensures { (s : Scale) → AreWithin s.factor s.two s.ten → IsScale (size_of s) }
+    ensures { (s : Scale) → IsAccepted s → IsScale (size_of s) }
 {}
 
 /// A number has exactly one text, which `number_text` gives.
@@ -29,10 +29,10 @@ pub fn one_text()
 
 /// At each accepted scale the text of a number stands for that number and for no other.
 pub fn texts_stand()
-    ensures for_it { (s : Scale) (z : ℤ) → AreWithin s.factor s.two s.ten
+    ensures for_it { (s : Scale) (z : ℤ) → IsAccepted s
         → unsigned_abs z ≤ 4294967295
         → StandsFor (size_of s) (number_text (size_of s) z) z }
-    ensures for_no_other { (s : Scale) (y z : ℤ) → AreWithin s.factor s.two s.ten
+    ensures for_no_other { (s : Scale) (y z : ℤ) → IsAccepted s
         → unsigned_abs z ≤ 4294967295 → StandsFor (size_of s) (number_text (size_of s) z) y → y
         ≡ z }
 {}

@@ -4,7 +4,7 @@ ghost use Rattle.std.specs.Prelude.{◌≡◌, ◌+◌, ◌*◌, ◌%◌};
 ghost use Rattle.std.specs.Prelude.{◌^◌, ◌<◌, ◌≤◌, ◌∷◌};
 ghost use Rattle.std.specs.Prelude.{◌≤ℤ◌, pos, negsuc, unsigned_abs};
 ghost use Rattle.scaled_decimal.specs.Fractions.{scaled};
-ghost use Rattle.scaled_decimal.specs.ScaleValue.{size_of, AreWithin};
+ghost use Rattle.scaled_decimal.specs.ScaleValue.{size_of, IsAccepted};
 ghost use Rattle.scaled_decimal.specs.Mirrors.{AreDigits};
 ghost use Rattle.scaled_decimal.specs.NumberText.{carried, parts_to, parts_at, digits};
 ghost use Rattle.scaled_decimal.specs.NumberText.{exponent_sign, body, sign_column, number_text};
@@ -112,7 +112,7 @@ fn carried(digits: u64, exponent: i32) -> Parts
 fn parts_by_division(number: u64, scale: &Scale) -> Parts
     requires some { 0 < number }
     requires small { number ≤ 4294967295 }
-    requires scale { AreWithin scale.now.factor scale.now.two scale.now.ten }
+    requires scale { IsAccepted scale.now }
     ensures { record { digits = result.digits; exponent = result.exponent }
         ≡ parts_to (scaled number (size_of scale.now)) }
 {
@@ -127,14 +127,16 @@ fn parts_by_division(number: u64, scale: &Scale) -> Parts
 fn parts_of(number: u64, scale: &Scale) -> Parts
     requires some { 0 < number }
     requires small { number ≤ 4294967295 }
-    requires scale { AreWithin scale.now.factor scale.now.two scale.now.ten }
+    requires scale { IsAccepted scale.now }
     ensures { record { digits = result.digits; exponent = result.exponent }
         ≡ parts_to (scaled number (size_of scale.now)) }
 {
-    match lifted_parts(number, scale) {
-        Some(parts) => parts,
-        None => parts_by_division(number, scale),
+    if scale.is_near() {
+        if let Some(parts) = lifted_parts(number, scale) {
+            return parts;
+        }
     }
+    parts_by_division(number, scale)
 }
 
 // The two digits of a number.
@@ -202,7 +204,7 @@ fn text_of(sign: u8, parts: &Parts) -> [u8; 19]
 // The thirteen digits and the exponent of a number at a scale.
 fn parts_at(number: u64, scale: &Scale) -> Parts
     requires small { number ≤ 4294967295 }
-    requires scale { AreWithin scale.now.factor scale.now.two scale.now.ten }
+    requires scale { IsAccepted scale.now }
     ensures { record { digits = result.digits; exponent = result.exponent }
         ≡ parts_at (size_of scale.now) number }
 {
@@ -228,7 +230,7 @@ fn sign_column(n: i64) -> u8
 /// navigation records, D19.12).
 pub fn print(n: i64, scale: &Scale) -> [u8; 19]
     requires number { unsigned_abs n ≤ 4294967295 }
-    requires scale { AreWithin scale.now.factor scale.now.two scale.now.ten }
+    requires scale { IsAccepted scale.now }
     ensures { result ≡ number_text (size_of scale.now) n }
 {
     text_of(sign_column(n), &parts_at(n.unsigned_abs(), scale))

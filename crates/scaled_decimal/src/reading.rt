@@ -4,7 +4,7 @@ ghost use Rattle.std.specs.Prelude.{◌≡◌, ◌+◌, ◌*◌, ◌^◌, ◌<�
 ghost use Rattle.std.specs.Prelude.{◌≤◌, ◌⊎◌, ◌+ℤ◌, ◌≤ℤ◌};
 ghost use Rattle.std.specs.Prelude.{pos, negsuc, length, SomeIff, MatchOption};
 ghost use Rattle.scaled_decimal.specs.Fractions.{IsNearest, nearest_to, ten_to};
-ghost use Rattle.scaled_decimal.specs.ScaleValue.{size_of, AreWithin};
+ghost use Rattle.scaled_decimal.specs.ScaleValue.{size_of, IsAccepted};
 ghost use Rattle.scaled_decimal.specs.Mirrors.{IsDecimalRead};
 ghost use Rattle.scaled_decimal.specs.NumberReading.{at_size, signed, seen, number, read_of};
 
@@ -140,7 +140,7 @@ fn shifts(exponent: i32) -> (u32, u32)
 #[inline(never)]
 fn value_by_division(decimal: &Decimal, scale: &Scale) -> Option<u128>
     requires decimal { IsDecimalRead decimal.now.digits decimal.now.exponent }
-    requires scale { AreWithin scale.now.factor scale.now.two scale.now.ten }
+    requires scale { IsAccepted scale.now }
     ensures { let value = at_size (size_of scale.now)
         (record { digits = decimal.now.digits; exponent = decimal.now.exponent })
         in MatchOption result (4294967295 < nearest_to value) (λ n. n ≡ nearest_to value) }
@@ -154,14 +154,16 @@ fn value_by_division(decimal: &Decimal, scale: &Scale) -> Option<u128>
 #[inline(always)]
 fn value_at(decimal: &Decimal, scale: &Scale) -> Option<u128>
     requires decimal { IsDecimalRead decimal.now.digits decimal.now.exponent }
-    requires scale { AreWithin scale.now.factor scale.now.two scale.now.ten }
+    requires scale { IsAccepted scale.now }
     ensures { let value = at_size (size_of scale.now)
         (record { digits = decimal.now.digits; exponent = decimal.now.exponent })
         in MatchOption result (4294967295 < nearest_to value) (λ n. n ≡ nearest_to value) }
 {
     let (up, down) = shifts(decimal.exponent + 20);
-    if let Some(number) = guessed_number(decimal.digits, up, down, scale) {
-        return Some(number);
+    if scale.is_near() {
+        if let Some(number) = guessed_number(decimal.digits, up, down, scale) {
+            return Some(number);
+        }
     }
     value_by_division(decimal, scale)
 }
@@ -170,7 +172,7 @@ fn value_at(decimal: &Decimal, scale: &Scale) -> Option<u128>
 #[inline(always)]
 fn magnitude(decimal: &Decimal, scale: &Scale) -> Option<u64>
     requires decimal { IsDecimalRead decimal.now.digits decimal.now.exponent }
-    requires scale { AreWithin scale.now.factor scale.now.two scale.now.ten }
+    requires scale { IsAccepted scale.now }
     ensures { let value = at_size (size_of scale.now)
         (record { digits = decimal.now.digits; exponent = decimal.now.exponent })
         in MatchOption result (4294967295 < nearest_to value) (λ n. (n ≡ nearest_to value)
@@ -207,7 +209,7 @@ fn within(nearest: i64, low: i64, high: i64) -> Result<i64, DecimalFault>
 #[inline(always)]
 fn within_range(decimal: &Decimal, scale: &Scale, low: i64, high: i64) -> Result<i64, DecimalFault>
     requires decimal { IsDecimalRead decimal.now.digits decimal.now.exponent }
-    requires scale { AreWithin scale.now.factor scale.now.two scale.now.ten }
+    requires scale { IsAccepted scale.now }
     requires low { negsuc 4294967294 ≤ℤ low }
     requires high { high ≤ℤ pos 4294967295 }
     ensures { let value = at_size (size_of scale.now)
@@ -225,7 +227,7 @@ fn within_range(decimal: &Decimal, scale: &Scale, low: i64, high: i64) -> Result
 #[inline(never)]
 fn read_any(text: &[u8], scale: &Scale, low: i64, high: i64) -> Result<i64, DecimalFault>
     requires text { length text.now ≤ 19 }
-    requires scale { AreWithin scale.now.factor scale.now.two scale.now.ten }
+    requires scale { IsAccepted scale.now }
     requires low { negsuc 4294967294 ≤ℤ low }
     requires high { high ≤ℤ pos 4294967295 }
     ensures { result ≡ read_of low high (seen (size_of scale.now) text.now) }
@@ -254,7 +256,7 @@ fn read_any(text: &[u8], scale: &Scale, low: i64, high: i64) -> Result<i64, Deci
 /// number below `low` or above `high`.
 pub fn read(text: &[u8], scale: &Scale, low: i64, high: i64) -> Result<i64, DecimalFault>
     requires text { length text.now ≤ 19 }
-    requires scale { AreWithin scale.now.factor scale.now.two scale.now.ten }
+    requires scale { IsAccepted scale.now }
     requires low { negsuc 4294967294 ≤ℤ low }
     requires high { high ≤ℤ pos 4294967295 }
     ensures { result ≡ read_of low high (seen (size_of scale.now) text.now) }

@@ -1,4 +1,4 @@
-use Rattle.scaled_decimal.proofs.SizeLemmas.{is_scale}
+use Rattle.scaled_decimal.proofs.FarLemmas.{is_scale}
 use Rattle.scaled_decimal.proofs.laws.accepted_scales_are_scales.Goals as goal
 
 pub returns : goal.returns

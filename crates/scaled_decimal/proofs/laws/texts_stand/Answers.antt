@@ -1,6 +1,6 @@
 use Rattle.scaled_decimal.specs.ScaleValue.{size_of}
 use Rattle.scaled_decimal.specs.NumberText.{number_text}
-use Rattle.scaled_decimal.proofs.SizeLemmas.{is_scale}
+use Rattle.scaled_decimal.proofs.FarLemmas.{is_scale}
 use Rattle.scaled_decimal.proofs.TextLemmas.{text_stands, one_number}
 use Rattle.scaled_decimal.proofs.laws.texts_stand.Goals as goal
 

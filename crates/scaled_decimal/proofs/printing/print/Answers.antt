@@ -1,7 +1,7 @@
 use Rattle.std.proofs.Common.{◌≡◌, ◌≤◌, ◌∙◌, ◌∷◌, ap, ap₂, sym, subst, unsigned_abs, w64, to_z-of_z}
 use Rattle.scaled_decimal.specs.ScaleValue.{size_of}
 use Rattle.scaled_decimal.specs.NumberText.{Parts, parts_at, sign_column, body, number_text}
-use Rattle.scaled_decimal.proofs.SizeLemmas.{is_scale}
+use Rattle.scaled_decimal.proofs.FarLemmas.{is_scale}
 use Rattle.scaled_decimal.proofs.InReachLemmas.{IsPrintable}
 use Rattle.scaled_decimal.proofs.TextLemmas.{parts_at_printable}
 use Rattle.scaled_decimal.proofs.printing.print.Goals as goal

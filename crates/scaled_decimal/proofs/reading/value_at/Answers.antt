@@ -2,7 +2,7 @@ use Rattle.std.proofs.Common.{◌≡◌, ◌+ℤ◌, ℤ, pos, arith, w32, to_z,
 use Rattle.std.proofs.lemmas.Int.{ints}
 use Rattle.scaled_decimal.specs.ScaleValue.{size_of}
 use Rattle.scaled_decimal.specs.NumberReading.{Reading}
-use Rattle.scaled_decimal.proofs.SizeLemmas.{is_scale}
+use Rattle.scaled_decimal.proofs.FarLemmas.{is_scale}
 use Rattle.scaled_decimal.proofs.GuessLemmas.{number_near}
 use Rattle.scaled_decimal.proofs.reading.value_at.Goals as goal
 

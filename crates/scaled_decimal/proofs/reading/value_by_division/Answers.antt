@@ -3,7 +3,7 @@ use Rattle.std.proofs.lemmas.Nat.{pow_pos}
 use Rattle.std.proofs.lemmas.Int.{ints}
 use Rattle.scaled_decimal.specs.ScaleValue.{size_of}
 use Rattle.scaled_decimal.specs.NumberReading.{Reading}
-use Rattle.scaled_decimal.proofs.SizeLemmas.{is_scale}
+use Rattle.scaled_decimal.proofs.FarLemmas.{is_scale}
 use Rattle.scaled_decimal.proofs.ReadLemmas.{value_cases}
 use Rattle.scaled_decimal.proofs.reading.value_by_division.Goals as goal
 

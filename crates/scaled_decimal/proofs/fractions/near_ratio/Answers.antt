@@ -1,7 +1,7 @@
 use Rattle.std.proofs.Common.{◌≡◌, ◌*◌, ◌%◌, ◌^◌, ap, sym, ◌∙◌, arith, rules, w32, FitsSigned, to_z-of_z}
 use Rattle.scaled_decimal.specs.ScaleValue.{size_of}
 use Rattle.scaled_decimal.proofs.SizeLemmas.{is_sized, IsSized, product_is}
-use Rattle.scaled_decimal.proofs.fractions.ratio_of.Goals as goal
+use Rattle.scaled_decimal.proofs.fractions.near_ratio.Goals as goal
 
 pub returns : goal.returns
 returns c =

@@ -1,0 +1,2 @@
+pub mod WeekLemmas
+pub mod DayLemmas

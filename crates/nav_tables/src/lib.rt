@@ -1,0 +1,21 @@
+//! Messages of bit fields, read and written by tables.
+//!
+//! A [`Table`] is the list of a message's fields in order, each with its width, its coding and its
+//! range. [`read_message`] reads the numbers of any message by its table, and [`write_message`]
+//! writes them.
+#![tactic(auto)]
+
+mod field;
+mod laws;
+mod message;
+mod tables;
+#[cfg(test)]
+mod tests;
+
+pub use crate::field::{Coding, Field, Table};
+pub use crate::laws::{numbers_are_in_range, read_is_written, written_is_read};
+pub use crate::message::{TableFault, read_into, read_message, write_message};
+pub use crate::tables::{
+    FIELDS_1020, FIELDS_1042, table_1019, table_1020, table_1041, table_1042, table_1044,
+    table_1045, table_1046,
+};

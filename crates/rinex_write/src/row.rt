@@ -1,0 +1,103 @@
+//! The records of rows: kinds of any system by their layouts.
+
+ghost use Rattle.std.specs.Prelude.{◌≡◌, ◌≤◌, ◌∷◌, ◌++◌, [], length, map};
+ghost use Rattle.nav_io.specs.Writes.{Writes};
+ghost use Rattle.rinex_write.specs.Columns.{joined_rows};
+ghost use Rattle.rinex_write.specs.Mirrors.{AreReady, IsTable};
+ghost use Rattle.rinex_write.specs.RowTexts.{RowKind, row_record, row_satellite, row_title};
+ghost use Rattle.rinex_write.specs.Texts.{text_of};
+
+use crate::layouts::RecordLayout;
+use crate::record::{Record, append, append_table, date_columns, two_digits};
+use gnss_week::{Moment, civil};
+use nav_io::{Failed, Sink};
+
+/// What stands before the date of a row: its kind and its satellite.
+#[derive(Clone, Copy)]
+pub struct RowHead {
+    /// The record type, as `EPH`.
+    pub class: [u8; 3],
+    /// The letter of the system.
+    pub letter: u8,
+    /// The message type, as `FDMA`.
+    pub message: [u8; 4],
+    /// The number of the satellite.
+    pub number: u8,
+}
+
+// The satellite in three columns.
+fn satellite_of(head: &RowHead) -> [u8; 3]
+    ensures { result ≡ row_satellite head.now.letter head.now.number }
+{
+    let [tens, ones] = two_digits(head.number);
+    [head.letter, tens, ones]
+}
+
+// Appends the title of a row; nothing stands before it.
+fn append_row_title(text: &mut Record, head: &RowHead)
+    requires { text.old.items ≡ [] }
+    ensures items { (k : RowKind) → head.now.class ≡ k.class → head.now.message ≡ k.message → text.new.items ≡ row_title k head.now.letter head.now.number ++ 10 ∷ [] }
+    ensures short { length text.new.items ≤ 15 }
+{
+    append(text, b"> ");
+    append(text, &head.class);
+    append(text, b" ");
+    append(text, &satellite_of(head));
+    append(text, b" ");
+    append(text, &head.message);
+    append(text, b"\n");
+}
+
+// The four columns before the date.
+fn row_start(head: &RowHead) -> [u8; 4]
+    ensures { result ≡ row_satellite head.now.letter head.now.number ++ 32 ∷ [] }
+{
+    let [letter, tens, ones] = satellite_of(head);
+    [letter, tens, ones, b' ']
+}
+
+// Appends the lines of a row; nothing stands before it.
+fn append_row_record(
+    text: &mut Record,
+    head: &RowHead,
+    moment: Moment,
+    layout: &RecordLayout,
+    fields: &[i64],
+)
+    requires empty { text.old.items ≡ [] }
+    requires table { IsTable layout.now.rows.now layout.now.columns.now }
+    requires ready { AreReady layout.now.columns.now fields.now }
+    ensures { (k : RowKind) → head.now.class ≡ k.class → head.now.message ≡ k.message → layout.now.columns.now ≡ joined_rows k.rows
+        → layout.now.rows.now ≡ map length k.rows
+        → text.new.items ≡ text_of (row_record k head.now.letter head.now.number moment fields.now) }
+{
+    append_row_title(text, head);
+    append(text, &row_start(head));
+    append(text, &date_columns(&civil(moment)));
+    append_table(text, layout, fields);
+}
+
+/// Appends the record of a row to a sink, by one write.
+///
+/// # Errors
+///
+/// `Failed` only where the sink's count of faults rose in this call or is at its maximum; a prefix
+/// of the record was appended then.
+pub fn write_row<T: Sink>(
+    head: &RowHead,
+    moment: Moment,
+    layout: &RecordLayout,
+    fields: &[i64],
+    out: &mut T,
+) -> Result<(), Failed>
+    requires table { IsTable layout.now.rows.now layout.now.columns.now }
+    requires ready { AreReady layout.now.columns.now fields.now }
+    ensures { (k : RowKind) → head.now.class ≡ k.class → head.now.message ≡ k.message → layout.now.columns.now ≡ joined_rows k.rows
+        → layout.now.rows.now ≡ map length k.rows
+        → Writes (T.written out.old) (T.written out.new) (T.faults out.old) (T.faults out.new) result
+        (text_of (row_record k head.now.letter head.now.number moment fields.now)) }
+{
+    let mut text = Record::new();
+    append_row_record(&mut text, head, moment, layout, fields);
+    out.write(&text)
+}
