@@ -1,4 +1,5 @@
-ghost use Rattle.std.specs.Prelude.{◌≡◌, ◌≤◌, ◌<◌, ◌+◌, ◌*◌, ◌-◌, ◌%◌, ◌/◌, IfOk, IfSome, MatchOption, Some};
+ghost use Rattle.std.specs.Prelude.{◌≡◌, ◌≤◌, ◌<◌, ◌+◌, ◌*◌, ◌-◌, ◌%◌, ◌/◌, IfOk, IfSome};
+ghost use Rattle.std.specs.Prelude.{MatchOption, Some};
 ghost use Rattle.nav_days.specs.Days.{day_of_number};
 ghost use Rattle.nav_days.specs.Times.{IsFrameTime, IsTimeOf, day_of, epoch_at, time_of, times_on};
 ghost use Rattle.nav_days.specs.Times.{times_to};

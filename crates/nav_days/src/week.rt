@@ -1,6 +1,7 @@
 ghost use Rattle.std.specs.Prelude.{◌≡◌, ◌<◌, ◌≤◌, ◌+◌, ◌^◌, IsTrue};
 ghost use Rattle.gnss_week.specs.Functions.{first_from};
-ghost use Rattle.nav_days.specs.Weeks.{IsWeekNear, first_week, is_week_rule, number_of_week, week_to};
+ghost use Rattle.nav_days.specs.Weeks.{IsWeekNear, first_week, is_week_rule, number_of_week};
+ghost use Rattle.nav_days.specs.Weeks.{week_to};
 
 use gnss_week::{RefWeek, Week};
 

@@ -1,4 +1,5 @@
-ghost use Rattle.std.specs.Prelude.{◌≡◌, ◌+◌, ◌/◌, ◌%◌, ◌++◌, ◌≤◌, ◌<◌, ◌^◌, IsTrue, length, pos, unsigned_abs};
+ghost use Rattle.std.specs.Prelude.{◌≡◌, ◌+◌, ◌/◌, ◌%◌, ◌++◌, ◌≤◌, ◌<◌, ◌^◌, IsTrue, length, pos};
+ghost use Rattle.std.specs.Prelude.{unsigned_abs};
 ghost use Rattle.nav_links.specs.Links.{AreFit, IsFit, PartsFit, are_links, are_parts, column_of};
 ghost use Rattle.nav_links.specs.Links.{columns_of, filled, filled_by, is_link, joined, split};
 ghost use Rattle.nav_links.specs.Links.{AreSmall, width_of};

@@ -3,7 +3,8 @@ ghost use Rattle.nav_tables.specs.declared.field.Field.{Field};
 ghost use Rattle.nav_tables.specs.Messages.{AreInRange};
 ghost use Rattle.nav_links.specs.declared.link.Link.{Link};
 ghost use Rattle.nav_links.specs.declared.link.Part.{Part};
-ghost use Rattle.nav_links.specs.Links.{AreFit, AreSaid, are_apart, are_links, columns_of, filled, nth, ranges_fit, say};
+ghost use Rattle.nav_links.specs.Links.{AreFit, AreSaid, are_apart, are_links, columns_of, filled};
+ghost use Rattle.nav_links.specs.Links.{nth, ranges_fit, say};
 
 /// Columns give back the numbers that they are of, where those that no column says were right before.
 pub fn numbers_come_back()

@@ -1,25 +1,120 @@
-ghost use Rattle.std.specs.Prelude.{◌≡◌, IsTrue};
-ghost use Rattle.nav_rows.specs.Rows.{IsKind};
+//! The kinds of ephemerides: what differs between them, as constants.
 
-use nav_links::{LINKS_FDMA, Link, PARTS_FDMA, Part};
-use nav_tables::{FIELDS_1020, Table};
-use rinex_write::{FDMA, FDMA_ROWS, RecordLayout};
+ghost use Rattle.std.specs.Prelude.{◌≡◌, IsTrue, IfSome};
+ghost use Rattle.nav_rows.specs.Kinds.{IsKind};
 
-/// A kind whose messages tell the time of a frame: all that tells it from others.
+use crate::layouts::{
+    D1, D1_ROWS, FDMA, FDMA_ROWS, FNAV, FNAV_ROWS, NAVIC, NAVIC_ROWS, QZSS, QZSS_ROWS,
+};
+use crate::links::{
+    D1_LINKS, D1_PARTS, FDMA_LINKS, FDMA_PARTS, FNAV_LINKS, FNAV_PARTS, NAVIC_LINKS, NAVIC_PARTS,
+    QZSS_LINKS, QZSS_PARTS,
+};
+use crate::tables::{FIELDS_1020, FIELDS_1041, FIELDS_1042, FIELDS_1044, FIELDS_1045};
+use nav_days::WeekRule;
+use nav_links::{Link, Part};
+use nav_tables::Table;
+use rinex_write::RecordLayout;
+
+/// The scale in which the epochs of a kind's records are dates.
+#[derive(Clone, Copy, PartialEq, Eq)]
+pub enum TimeScale {
+    /// GPS time; that of QZSS and of NavIC is printed as it.
+    Gps,
+    /// Galileo's, printed as GPS time.
+    Galileo,
+    /// BeiDou's.
+    BeiDou,
+    /// UTC.
+    Utc,
+}
+
+/// How a message counts weeks, and where its times of week are.
+#[derive(Clone, Copy)]
+pub struct WeekClock {
+    /// What its week number stands for.
+    pub rule: WeekRule,
+    /// The week, counted from 1980-01-06, that records count as 0.
+    pub zero: u32,
+    /// The unit of toe and toc in seconds.
+    pub step: u32,
+    /// The field with the week number.
+    pub week: usize,
+    /// The field with toe.
+    pub toe: usize,
+    /// The field with toc.
+    pub toc: usize,
+}
+
+/// How a message tells its times.
+#[derive(Clone, Copy)]
+pub enum Clock {
+    /// By the day and the time of its frame (message 1020).
+    Frame,
+    /// By a week number and two times of week.
+    Weeks(WeekClock),
+}
+
+/// A kind of ephemeris: all that tells it from others.
 #[derive(Clone, Copy)]
 pub struct Kind {
     /// The letter of its system.
     pub letter: u8,
-    /// The message type of its records.
-    pub title: [u8; 4],
+    /// The message type of its records, two to four letters.
+    pub title: &'static [u8],
+    /// What the PRN of a satellite is above its number.
+    pub prn: u8,
+    /// The scale of its epochs.
+    pub scale: TimeScale,
+    /// How its message tells its times.
+    pub clock: Clock,
+    /// The field with a SISA index, of which 126 to 254 are spare.
+    pub sisa: Option<usize>,
     /// Its message.
     pub table: Table,
-    /// What the columns of its records say.
+    /// Where the columns of its records come from.
     pub links: &'static [Link],
     /// The parts of these columns.
     pub parts: &'static [Part],
     /// Its records.
     pub layout: RecordLayout,
+}
+
+// A clock of weeks: bits of the week number, its week 0, the records' week 0, the unit of toe and
+// toc, and the three fields.
+macro_rules! weeks {
+    ($bits:literal, $from:literal, $zero:literal, $step:literal, $week:literal, $toe:literal,
+        $toc:literal) => {
+        Clock::Weeks(WeekClock {
+            rule: WeekRule {
+                bits: $bits,
+                zero: $from,
+            },
+            zero: $zero,
+            step: $step,
+            week: $week,
+            toe: $toe,
+            toc: $toc,
+        })
+    };
+}
+
+macro_rules! message {
+    ($fields:ident, $bytes:literal) => {
+        Table {
+            fields: &$fields,
+            bytes: $bytes,
+        }
+    };
+}
+
+macro_rules! layout {
+    ($columns:ident, $rows:ident) => {
+        RecordLayout {
+            columns: &$columns,
+            rows: &$rows,
+        }
+    };
 }
 
 /// GLONASS FDMA.
@@ -28,16 +123,130 @@ pub fn kind_fdma() -> Kind
 {
     Kind {
         letter: b'R',
-        title: *b"FDMA",
-        table: Table {
-            fields: &FIELDS_1020,
-            bytes: 45,
-        },
-        links: &LINKS_FDMA,
-        parts: &PARTS_FDMA,
-        layout: RecordLayout {
-            columns: &FDMA,
-            rows: &FDMA_ROWS,
-        },
+        title: b"FDMA",
+        prn: 0,
+        scale: TimeScale::Utc,
+        clock: Clock::Frame,
+        sisa: None,
+        table: message!(FIELDS_1020, 45),
+        links: &FDMA_LINKS,
+        parts: &FDMA_PARTS,
+        layout: layout!(FDMA, FDMA_ROWS),
+    }
+}
+
+/// BeiDou D1, of satellites in inclined orbits.
+pub fn kind_d1() -> Kind
+    ensures kind { IsKind result }
+{
+    Kind {
+        letter: b'C',
+        title: b"D1",
+        prn: 0,
+        scale: TimeScale::BeiDou,
+        clock: weeks!(13, 1356, 1356, 8, 2, 18, 6),
+        sisa: None,
+        table: message!(FIELDS_1042, 64),
+        links: &D1_LINKS,
+        parts: &D1_PARTS,
+        layout: layout!(D1, D1_ROWS),
+    }
+}
+
+/// BeiDou D2, of geostationary satellites; but for its title as D1.
+pub fn kind_d2() -> Kind
+    ensures kind { IsKind result }
+{
+    Kind {
+        letter: b'C',
+        title: b"D2",
+        prn: 0,
+        scale: TimeScale::BeiDou,
+        clock: weeks!(13, 1356, 1356, 8, 2, 18, 6),
+        sisa: None,
+        table: message!(FIELDS_1042, 64),
+        links: &D1_LINKS,
+        parts: &D1_PARTS,
+        layout: layout!(D1, D1_ROWS),
+    }
+}
+
+/// Galileo F/NAV.
+pub fn kind_fnav() -> Kind
+    ensures kind { IsKind result }
+{
+    Kind {
+        letter: b'E',
+        title: b"FNAV",
+        prn: 0,
+        scale: TimeScale::Galileo,
+        clock: weeks!(12, 1024, 0, 60, 2, 17, 6),
+        sisa: Some(4),
+        table: message!(FIELDS_1045, 62),
+        links: &FNAV_LINKS,
+        parts: &FNAV_PARTS,
+        layout: layout!(FNAV, FNAV_ROWS),
+    }
+}
+
+/// QZSS LNAV.
+pub fn kind_qzss() -> Kind
+    ensures kind { IsKind result }
+{
+    Kind {
+        letter: b'J',
+        title: b"LNAV",
+        prn: 192,
+        scale: TimeScale::Gps,
+        clock: weeks!(10, 0, 0, 16, 24, 14, 2),
+        sisa: None,
+        table: message!(FIELDS_1044, 61),
+        links: &QZSS_LINKS,
+        parts: &QZSS_PARTS,
+        layout: layout!(QZSS, QZSS_ROWS),
+    }
+}
+
+/// NavIC LNAV.
+pub fn kind_navic() -> Kind
+    ensures kind { IsKind result }
+{
+    Kind {
+        letter: b'I',
+        title: b"LNAV",
+        prn: 0,
+        scale: TimeScale::Gps,
+        clock: weeks!(10, 0, 0, 16, 2, 22, 7),
+        sisa: None,
+        table: message!(FIELDS_1041, 61),
+        links: &NAVIC_LINKS,
+        parts: &NAVIC_PARTS,
+        layout: layout!(NAVIC, NAVIC_ROWS),
+    }
+}
+
+/// The kind of the messages of a number; of 1042 satellites 1 to 5 and 59 to 63 send D2
+/// (BDS-SIS-ICD-B1I-3.0, 4.3).
+pub fn kind_of(message: u16, satellite: u8) -> Option<Kind>
+    ensures { IfSome result IsKind }
+{
+    match message {
+        1020 => Some(kind_fdma()),
+        1041 => Some(kind_navic()),
+        1042 => Some(beidou_kind(satellite)),
+        1044 => Some(kind_qzss()),
+        1045 => Some(kind_fnav()),
+        _ => None,
+    }
+}
+
+// The kind of a BeiDou satellite.
+fn beidou_kind(satellite: u8) -> Kind
+    ensures kind { IsKind result }
+{
+    if satellite <= 5 || satellite >= 59 {
+        kind_d2()
+    } else {
+        kind_d1()
     }
 }

@@ -1,14 +1,39 @@
-//! Rows: records of any kind from its messages.
+//! Kinds of ephemerides as constants, and rows: the records of any kind from its messages.
+//!
+//! A [`Kind`] is a message table, a record layout, and a link for each column of the record; so a
+//! further kind takes no function. [`row_of_message`] gives the row of a message (RTCM 10403.3,
+//! 3.5) near a reference week, and [`write_record`] its record (RINEX 4.01, navigation records).
+//!
+//! ```rust
+//! use gnss_week::RefWeek;
+//! use nav_rows::{kind_of, row_of_message};
+//!
+//! let kind = kind_of(1020, 25).ok_or("a kind")?;
+//! let reference = RefWeek::new(2295).ok_or("a reference week")?;
+//! let row = row_of_message(&kind, payload, reference)?;
+//! assert!(rt; row.number == 25);
+//! ```
 #![tactic(auto)]
 
-mod d1;
 mod kind;
 mod laws;
+mod layouts;
+mod links;
 mod row;
+mod tables;
 #[cfg(test)]
 mod tests;
+mod times;
 
-pub use crate::d1::{D1, D1_ROWS, d1_layout};
-pub use crate::kind::{Kind, kind_fdma};
-pub use crate::laws::columns_are_fields;
+pub use crate::kind::{
+    Clock, Kind, TimeScale, WeekClock, kind_d1, kind_d2, kind_fdma, kind_fnav, kind_navic, kind_of,
+    kind_qzss,
+};
+pub use crate::laws::{table_1019_is_read, table_1046_is_read};
+pub use crate::layouts::sbas_layout;
 pub use crate::row::{Row, RowFault, row_of_message, write_record};
+pub use crate::tables::{
+    FIELDS_1019, FIELDS_1020, FIELDS_1041, FIELDS_1042, FIELDS_1044, FIELDS_1045, FIELDS_1046,
+    table_1019, table_1020, table_1041, table_1042, table_1044, table_1045, table_1046,
+};
+pub use crate::times::RowTimes;

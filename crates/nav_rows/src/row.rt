@@ -1,17 +1,20 @@
-ghost use Rattle.std.specs.Prelude.{◌≡◌, ◌<◌, ◌≤◌, ◌++◌, ◌∷◌, [], length, pos, ◌≤ℤ◌, unsigned_abs, IfOk, IfErr, Ok, Err, map};
+//! Rows: the records of messages.
+
+ghost use Rattle.std.specs.Prelude.{◌≡◌, ◌<◌, ◌≤◌, ◌++◌, ◌∷◌, [], length, pos, ◌≤ℤ◌, unsigned_abs};
+ghost use Rattle.std.specs.Prelude.{IfOk, IfErr, Ok, Err, map};
 ghost use Rattle.nav_io.specs.Writes.{Writes};
 ghost use Rattle.nav_links.specs.Links.{nth};
-ghost use Rattle.nav_days.specs.Times.{IsFrameTime};
 ghost use Rattle.rinex_write.specs.Columns.{AreFields, joined_rows};
-ghost use Rattle.rinex_write.specs.Mirrors.{AreReady};
 ghost use Rattle.rinex_write.specs.RowTexts.{RowKind, row_record};
 ghost use Rattle.rinex_write.specs.Texts.{text_of};
-ghost use Rattle.nav_rows.specs.Rows.{HasTimes, IsKind, frame_of, given_of, row_in};
+ghost use Rattle.nav_rows.specs.Kinds.{IsKind};
+ghost use Rattle.nav_rows.specs.Times.{IsSatellite};
+ghost use Rattle.nav_rows.specs.Rows.{given_of, has_spare_sisa, row_in, SisaInside};
 
 use crate::kind::Kind;
+use crate::times::{RowTimes, times_told};
 use arrayvec::ArrayVec;
 use gnss_week::{Moment, RefWeek};
-use nav_days::{FrameTime, Times, times_of};
 use nav_io::{Failed, Sink};
 use nav_links::columns_of;
 use nav_tables::{TableFault, read_message};
@@ -28,58 +31,46 @@ pub struct Row {
     pub columns: ArrayVec<i64, 40>,
 }
 
-/// Why a message gives no row.
+/// Why a message gives no row: the first of these that holds, in this order.
 #[derive(Clone, Copy, PartialEq, Eq, Debug)]
 pub enum RowFault {
     /// It is no such message.
     Message(TableFault),
+    /// Its SISA index is a spare one, 126 to 254.
+    SpareSisa,
     /// No day has its number.
     Day,
 }
 
-// The number of a field that is not negative.
-fn number_at(numbers: &[i64], place: usize) -> u32
-    requires inside { place < length numbers.now }
-    requires from { pos 0 ≤ℤ nth numbers.now place }
-    requires to { nth numbers.now place ≤ℤ pos 1461 }
-    ensures { result ≡ unsigned_abs (nth numbers.now place) }
-{
-    numbers[place] as u32
-}
-
 // The satellite of a message.
 fn satellite_of(numbers: &[i64]) -> u8
-    requires { HasTimes numbers.now }
+    requires { IsSatellite numbers.now }
     ensures { result ≡ unsigned_abs (nth numbers.now 1) }
 {
     numbers[1] as u8
 }
 
-// The time that a message tells.
-fn frame_of(numbers: &[i64]) -> FrameTime
-    requires { HasTimes numbers.now }
-    ensures same { result ≡ frame_of numbers.now }
-    ensures range { IsFrameTime result }
+// Whether the SISA index is a spare one, where there is one.
+fn has_spare_sisa(sisa: Option<usize>, numbers: &[i64]) -> bool
+    requires { SisaInside sisa numbers.now }
+    ensures { result ≡ has_spare_sisa sisa numbers.now }
 {
-    FrameTime {
-        additional: number_at(numbers, 32),
-        period: number_at(numbers, 35),
-        day: number_at(numbers, 30),
-        hour: number_at(numbers, 6),
-        minute: number_at(numbers, 7),
-        half: number_at(numbers, 8),
-        quarter: number_at(numbers, 11),
+    match sisa {
+        None => false,
+        Some(field) => numbers[field] >= 126 && numbers[field] <= 254,
     }
 }
 
 // The numbers that no field has alone.
-fn given_of(times: &Times) -> [i64; 4]
+fn given_of(times: &RowTimes) -> [i64; 4]
     ensures { result ≡ given_of times.now }
 {
-    [0, i64::from(times.frame.second().value()), 0, 0]
+    [i64::from(times.week), i64::from(times.sent), 0, 0]
 }
 
 /// The row of a message near a reference week.
+///
+/// The error is the first fault, in the order of [`RowFault`].
 pub fn row_of_message(kind: &Kind, payload: &[u8], reference: RefWeek) -> Result<Row, RowFault>
     requires { IsKind kind.now }
     ensures ok { IfOk result (λ row. row_in kind.now payload.now reference
@@ -91,7 +82,10 @@ pub fn row_of_message(kind: &Kind, payload: &[u8], reference: RefWeek) -> Result
         Ok(numbers) => numbers,
         Err(fault) => return Err(RowFault::Message(fault)),
     };
-    let Some(times) = times_of(&frame_of(numbers.as_slice()), reference) else {
+    if has_spare_sisa(kind.sisa, numbers.as_slice()) {
+        return Err(RowFault::SpareSisa);
+    }
+    let Some(times) = times_told(&kind.clock, numbers.as_slice(), reference) else {
         return Err(RowFault::Day);
     };
     let given = given_of(&times);
@@ -111,8 +105,9 @@ pub fn row_of_message(kind: &Kind, payload: &[u8], reference: RefWeek) -> Result
 pub fn write_record<T: Sink>(kind: &Kind, row: &Row, out: &mut T) -> Result<(), Failed>
     requires kind { IsKind kind.now }
     requires fields { AreFields kind.now.layout.columns.now row.now.columns.items }
-    ensures { (k : RowKind) → k.class ≡ 69 ∷ 80 ∷ 72 ∷ [] → kind.now.title ≡ k.message →
-        kind.now.layout.columns.now ≡ joined_rows k.rows → kind.now.layout.rows.now ≡ map length k.rows →
+    ensures { (k : RowKind) → k.class ≡ 69 ∷ 80 ∷ 72 ∷ [] → kind.now.title.now ≡ k.message →
+        kind.now.layout.columns.now ≡ joined_rows k.rows →
+        kind.now.layout.rows.now ≡ map length k.rows →
         Writes (T.written out.old) (T.written out.new) (T.faults out.old) (T.faults out.new) result
         (text_of (row_record k kind.now.letter row.now.number row.now.moment row.now.columns.items)) }
 {

@@ -1,4 +1,3 @@
 pub mod FieldLemmas
 pub mod MessageLemmas
 pub mod LoopLemmas
-pub mod MovedLemmas

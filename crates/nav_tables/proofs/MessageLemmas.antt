@@ -109,7 +109,7 @@ judged_ok : (zs numbers : List ℤ) (o : Option ℕ) → judged zs o ≡ Ok numb
 judged_ok zs numbers None e = (refl, (cc))
 judged_ok zs numbers (Some k) e = (cc)
 
-ok_is : (t : Table) (bytes : List ℕ) (numbers : List ℤ) (b : Bool) → nat_lt (length bytes) t.bytes ≡ b → message_in t bytes ≡ Ok numbers
+pub ok_is : (t : Table) (bytes : List ℕ) (numbers : List ℤ) (b : Bool) → nat_lt (length bytes) t.bytes ≡ b → message_in t bytes ≡ Ok numbers
     → (first_outside 0 t.fields.now (numbers_at bytes 0 t.fields.now) ≡ None) × (numbers_at bytes 0 t.fields.now ≡ numbers)
 unfolding message_in
 ok_is t bytes numbers true e ok = let h : Err Short ≡ Ok numbers = rw e at ok in (cc)

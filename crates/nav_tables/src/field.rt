@@ -3,7 +3,6 @@ ghost use Rattle.nav_bits.specs.Signed.{IsSigned, unsigned_of};
 ghost use Rattle.nav_tables.specs.declared.field.Coding.TheVariants.{SignMagnitude};
 ghost use Rattle.nav_tables.specs.Fields.{IsInRange, bits_of, greatest, is_field, is_in_range};
 ghost use Rattle.nav_tables.specs.Fields.{least, number_of, sign_magnitude_bits};
-ghost use Rattle.nav_tables.specs.Mirrors.{code_of, moved_by};
 ghost use Rattle.nav_tables.specs.Fields.{sign_magnitude_of};
 
 use nav_bits::sign_extended;
@@ -43,42 +42,8 @@ pub struct Table {
     pub bytes: usize,
 }
 
-// The number that the bits of a field stand for; without a branch for the usual codings.
-#[inline(always)]
+// The number that the bits of a field stand for.
 pub(crate) fn number_of(field: &Field, bits: u64) -> i64
-    requires field { IsTrue (is_field field.now) }
-    requires fits { bits < 2 ^ field.now.width }
-    ensures { result ≡ number_of field.now bits }
-{
-    let code = code_of(field.coding);
-    if code >= 2 {
-        return any_number(field, bits);
-    }
-    moved(bits, field.width, half_of(code, field.width))
-}
-
-// The place of a coding among the codings.
-#[inline(always)]
-fn code_of(coding: Coding) -> u8
-    ensures { result ≡ code_of coding }
-{
-    coding as u8
-}
-
-// Half of the numbers of so many bits, or 0.
-#[inline(always)]
-fn half_of(code: u8, width: u32) -> u64
-    requires code { code < 2 }
-    requires some { 1 ≤ width }
-    requires most { width ≤ 32 }
-    ensures same { result ≡ code * 2 ^ (width - 1) }
-    ensures few { result < 2 ^ 32 }
-{
-    u64::from(code) << (width - 1)
-}
-
-// The number that the bits of a field of any coding stand for.
-fn any_number(field: &Field, bits: u64) -> i64
     requires field { IsTrue (is_field field.now) }
     requires fits { bits < 2 ^ field.now.width }
     ensures { result ≡ number_of field.now bits }
@@ -89,17 +54,6 @@ fn any_number(field: &Field, bits: u64) -> i64
         Coding::SignMagnitude => signed_by_magnitude(bits, field.width),
         Coding::Reserved => 0,
     }
-}
-
-// The bits moved up by half of the numbers and down again.
-#[inline(always)]
-fn moved(bits: u64, width: u32, half: u64) -> i64
-    requires most { width ≤ 32 }
-    requires fits { bits < 2 ^ width }
-    requires half { half < 2 ^ 32 }
-    ensures { result ≡ moved_by width half bits }
-{
-    ((bits + half) % (1 << width)) as i64 - half as i64
 }
 
 // The number of a sign and a magnitude.

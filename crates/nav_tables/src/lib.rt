@@ -8,14 +8,7 @@
 mod field;
 mod laws;
 mod message;
-mod tables;
-#[cfg(test)]
-mod tests;
 
 pub use crate::field::{Coding, Field, Table};
 pub use crate::laws::{numbers_are_in_range, read_is_written, written_is_read};
-pub use crate::message::{TableFault, read_into, read_message, write_message};
-pub use crate::tables::{
-    FIELDS_1020, FIELDS_1042, table_1019, table_1020, table_1041, table_1042, table_1044,
-    table_1045, table_1046,
-};
+pub use crate::message::{TableFault, read_message, write_message};

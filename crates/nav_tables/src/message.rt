@@ -1,10 +1,10 @@
 ghost use Rattle.std.specs.Prelude.{◌≡◌, ℕ, ◌*◌, ◌≤◌, IsTrue, IfOk, IfErr, length};
-ghost use Rattle.std.specs.Prelude.{Ok, Err, None, ◌+◌, take, slice_index, ◌<◌};
+ghost use Rattle.std.specs.Prelude.{Ok, Err, slice_index, ◌<◌};
 ghost use Rattle.nav_bits.specs.Fields.{AreFields};
 ghost use Rattle.nav_tables.specs.Fields.{IsInRange};
 ghost use Rattle.nav_tables.specs.Messages.{AreInRange, are_fields, first_outside, is_table};
 ghost use Rattle.nav_tables.specs.Messages.{message_bytes, message_in, numbers_at, width_of};
-ghost use Rattle.nav_tables.specs.Mirrors.{ArePut, pairs};
+ghost use Rattle.nav_tables.specs.Mirrors.{pairs};
 
 use crate::field::{Field, Table, bits_of, is_in_range, number_of};
 use arrayvec::ArrayVec;
@@ -68,46 +68,6 @@ pub fn read_message(table: &Table, bytes: &[u8]) -> Result<ArrayVec<i64, 48>, Ta
     let numbers = numbers_of(table.fields, bytes);
     match first_outside(table.fields, numbers.as_slice()) {
         None => Ok(numbers),
-        Some(field) => Err(TableFault::OutOfRange { field }),
-    }
-}
-
-// Reads and judges the numbers of a list of fields.
-fn read_fields(fields: &[Field], bytes: &[u8], numbers: &mut [i64; 48]) -> Option<usize>
-    requires fields { IsTrue (are_fields fields.now) }
-    requires few { length fields.now ≤ 48 }
-    requires inside { width_of fields.now ≤ 8 * length bytes.now }
-    requires small { width_of fields.now ≤ 2000 }
-    ensures fault { result ≡ first_outside 0 fields.now (numbers_at bytes.now 0 fields.now) }
-    ensures told { result ≡ None → ArePut bytes.now 0 0 fields.now numbers.old numbers.new }
-{
-    let mut at = 0;
-    for (i, field) in fields.iter().enumerate() {
-        let width = field.width as usize;
-        let number = number_of(field, number_in_bytes(bytes, at, width));
-        if !is_in_range(field, number) {
-            return Some(i);
-        }
-        numbers[i] = number;
-        at += width;
-    }
-    None
-}
-
-/// Reads the numbers of the message at the start of some bytes into the first places of `numbers`.
-///
-/// The error is the first fault, in the order of [`TableFault`].
-pub fn read_into(table: &Table, bytes: &[u8], numbers: &mut [i64; 48]) -> Result<(), TableFault>
-    requires { IsTrue (is_table table.now) }
-    ensures ok { IfOk result (λ u. message_in table.now bytes.now
-        ≡ Ok (take (length table.now.fields.now) numbers.new)) }
-    ensures err { IfErr result (λ fault. message_in table.now bytes.now ≡ Err fault) }
-{
-    if bytes.len() < table.bytes {
-        return Err(TableFault::Short);
-    }
-    match read_fields(table.fields, bytes, numbers) {
-        None => Ok(()),
         Some(field) => Err(TableFault::OutOfRange { field }),
     }
 }

@@ -27,7 +27,6 @@
 #![tactic(auto)]
 
 mod columns;
-mod fdma;
 mod fields;
 mod header;
 mod item;
@@ -40,7 +39,6 @@ mod words;
 mod write3;
 
 pub use crate::columns::{Column, Rule};
-pub use crate::fdma::{FDMA, FDMA_ROWS, fdma_layout};
 pub use crate::header::{write_header, write_header_of};
 pub use crate::item::{epoch_of, write_body, write_item};
 pub use crate::laws::{

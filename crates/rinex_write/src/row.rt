@@ -19,8 +19,8 @@ pub struct RowHead {
     pub class: [u8; 3],
     /// The letter of the system.
     pub letter: u8,
-    /// The message type, as `FDMA`.
-    pub message: [u8; 4],
+    /// The message type, as `FDMA`: at most four letters.
+    pub message: &'static [u8],
     /// The number of the satellite.
     pub number: u8,
 }
@@ -35,8 +35,9 @@ fn satellite_of(head: &RowHead) -> [u8; 3]
 
 // Appends the title of a row; nothing stands before it.
 fn append_row_title(text: &mut Record, head: &RowHead)
-    requires { text.old.items ≡ [] }
-    ensures items { (k : RowKind) → head.now.class ≡ k.class → head.now.message ≡ k.message → text.new.items ≡ row_title k head.now.letter head.now.number ++ 10 ∷ [] }
+    requires empty { text.old.items ≡ [] }
+    requires message { length head.now.message.now ≤ 4 }
+    ensures items { (k : RowKind) → head.now.class ≡ k.class → head.now.message.now ≡ k.message → text.new.items ≡ row_title k head.now.letter head.now.number ++ 10 ∷ [] }
     ensures short { length text.new.items ≤ 15 }
 {
     append(text, b"> ");
@@ -44,7 +45,7 @@ fn append_row_title(text: &mut Record, head: &RowHead)
     append(text, b" ");
     append(text, &satellite_of(head));
     append(text, b" ");
-    append(text, &head.message);
+    append(text, head.message);
     append(text, b"\n");
 }
 
@@ -65,9 +66,10 @@ fn append_row_record(
     fields: &[i64],
 )
     requires empty { text.old.items ≡ [] }
+    requires message { length head.now.message.now ≤ 4 }
     requires table { IsTable layout.now.rows.now layout.now.columns.now }
     requires ready { AreReady layout.now.columns.now fields.now }
-    ensures { (k : RowKind) → head.now.class ≡ k.class → head.now.message ≡ k.message → layout.now.columns.now ≡ joined_rows k.rows
+    ensures { (k : RowKind) → head.now.class ≡ k.class → head.now.message.now ≡ k.message → layout.now.columns.now ≡ joined_rows k.rows
         → layout.now.rows.now ≡ map length k.rows
         → text.new.items ≡ text_of (row_record k head.now.letter head.now.number moment fields.now) }
 {
@@ -90,9 +92,10 @@ pub fn write_row<T: Sink>(
     fields: &[i64],
     out: &mut T,
 ) -> Result<(), Failed>
+    requires message { length head.now.message.now ≤ 4 }
     requires table { IsTable layout.now.rows.now layout.now.columns.now }
     requires ready { AreReady layout.now.columns.now fields.now }
-    ensures { (k : RowKind) → head.now.class ≡ k.class → head.now.message ≡ k.message → layout.now.columns.now ≡ joined_rows k.rows
+    ensures { (k : RowKind) → head.now.class ≡ k.class → head.now.message.now ≡ k.message → layout.now.columns.now ≡ joined_rows k.rows
         → layout.now.rows.now ≡ map length k.rows
         → Writes (T.written out.old) (T.written out.new) (T.faults out.old) (T.faults out.new) result
         (text_of (row_record k head.now.letter head.now.number moment fields.now)) }
