@@ -2,9 +2,8 @@
 use Rattle.std.proofs.Common.{◌≡◌, ℕ, zero, suc, ◌+◌, ◌*◌, ◌/◌, ◌%◌, ◌<◌, ◌≤◌, List, [], ◌∷◌, ◌++◌, length, drop, codes, ℤ, Some, refl, ap, ◌∙◌, arith, length-append}
 use Rattle.nav_io.specs.Causes.{Rose}
 use Rattle.nav_io.specs.Prefix.{AppendsPrefix}
-use Rattle.scaled_decimal.specs.ScaleValue.{size_of}
 use Rattle.scaled_decimal.specs.NumberText.{digits}
-use Rattle.scaled_decimal.proofs.Surface.{length-number_text}
+use Rattle.rinex_write.proofs.Surface.{length-column_text}
 use Rattle.gnss_week.specs.declared.calendar.Civil.{Civil}
 use Rattle.gnss_week.specs.Functions.{civil_to}
 use Rattle.nav_eph.specs.Satellite.{Satellite}
@@ -13,7 +12,7 @@ use Rattle.nav_eph.specs.declared.ion.IonContent.TheVariants.{Gps as OfGps, Gal 
 use Rattle.nav_eph.specs.declared.items.NavItem.{NavItem}
 use Rattle.nav_eph.specs.declared.items.NavItem.TheVariants.{Gps as GpsItem, Gal as GalItem, Ion as IonItem}
 use Rattle.rinex_write.specs.declared.columns.Column.{Column}
-use Rattle.rinex_write.specs.Columns.{column_text, shown, row_text, row_lines}
+use Rattle.rinex_write.specs.Columns.{column_text, row_text, row_lines}
 use Rattle.rinex_write.specs.Layouts.{Kind, gps_kind, galileo_kind, gps_ionosphere_kind, galileo_ionosphere_kind, gps_rows, galileo_rows, gps_ionosphere_rows, galileo_ionosphere_rows}
 use Rattle.rinex_write.specs.Fields.{gps_fields, galileo_fields, gps_ionosphere_fields, galileo_ionosphere_fields, gps_epoch, galileo_epoch}
 use Rattle.rinex_write.specs.Texts.{text_of, satellite_text, date_text, title_line, record_lines, ionosphere_lines, item_lines, body_lines}
@@ -36,7 +35,7 @@ length-row_text (c ∷ cs) (z ∷ zs) =
     omega (
       arith,
       length-append (column_text c z) (row_text cs zs),
-      length-number_text (size_of c.scale) (shown c.rule z),
+      length-column_text c z,
       length-row_text cs zs,
     )
 

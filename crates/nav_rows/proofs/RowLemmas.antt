@@ -12,7 +12,7 @@ use Rattle.nav_links.specs.declared.link.Link.TheVariants.{Field, Opposite, Rais
 use Rattle.nav_links.specs.Links.{nth, parts_from, joined, width_of, are_parts, is_link, are_links, column_of, columns_of, ranges_fit, range_fits, AreFit}
 use Rattle.nav_links.proofs.LinkLemmas.{both, joined-lt, inside_at, fit_parts, fit_all}
 use Rattle.rinex_write.specs.declared.columns.Rule.{Rule}
-use Rattle.rinex_write.specs.declared.columns.Rule.TheVariants.{Plain, OrZero, Ura, Sisa, Fit, Sent, Unread}
+use Rattle.rinex_write.specs.declared.columns.Rule.TheVariants.{Plain, OrZero, OrLeast, Ura, Sisa, Fit, Sent, Unread}
 use Rattle.rinex_write.specs.declared.columns.Column.{Column}
 use Rattle.rinex_write.specs.Columns.{IsField, AreFields}
 use Rattle.rinex_write.specs.Mirrors.{IsSmall, IsKept, AreKept, AreReady}
@@ -90,6 +90,7 @@ between low high r z e h =
 is_field : (sisa : Bool) (rule : Rule) (r : Range) (z : ℤ) → covers sisa rule r ≡ true → (sisa ≡ true → IsNoSpare z) → IsIn r z → IsField rule z
 is_field sisa (Plain low high) r z e s h = between low high r z e h
 is_field sisa (OrZero low high) r z e s h = between low high r z e h
+is_field sisa (OrLeast low high) r z e s h = between low high r z e h
 is_field sisa Ura r z e s h = between (pos 0) (pos 15) r z e h
 is_field sisa Sisa r z e s h =
     let a = both (sisa && int_le (pos 0) r.low) (int_le r.high (pos 255)) e in
@@ -132,6 +133,7 @@ small (negsuc n) a b = omega (arith, ints)
 kept : (rule : Rule) (z : ℤ) → IsField rule z → IsKept IsSmall rule z
 kept (Plain low high) z h = h
 kept (OrZero low high) z h = h
+kept (OrLeast low high) z h = h
 kept Ura z h = h
 kept Sisa z h = h
 kept Fit z h = h

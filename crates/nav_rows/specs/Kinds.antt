@@ -8,7 +8,7 @@ use Rattle.nav_links.specs.declared.link.Link.TheVariants.{Field, Opposite, Rais
 use Rattle.nav_links.specs.Links.{parts_from, width_of, are_links, field_at, ranges_fit}
 use Rattle.nav_days.specs.Weeks.{is_week_rule}
 use Rattle.rinex_write.specs.declared.columns.Rule.{Rule}
-use Rattle.rinex_write.specs.declared.columns.Rule.TheVariants.{Plain, OrZero, Ura, Sisa, Fit, Sent, Unread}
+use Rattle.rinex_write.specs.declared.columns.Rule.TheVariants.{Plain, OrZero, OrLeast, Ura, Sisa, Fit, Sent, Unread}
 use Rattle.rinex_write.specs.declared.columns.Column.{Column}
 use Rattle.rinex_write.specs.Columns.{are_good}
 use Rattle.rinex_write.specs.Mirrors.{IsTable}
@@ -56,6 +56,7 @@ gives_sisa (Some f) _ = false
 abbrev pub covers : Bool → Rule → Range → Bool
 covers sisa (Plain low high) r = int_le low r.low && int_le r.high high
 covers sisa (OrZero low high) r = int_le low r.low && int_le r.high high
+covers sisa (OrLeast low high) r = int_le low r.low && int_le r.high high
 covers sisa Ura r = int_le (pos 0) r.low && int_le r.high (pos 15)
 covers sisa Sisa r = sisa && int_le (pos 0) r.low && int_le r.high (pos 255)
 covers sisa Fit r = int_le (pos 0) r.low && int_le r.high (pos 1)

@@ -46,6 +46,16 @@ macro_rules! flags {
     };
 }
 
+// The same where the least is a blank column.
+macro_rules! least_signed {
+    ($width:literal) => {
+        Rule::OrLeast {
+            low: -(1 << ($width - 1)),
+            high: (1 << ($width - 1)) - 1,
+        }
+    };
+}
+
 macro_rules! unread {
     ($number:literal) => {
         Rule::Unread { number: $number }
@@ -214,7 +224,7 @@ pub const QZSS: [Column; 29] = [
     steps!(1, unread!(1)), // l2p
     decimal!(1, -2, Rule::Ura), // ura
     steps!(1, unsigned!(6)), // health
-    power!(-31, signed!(8)), // tgd
+    power!(-31, least_signed!(8)), // tgd
     steps!(1, unsigned!(10)), // iodc
     steps!(1, Rule::Sent), // sent
     steps!(1, flags!(1)), // fit

@@ -5,15 +5,17 @@ use Rattle.std.proofs.lemmas.Int.{ints}
 use Rattle.std.proofs.lemmas.Bool.Decides.{nat_tests}
 use Rattle.scaled_decimal.specs.declared.scales.Scale.{Scale}
 use Rattle.scaled_decimal.specs.ScaleValue.{size_of, AreWithin, AreFar, IsAccepted, IsScale}
-use Rattle.scaled_decimal.specs.NumberReading.{number, seen}
+use Rattle.scaled_decimal.specs.NumberReading.{blank, number, seen}
 use Rattle.scaled_decimal.proofs.Surface.{is_scale}
 use Rattle.scaled_decimal.proofs.Surface.{text_seen}
-use Rattle.scaled_decimal.proofs.Surface.{length-number_text}
+use Rattle.scaled_decimal.specs.Fractions.{Fraction}
+use Rattle.scaled_decimal.specs.NumberText.{number_text}
+use Rattle.rinex_write.proofs.Surface.{length-column_text}
 use Rattle.rinex_write.specs.declared.columns.Rule.{Rule}
-use Rattle.rinex_write.specs.declared.columns.Rule.TheVariants.{Plain, OrZero, Ura, Sisa, Fit, Sent, Unread}
+use Rattle.rinex_write.specs.declared.columns.Rule.TheVariants.{Plain, OrZero, OrLeast, Ura, Sisa, Fit, Sent, Unread}
 use Rattle.rinex_write.specs.declared.columns.Column.{Column}
 use Rattle.rinex_write.specs.Accuracies.{first_from, ura_nominal, ura_greatest, ura_of, sisa_value, sisa_nominal, sisa_from, sisa_of}
-use Rattle.rinex_write.specs.Columns.{shown, IsField, AreFields, column_text, row_text, row_lines, joined_rows, is_good_scale, is_near_scale, is_far_scale, is_good_range, is_good_rule, are_good}
+use Rattle.rinex_write.specs.Columns.{blanks, is_blank, shown, IsField, AreFields, column_text, row_text, row_lines, joined_rows, is_good_scale, is_near_scale, is_far_scale, is_good_range, is_good_rule, are_good}
 use Rattle.rinex_read.specs.declared.reason.Reason.{Reason}
 use Rattle.rinex_read.specs.declared.reason.Reason.TheVariants as reasons
 use Rattle.rinex_read.specs.Fields.{◌>>=◌, in_range, sent_or_unknown, taken, field_at, read_row, read_rows}
@@ -94,6 +96,7 @@ sent_again z from to =
 pub taken_again : (r : Rule) (z : ℤ) → IsField r z → taken r (number (shown r z)) ≡ Ok z
 taken_again (Plain low high) z h = in_range-ok low high z h.0 h.1
 taken_again (OrZero low high) z h = in_range-ok low high z h.0 h.1
+taken_again (OrLeast low high) z h = in_range-ok low high z h.0 h.1
 taken_again Ura (pos k) h = ura_again k (omega (arith, ints, h.1))
 taken_again Ura (negsuc k) h = absurd (omega (arith, ints, h.0))
 taken_again Sisa (pos k) (inl h) = sisa_below k (omega (arith, ints, h.1))
@@ -137,6 +140,7 @@ all_sisa_small = refl
 shown_small : (r : Rule) (z : ℤ) → is_good_rule r ≡ true → IsField r z → unsigned_abs (shown r z) ≤ 4294967295
 shown_small (Plain low high) z good h = range_small low high z good h.0 h.1
 shown_small (OrZero low high) z good h = range_small low high z good h.0 h.1
+shown_small (OrLeast low high) z good h = range_small low high z good h.0 h.1
 shown_small Ura (pos k) good h = leb-true (get_or ura_nominal k 0) 4294967295 (at_below 16 is_ura_small k all_ura_small (omega (arith, ints, h.1)))
 shown_small Ura (negsuc k) good h = absurd (omega (arith, ints, h.0))
 shown_small Sisa (pos k) good (inl h) = leb-true _ _ (at_below 256 is_sisa_small k all_sisa_small (omega (arith, ints, h.1)))
@@ -196,9 +200,12 @@ far_within s e =
     let b = int_le (pos 0) s.two && int_le s.two (pos 0) && int_le (negsuc 9) s.ten && int_le s.ten (pos 0) in
     let all = and_parts (not s.pi && nat_le 1 s.factor && nat_le s.factor 1000) (a || b) e in
     let two = and_parts (not s.pi && nat_le 1 s.factor) (nat_le s.factor 1000) all.0 in
-    let one = and_parts (not s.pi) (nat_le 1 s.factor) two.0 in
-    (plain s.pi one.0, leb-true 1 s.factor one.1, leb-true s.factor 1000 two.1,
-    elim (or_parts a b all.1) [ inl h ↦ inl (far_shape s h) | inr h ↦ inr (far_flat s h) ])
+    let one = and_parts (not s.pi) (nat_le 1 s.factor) two.0 in (
+      plain s.pi one.0,
+      leb-true 1 s.factor one.1,
+      leb-true s.factor 1000 two.1,
+      elim (or_parts a b all.1) [ inl h ↦ inl (far_shape s h) | inr h ↦ inr (far_flat s h) ],
+    )
 
 pub scale_within : (s : Scale) → is_good_scale s ≡ true → IsAccepted s
 scale_within s e = elim (or_parts (is_near_scale s) (is_far_scale s) e) [ inl h ↦ inl (near_within s h) | inr h ↦ inr (far_within s h) ]
@@ -212,14 +219,33 @@ range_within low high good =
 good_scale : (s : Scale) → is_good_scale s ≡ true → IsScale (size_of s)
 good_scale s good = is_scale s (scale_within s good)
 
+-- a blank column is read as the field that leaves it blank
+blank_again : (r : Rule) (z : ℤ) → is_blank r z ≡ true → IsField r z → taken r blank ≡ Ok z
+blank_again (Plain low high) z e is = absurd cc
+blank_again (OrZero low high) z e is = absurd cc
+blank_again (OrLeast low high) z e is = let few = le_from z low e in let same : low ≡ z = omega (arith, ints, few, is.0) in ap Ok same
+blank_again Ura z e is = absurd cc
+blank_again Sisa z e is = absurd cc
+blank_again Fit z e is = absurd cc
+blank_again Sent z e is = absurd cc
+blank_again (Unread n) z e is = absurd cc
+
+blanks_seen : (s : Fraction) → seen s blanks ≡ blank
+unfolding seen
+blanks_seen s = refl
+
+text_again : (c : Column) (z : ℤ) (b : Bool) → is_blank c.rule z ≡ b → is_good_scale c.scale ≡ true → is_good_rule c.rule ≡ true → IsField c.rule z
+    → taken c.rule (seen (size_of c.scale) (if b then blanks else number_text (size_of c.scale) (shown c.rule z))) ≡ Ok z
+text_again c z true e scale rule is = ap (taken c.rule) (blanks_seen (size_of c.scale)) ∙ blank_again c.rule z e is
+text_again c z false e scale rule is =
+    ap (taken c.rule) (text_seen (size_of c.scale) (shown c.rule z) (good_scale c.scale scale) (shown_small c.rule z rule is)) ∙ taken_again c.rule z is
+
 -- the text of a field is read as that field
 field_again : (c : Column) (z : ℤ) (a : ℕ) (start tail line : List ℕ) → line ≡ start ++ (column_text c z ++ tail) → length start ≡ a
     → is_good_scale c.scale ≡ true → is_good_rule c.rule ≡ true → IsField c.rule z → field_at c a line ≡ Ok z
 field_again c z a start tail line e at scale rule is =
-    let text = columns_at a 19 start (column_text c z) tail line e at (length-number_text (size_of c.scale) (shown c.rule z)) in
-    ap (λ t. taken c.rule (seen (size_of c.scale) t)) text
-    ∙ ap (taken c.rule) (text_seen (size_of c.scale) (shown c.rule z) (good_scale c.scale scale) (shown_small c.rule z rule is))
-    ∙ taken_again c.rule z is
+    let text = columns_at a 19 start (column_text c z) tail line e at (length-column_text c z) in
+    ap (λ t. taken c.rule (seen (size_of c.scale) t)) text ∙ text_again c z (is_blank c.rule z) refl scale rule is
 
 -- the texts of a row are read as its fields, of which more may follow
 pub row_again : (cs rest : List Column) (zs : List ℤ) (a : ℕ) (start tail line : List ℕ) → line ≡ start ++ (row_text cs zs ++ tail) → length start ≡ a
@@ -231,7 +257,7 @@ row_again (c ∷ cs) rest (z ∷ zs) a start tail line e at good are =
     let own = and_parts (is_good_scale c.scale) (is_good_rule c.rule) parts.0 in
     let split : line ≡ start ++ (column_text c z ++ (row_text cs zs ++ tail)) = e ∙ ap (λ t. start ++ t) (append_assoc (column_text c z) (row_text cs zs) tail) in
     let first = field_again c z a start (row_text cs zs ++ tail) line split at own.0 own.1 are.0 in
-    let size = length-number_text (size_of c.scale) (shown c.rule z) in
+    let size = length-column_text c z in
     let longer : length (start ++ column_text c z) ≡ a + 19 = omega (arith, length-append start (column_text c z), size, at) in
     let next = row_again cs rest zs (a + 19) (start ++ column_text c z) tail line
     (split ∙ sym (append_assoc start (column_text c z) (row_text cs zs ++ tail))) longer parts.1 are.1 in

@@ -5,7 +5,7 @@ use Rattle.std.proofs.lemmas.Int.{ints}
 use Rattle.scaled_decimal.specs.ScaleValue.{size_of}
 use Rattle.scaled_decimal.specs.NumberReading.{NumberSeen, blank, unread, number, seen}
 use Rattle.rinex_write.specs.declared.columns.Rule.{Rule}
-use Rattle.rinex_write.specs.declared.columns.Rule.TheVariants.{Plain, OrZero, Ura, Sisa, Fit, Sent, Unread}
+use Rattle.rinex_write.specs.declared.columns.Rule.TheVariants.{Plain, OrZero, OrLeast, Ura, Sisa, Fit, Sent, Unread}
 use Rattle.rinex_write.specs.declared.columns.Column.{Column}
 use Rattle.rinex_write.specs.Accuracies.{first_from, ura_greatest, ura_of, sisa_value, sisa_from, sisa_of}
 use Rattle.rinex_write.specs.Columns.{IsField, AreFields, joined_rows}
@@ -86,10 +86,11 @@ sent_is z = go (int_le (negsuc 302399) z) (int_le z (pos 907199)) refl refl
     go true false p q = inr refl
     go false b p q = inr refl
 
--- a range that holds 0 where a blank is read as 0
+-- a range that holds what a blank is read as
 abbrev pub has_zero : Rule → Bool
 has_zero (Plain low high) = true
 has_zero (OrZero low high) = int_le low (pos 0) && int_le (pos 0) high
+has_zero (OrLeast low high) = int_le low high
 has_zero Ura = true
 has_zero Sisa = true
 has_zero Fit = true
@@ -111,6 +112,11 @@ taken_is (OrZero low high) blank z good h =
     subst (λ x. (low ≤ℤ x) × (x ≤ℤ high)) is (le_from low (pos 0) both.0, le_from (pos 0) high both.1)
 taken_is (OrZero low high) unread z good h = absurd (cc)
 taken_is (OrZero low high) (number w) z good h = (in_range_is low high w z h).1
+taken_is (OrLeast low high) blank z good h =
+    let is : low ≡ z = cc in
+    subst (λ x. (low ≤ℤ x) × (x ≤ℤ high)) is (omega (arith, ints), le_from low high good)
+taken_is (OrLeast low high) unread z good h = absurd (cc)
+taken_is (OrLeast low high) (number w) z good h = (in_range_is low high w z h).1
 taken_is Ura blank z good h = let is : pos 15 ≡ z = cc in subst (IsField Ura) is (omega (arith, ints), omega (arith, ints))
 taken_is Ura unread z good h = absurd (cc)
 taken_is Ura (number w) z good h =

@@ -3,7 +3,7 @@ use Rattle.std.specs.Prelude.{ℕ, ◌+◌, ◌==◌, ◌&&◌, ◌||◌, if◌t
 use Rattle.scaled_decimal.specs.ScaleValue.{size_of}
 use Rattle.scaled_decimal.specs.NumberReading.{NumberSeen, blank, unread, number, seen}
 use Rattle.rinex_write.specs.declared.columns.Rule.{Rule}
-use Rattle.rinex_write.specs.declared.columns.Rule.TheVariants.{Plain, OrZero, Ura, Sisa, Fit, Sent, Unread}
+use Rattle.rinex_write.specs.declared.columns.Rule.TheVariants.{Plain, OrZero, OrLeast, Ura, Sisa, Fit, Sent, Unread}
 use Rattle.rinex_write.specs.declared.columns.Column.{Column}
 use Rattle.rinex_write.specs.Accuracies.{ura_of, sisa_of}
 use Rattle.rinex_read.specs.declared.reason.Reason.{Reason}
@@ -36,6 +36,9 @@ taken (Plain low high) (number z) = in_range low high z
 taken (OrZero low high) blank = Ok (pos 0)
 taken (OrZero low high) unread = Err reasons.NotANumber
 taken (OrZero low high) (number z) = in_range low high z
+taken (OrLeast low high) blank = Ok low
+taken (OrLeast low high) unread = Err reasons.NotANumber
+taken (OrLeast low high) (number z) = in_range low high z
 taken Ura blank = Ok (pos 15)
 taken Ura unread = Err reasons.NotANumber
 taken Ura (number z) = in_range (negsuc 99999999) (pos 100000000) z >>= λ w. Ok (ura_of w)

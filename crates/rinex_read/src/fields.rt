@@ -57,6 +57,12 @@ fn field(column: &Column, text: &[u8]) -> Result<i64, Reason>
             Err(DecimalFault::NotANumber) => Err(Reason::NotANumber),
             Err(DecimalFault::OutOfRange) => Err(Reason::OutOfRange),
         },
+        Rule::OrLeast { low, high } => match read(text, &column.scale, low, high) {
+            Ok(number) => Ok(number),
+            Err(DecimalFault::Blank) => Ok(low),
+            Err(DecimalFault::NotANumber) => Err(Reason::NotANumber),
+            Err(DecimalFault::OutOfRange) => Err(Reason::OutOfRange),
+        },
         Rule::Ura => match read(text, &column.scale, -GREATEST, GREATEST) {
             Ok(number) => Ok(ura_of(number)),
             Err(DecimalFault::Blank) => Ok(15),

@@ -19,7 +19,7 @@ use Rattle.nav_eph.specs.declared.galileo.GalHealth.{GalHealth}
 use Rattle.nav_eph.specs.Bodies.{IsGalHealth, IsGpsIon, IsGalIon}
 use Rattle.nav_eph.specs.Ranges.{HasGpsRanges, HasGalRanges, IsItem}
 use Rattle.rinex_write.specs.declared.columns.Rule.{Rule}
-use Rattle.rinex_write.specs.declared.columns.Rule.TheVariants.{Plain, OrZero, Ura, Sisa, Fit, Sent, Unread}
+use Rattle.rinex_write.specs.declared.columns.Rule.TheVariants.{Plain, OrZero, OrLeast, Ura, Sisa, Fit, Sent, Unread}
 use Rattle.rinex_write.specs.declared.columns.Column.{Column}
 use Rattle.rinex_write.specs.Accuracies.{health_of}
 use Rattle.rinex_write.specs.Columns.{AreFields, IsField, joined_rows, is_good_scale, is_near_scale, is_far_scale, is_good_range, is_good_rule, are_good}
@@ -192,6 +192,7 @@ small_within low high z e h k =
 kept_writable : (r : Rule) (z : ℤ) → is_good_rule r ≡ true → IsKept IsSmall r z → IsWritable r z
 kept_writable (Plain low high) z e h = small_within low high z e h.0 h.1
 kept_writable (OrZero low high) z e h = small_within low high z e h.0 h.1
+kept_writable (OrLeast low high) z e h = small_within low high z e h.0 h.1
 kept_writable Ura z e h = h
 kept_writable Sisa z e (inl h) = (h.0, omega (arith, ints, h.1))
 kept_writable Sisa z e (inr h) = (omega (arith, ints), omega (arith, ints))

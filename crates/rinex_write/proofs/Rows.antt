@@ -1,9 +1,20 @@
 -- The texts of rows, column by column and row by row.
-use Rattle.std.proofs.Common.{◌≡◌, ℕ, suc, ◌+◌, ◌<◌, ◌≤◌, List, [], ◌∷◌, ◌++◌, length, drop, get_or, ℤ, pos, arith, add-one, append_assoc, length-drop, drop-cons, ◌∙◌, subst, false}
+use Rattle.std.proofs.Common.{◌≡◌, ℕ, suc, ◌+◌, ◌<◌, ◌≤◌, List, [], ◌∷◌, ◌++◌, length, drop, get_or, ℤ, pos, arith, add-one, append_assoc, length-drop, drop-cons, ◌∙◌, subst, refl, Bool, true, false, if◌then◌else◌}
+use Rattle.scaled_decimal.specs.ScaleValue.{size_of}
+use Rattle.scaled_decimal.specs.NumberText.{number_text}
+use Rattle.scaled_decimal.proofs.Surface.{length-number_text}
 use Rattle.rinex_write.specs.declared.columns.Column.{Column}
 use Rattle.rinex_write.specs.declared.columns.Rule.TheVariants.{Plain}
-use Rattle.rinex_write.specs.Columns.{column_text, row_text}
+use Rattle.rinex_write.specs.Columns.{blanks, column_text, is_blank, row_text, shown}
 use Rattle.rinex_write.specs.Mirrors.{IsReady, AreReady, RowSoFar}
+
+length_by : (b : Bool) (text : List ℕ) → length text ≡ 19 → length (if b then blanks else text) ≡ 19
+length_by true text e = refl
+length_by false text e = e
+
+-- each column has 19 characters
+pub length-column_text : (c : Column) (z : ℤ) → length (column_text c z) ≡ 19
+length-column_text c z = length_by (is_blank c.rule z) (number_text (size_of c.scale) (shown c.rule z)) (length-number_text (size_of c.scale) (shown c.rule z))
 
 -- there are at least as many fields as columns
 pub enough_fields : (cs : List Column) (zs : List ℤ) → AreReady cs zs → length cs ≤ length zs

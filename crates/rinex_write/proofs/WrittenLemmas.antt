@@ -1,8 +1,8 @@
 -- The lines of records and of headers: which begin with `>`, and that each byte is at least 32.
-use Rattle.std.proofs.Common.{◌≡◌, ℕ, zero, suc, ◌+◌, ◌≤◌, ◌==◌, ◌&&◌, ◌/◌, Bool, true, false, nat_le, nat_lt, if◌then◌else◌, List, [], ◌∷◌, ◌++◌, length, drop, codes, refl, ap, sym, ◌∙◌, subst, arith, ℤ, append_assoc, length-append}
+use Rattle.std.proofs.Common.{◌≡◌, ℕ, zero, suc, ◌+◌, ◌≤◌, ◌==◌, ◌&&◌, ◌/◌, Bool, true, false, nat_le, nat_lt, if◌then◌else◌, replicate, List, [], ◌∷◌, ◌++◌, length, drop, codes, refl, ap, sym, ◌∙◌, subst, arith, ℤ, append_assoc, length-append}
 use Rattle.std.proofs.lemmas.Bool.{and_parts, leb-true}
 use Rattle.scaled_decimal.specs.ScaleValue.{size_of}
-use Rattle.scaled_decimal.specs.NumberText.{digits, AreShown}
+use Rattle.scaled_decimal.specs.NumberText.{digits, number_text, AreShown}
 use Rattle.scaled_decimal.proofs.Surface.{AreShown-number_text}
 use Rattle.gnss_week.specs.Functions.{civil_to}
 use Rattle.nav_eph.specs.Satellite.{Satellite}
@@ -14,7 +14,7 @@ use Rattle.nav_eph.specs.declared.items.NavItem.{NavItem}
 use Rattle.nav_eph.specs.declared.items.NavItem.TheVariants.{Gps as GpsItem, Gal as GalItem, Ion as IonItem}
 use Rattle.rinex_write.specs.declared.columns.Column.{Column}
 use Rattle.rinex_write.specs.declared.words.HeaderWords.{HeaderWords}
-use Rattle.rinex_write.specs.Columns.{column_text, shown, row_text, row_lines}
+use Rattle.rinex_write.specs.Columns.{blanks, column_text, is_blank, shown, row_text, row_lines}
 use Rattle.rinex_write.specs.Layouts.{Kind, gps_kind, galileo_kind, gps_ionosphere_kind, galileo_ionosphere_kind}
 use Rattle.rinex_write.specs.Fields.{gps_fields, galileo_fields, gps_ionosphere_fields, galileo_ionosphere_fields, gps_epoch, galileo_epoch}
 use Rattle.rinex_write.specs.Texts.{text_of, letter_of, satellite_text, date_text, title_line, ionosphere_lines, ionosphere_title, ionosphere_body, item_lines, title_of, body_lines, leap_text, header_lines_by, IsHeader, AreLines, NoneTitled, begins_record}
@@ -27,11 +27,22 @@ shown_more : (a b : List ℕ) → AreShown a → AreShown b → AreShown (a ++ b
 shown_more [] b p q = q
 shown_more (c ∷ a) b p q = (p.0, shown_more a b p.1 q)
 
+spaces_shown : (n : ℕ) → AreShown (replicate n 32)
+spaces_shown zero = tt
+spaces_shown (suc n) = (omega arith, spaces_shown n)
+
+shown_or_blank : (b : Bool) (text : List ℕ) → AreShown text → AreShown (if b then blanks else text)
+shown_or_blank true text h = spaces_shown 19
+shown_or_blank false text h = h
+
+column_shown : (c : Column) (z : ℤ) → AreShown (column_text c z)
+column_shown c z = shown_or_blank (is_blank c.rule z) (number_text (size_of c.scale) (shown c.rule z)) (AreShown-number_text (size_of c.scale) (shown c.rule z))
+
 -- each byte of a row is at least 32
 row_shown : (cs : List Column) (zs : List ℤ) → AreShown (row_text cs zs)
 row_shown [] zs = tt
 row_shown (c ∷ cs) [] = tt
-row_shown (c ∷ cs) (z ∷ zs) = shown_more (column_text c z) (row_text cs zs) (AreShown-number_text (size_of c.scale) (shown c.rule z)) (row_shown cs zs)
+row_shown (c ∷ cs) (z ∷ zs) = shown_more (column_text c z) (row_text cs zs) (column_shown c z) (row_shown cs zs)
 
 blanks_shown : AreShown (codes "    ")
 blanks_shown = (omega arith, (omega arith, (omega arith, (omega arith, tt))))

@@ -1,10 +1,10 @@
 -- Numbers in columns: which number is written for a field, and the lines of a table of columns.
-use Rattle.std.specs.Prelude.{◌≡◌, ℕ, ◌⊎◌, ◌&&◌, ◌||◌, not, nat_le, Bool, true, List, [], ◌∷◌, ◌++◌, length, drop, codes, ℤ, pos, negsuc, ◌≤ℤ◌, int_le, unsigned_abs, get_or}
+use Rattle.std.specs.Prelude.{◌≡◌, ℕ, ◌⊎◌, ◌&&◌, ◌||◌, not, nat_le, Bool, true, false, if◌then◌else◌, replicate, List, [], ◌∷◌, ◌++◌, length, drop, codes, ℤ, pos, negsuc, ◌≤ℤ◌, int_le, unsigned_abs, get_or}
 use Rattle.scaled_decimal.specs.declared.scales.Scale.{Scale}
 use Rattle.scaled_decimal.specs.ScaleValue.{size_of}
 use Rattle.scaled_decimal.specs.NumberText.{number_text}
 use Rattle.rinex_write.specs.declared.columns.Rule.{Rule}
-use Rattle.rinex_write.specs.declared.columns.Rule.TheVariants.{Plain, OrZero, Ura, Sisa, Fit, Sent, Unread}
+use Rattle.rinex_write.specs.declared.columns.Rule.TheVariants.{Plain, OrZero, OrLeast, Ura, Sisa, Fit, Sent, Unread}
 use Rattle.rinex_write.specs.declared.columns.Column.{Column}
 use Rattle.rinex_write.specs.Accuracies.{ura_nominal, sisa_nominal, fit_hours}
 
@@ -12,6 +12,7 @@ use Rattle.rinex_write.specs.Accuracies.{ura_nominal, sisa_nominal, fit_hours}
 abbrev pub shown : Rule → ℤ → ℤ
 shown (Plain low high) z = z
 shown (OrZero low high) z = z
+shown (OrLeast low high) z = z
 shown Ura z = pos (get_or ura_nominal (unsigned_abs z) 0)
 shown Sisa z = sisa_nominal (unsigned_abs z)
 shown Fit z = pos (fit_hours (unsigned_abs z))
@@ -22,6 +23,7 @@ shown (Unread n) z = n
 abbrev pub IsField : Rule → ℤ → Type 0
 IsField (Plain low high) z = (low ≤ℤ z) × (z ≤ℤ high)
 IsField (OrZero low high) z = (low ≤ℤ z) × (z ≤ℤ high)
+IsField (OrLeast low high) z = (low ≤ℤ z) × (z ≤ℤ high)
 IsField Ura z = (pos 0 ≤ℤ z) × (z ≤ℤ pos 15)
 IsField Sisa z = ((pos 0 ≤ℤ z) × (z ≤ℤ pos 125)) ⊎ (z ≡ pos 255)
 IsField Fit z = (pos 0 ≤ℤ z) × (z ≤ℤ pos 1)
@@ -35,9 +37,18 @@ AreFields [] (z ∷ zs) = ⊥
 AreFields (c ∷ cs) [] = ⊥
 AreFields (c ∷ cs) (z ∷ zs) = IsField c.rule z × AreFields cs zs
 
+-- whether a column is left blank for a field
+abbrev pub is_blank : Rule → ℤ → Bool
+is_blank (OrLeast low high) z = int_le z low
+is_blank rule z = false
+
+-- a blank column
+abbrev pub blanks : List ℕ
+blanks = replicate 19 32
+
 -- the text of a field
 abbrev pub column_text : Column → ℤ → List ℕ
-column_text c z = number_text (size_of c.scale) (shown c.rule z)
+column_text c z = if is_blank c.rule z then blanks else number_text (size_of c.scale) (shown c.rule z)
 
 -- the texts of a row of fields, concatenated
 abbrev pub row_text : List Column → List ℤ → List ℕ
@@ -77,6 +88,7 @@ is_good_range low high = int_le (negsuc 4294967294) low && int_le high (pos 4294
 abbrev pub is_good_rule : Rule → Bool
 is_good_rule (Plain low high) = is_good_range low high
 is_good_rule (OrZero low high) = is_good_range low high
+is_good_rule (OrLeast low high) = is_good_range low high
 is_good_rule Ura = true
 is_good_rule Sisa = true
 is_good_rule Fit = true

@@ -20,6 +20,13 @@ pub enum Rule {
         /// The greatest.
         high: i64,
     },
+    /// As `Plain`, and the least is a blank column.
+    OrLeast {
+        /// The least.
+        low: i64,
+        /// The greatest.
+        high: i64,
+    },
     /// A URA index, 0 to 15, written in metres.
     Ura,
     /// A SISA index, 0 to 125 or 255, written in metres.

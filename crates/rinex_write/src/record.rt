@@ -6,11 +6,12 @@ ghost use Rattle.std.specs.Prelude.{◌++◌, [], length, take, drop, codes, sum
 ghost use Rattle.arrayvec.specs.ArrayVec.{array_vec_len};
 ghost use Rattle.scaled_decimal.specs.NumberText.{digits};
 ghost use Rattle.rinex_write.specs.declared.columns.Column.{Column as TableColumn};
-ghost use Rattle.rinex_write.specs.Columns.{joined_rows, row_lines, row_text};
-ghost use Rattle.rinex_write.specs.Mirrors.{AreReady, IsTable, rows_text};
+ghost use Rattle.rinex_write.specs.Columns.{column_text, is_blank, joined_rows, row_lines};
+ghost use Rattle.rinex_write.specs.Columns.{row_text};
+ghost use Rattle.rinex_write.specs.Mirrors.{AreReady, IsReady, IsTable, rows_text};
 ghost use Rattle.rinex_write.specs.Texts.{date_text, letter_of, satellite_text, text_of};
 
-use crate::columns::Column;
+use crate::columns::{Column, Rule};
 use crate::layouts::RecordLayout;
 use crate::numbers::field_number;
 use arrayvec::ArrayVec;
@@ -32,6 +33,27 @@ pub(crate) fn append(text: &mut Record, piece: &[u8])
     }
 }
 
+// Whether a column is left blank for a field.
+fn is_blank(rule: &Rule, field: i64) -> bool
+    ensures { result ≡ is_blank rule.now field }
+{
+    match rule {
+        Rule::OrLeast { low, .. } => field <= *low,
+        _ => false,
+    }
+}
+
+// The text of a field.
+fn column_text(column: &Column, field: i64) -> [u8; 19]
+    requires { IsReady column.now field }
+    ensures { result ≡ column_text column.now field }
+{
+    if is_blank(&column.rule, field) {
+        return [b' '; 19];
+    }
+    print(field_number(&column.rule, field), &column.scale)
+}
+
 // Appends the texts of a row of fields.
 pub(crate) fn append_row(text: &mut Record, columns: &[Column], fields: &[i64])
     requires ready { AreReady columns.now fields.now }
@@ -40,10 +62,7 @@ pub(crate) fn append_row(text: &mut Record, columns: &[Column], fields: &[i64])
     ensures len { array_vec_len text.new ≡ array_vec_len text.old + 19 * length columns.now }
 {
     for (i, column) in columns.iter().enumerate() {
-        append(
-            text,
-            &print(field_number(&column.rule, fields[i]), &column.scale),
-        );
+        append(text, &column_text(column, fields[i]));
     }
 }
 

@@ -494,7 +494,7 @@ struct ScaleRow {
     is_scale: bool,
 }
 
-static SCALES: [ScaleRow; 8] = [
+static SCALES: [ScaleRow; 13] = [
     ScaleRow {
         name: "factor 0",
         numbers: ScaleNumbers {
@@ -506,9 +506,9 @@ static SCALES: [ScaleRow; 8] = [
         is_scale: false,
     },
     ScaleRow {
-        name: "factor 61",
+        name: "factor 61 with pi",
         numbers: ScaleNumbers {
-            pi: false,
+            pi: true,
             factor: 61,
             two: 0,
             ten: 0,
@@ -516,9 +516,29 @@ static SCALES: [ScaleRow; 8] = [
         is_scale: false,
     },
     ScaleRow {
-        name: "2 to the -60",
+        name: "factor 1,001",
         numbers: ScaleNumbers {
             pi: false,
+            factor: 1001,
+            two: 0,
+            ten: 0,
+        },
+        is_scale: false,
+    },
+    ScaleRow {
+        name: "2 to the -67",
+        numbers: ScaleNumbers {
+            pi: false,
+            factor: 1,
+            two: -67,
+            ten: 0,
+        },
+        is_scale: false,
+    },
+    ScaleRow {
+        name: "2 to the -60 with pi",
+        numbers: ScaleNumbers {
+            pi: true,
             factor: 1,
             two: -60,
             ten: 0,
@@ -536,11 +556,21 @@ static SCALES: [ScaleRow; 8] = [
         is_scale: false,
     },
     ScaleRow {
-        name: "10 to the -3",
+        name: "10 to the -11",
         numbers: ScaleNumbers {
             pi: false,
             factor: 1,
             two: 0,
+            ten: -11,
+        },
+        is_scale: false,
+    },
+    ScaleRow {
+        name: "10 to the -3 and 2 to the -1",
+        numbers: ScaleNumbers {
+            pi: false,
+            factor: 1,
+            two: -1,
             ten: -3,
         },
         is_scale: false,
@@ -556,7 +586,7 @@ static SCALES: [ScaleRow; 8] = [
         is_scale: false,
     },
     ScaleRow {
-        name: "the least scale",
+        name: "the least scale with pi",
         numbers: ScaleNumbers {
             pi: true,
             factor: 1,
@@ -572,6 +602,26 @@ static SCALES: [ScaleRow; 8] = [
             factor: 60,
             two: 16,
             ten: 0,
+        },
+        is_scale: true,
+    },
+    ScaleRow {
+        name: "the least power of two",
+        numbers: ScaleNumbers {
+            pi: false,
+            factor: 1,
+            two: -66,
+            ten: 0,
+        },
+        is_scale: true,
+    },
+    ScaleRow {
+        name: "the least power of ten",
+        numbers: ScaleNumbers {
+            pi: false,
+            factor: 1000,
+            two: 0,
+            ten: -10,
         },
         is_scale: true,
     },
