@@ -13,7 +13,7 @@ use Rattle.file_form.specs.declared.stops.Stop.{Stop}
 use Rattle.file_form.specs.declared.stops.Stop.TheVariants as stops
 use Rattle.front_run.specs.declared.tasks.Task.{Task}
 
--- there was no memory, or a log has 2^64 - 16,384 bytes or more
+-- there was no memory, or a log has 2^64 - 1 bytes or more
 abbrev pub IsLack : Stop → Type 0
 IsLack (stops.Open fault) = ⊥
 IsLack (stops.Look fault) = ⊥

@@ -40,7 +40,7 @@ pub fn convert_one<F: Folder, U: Sink, N: Refused + Drop, P: Progress>(
         result.kind }
 
     // It is done where the file is there, its bytes are accepted and nothing fails, but for want of
-    // memory or of a log's 2^64 - 16,384 bytes.
+    // memory or of a log's 2^64 - 1 bytes.
     ensures complete { IfSome (bytes_of (F.files folder.old) from.now) (λ bytes.
         CanConvert plan.now bytes
         → ¬ Rose (U.faults told.report) (U.faults result.report)
@@ -83,7 +83,7 @@ pub fn convert_source<F: Folder, S: Source, U: Sink, N: Refused + Drop, P: Progr
     ensures form { TellsForm plan.now (S.left source) result.outcome.done result.outcome.kind }
 
     // It is done where the bytes of the source are accepted and nothing fails, but for want of
-    // memory or of a log's 2^64 - 16,384 bytes.
+    // memory or of a log's 2^64 - 1 bytes.
     ensures complete { IfSome (S.left source) (λ bytes.
         CanConvert plan.now bytes
         → ¬ Rose (S.faults source) (S.faults result.source)

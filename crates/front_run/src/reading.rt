@@ -107,7 +107,7 @@ fn taken_of_log<J: Receiver, S: Source, N: Refused + Drop, P: Progress>(
 {
     let LogParts {
         source,
-        refusals: _,
+        refused: _,
         counts,
         taken,
     } = log.into_parts();

@@ -1,6 +1,6 @@
 -- A log while its bytes are read; cited by private functions.
 use Rattle.std.specs.Prelude.{◌≡◌, ◌≤◌, ◌<◌, ℕ, ◌+◌, ◌-◌, ◌*◌, ◌^◌, Bool, true, false, not, if◌then◌else◌}
-use Rattle.std.specs.Prelude.{List, [], ◌++◌, length, Option, IsTrue}
+use Rattle.std.specs.Prelude.{List, [], ◌++◌, length, drop, Option, IsTrue}
 use Rattle.std.specs.Io.KnownBytes.{Appends, Consumes, IsAtEnd}
 use Rattle.nav_io.specs.Causes.{Rose}
 use Rattle.nav_io.specs.Prefix.{AppendsPrefix}
@@ -8,14 +8,14 @@ use Rattle.one_run.specs.declared.fault.BridgeFault.{BridgeFault}
 use Rattle.one_run.specs.declared.fault.BridgeFault.TheVariants.{ReadFault, ReportFault, TooLong}
 use Rattle.receiver_frames.specs.Headings.{Heading, format_of}
 use Rattle.receiver_frames.specs.Messages.{messages}
-use Rattle.receiver_frames.specs.State.{DeframerState, IsWaiting}
+use Rattle.receiver_frames.specs.State.{IsWaiting}
 use Rattle.receiver_messages.specs.declared.said.Said.{Said}
+use Rattle.receiver_log.specs.declared.state.Log.{Log}
 use Rattle.receiver_log.specs.declared.reception.Reception.{Reception}
 use Rattle.receiver_log.specs.declared.state.LogState.{LogState}
-use Rattle.receiver_log.specs.declared.state.MessageCounts.{MessageCounts}
 use Rattle.receiver_log.specs.Capture.{counts_after, lines_from, refusals_from, state_after, too_many}
 use Rattle.receiver_log.specs.Log.{begun}
-use Rattle.receiver_log.specs.Mirrors.{Place, QueueState, ahead, start_of, work_left}
+use Rattle.receiver_log.specs.Mirrors.{Place, ahead, start_of, work_left}
 
 -- what a contract sees of a log while its bytes come
 pub record LogView : Type 0 where
@@ -26,14 +26,18 @@ pub record LogView : Type 0 where
   -- how many bytes were read
   pub taken : ℕ
 
--- the same by its parts
-abbrev pub view_of : DeframerState → QueueState → MessageCounts → LogState → ℕ → LogView
-view_of held queue counts state taken = record {
-  place = record { rest = held.rest; queue = queue; counts = counts };
-  ended = held.finished;
-  state = state;
-  taken = taken;
+-- what a contract sees of it
+abbrev pub view_of : {J : Type 0} {r : _} {d : _} → Log J r d → LogView
+view_of log = record {
+  place = record { rest = log.deframer.rest; queue = log.queue; counts = log.counts };
+  ended = log.deframer.finished;
+  state = log.state;
+  taken = log.taken;
 }
+
+-- the lines that wait
+abbrev pub waiting_of : {J : Type 0} {r : _} {d : _} → Log J r d → List ℕ
+waiting_of log = drop log.given log.lines.items
 
 -- a log before its first byte
 abbrev pub fresh : LogView

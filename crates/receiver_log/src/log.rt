@@ -1,7 +1,8 @@
 //! A log while its bytes are read: the one state of every run over it.
 
 ghost use Rattle.std.specs.Prelude.{◌≡◌, ◌+◌, ◌<◌, ◌≤◌, ◌++◌, ◌∷◌, [], length, take, drop};
-ghost use Rattle.std.specs.Prelude.{Bool, true, false, not, IsTrue, None, ℕ, List, IfOk, IfErr, OnOk, OnErr};
+ghost use Rattle.std.specs.Prelude.{Bool, true, false, IsTrue, None, ℕ, List, IfOk, IfErr, OnOk};
+ghost use Rattle.std.specs.Prelude.{OnErr};
 ghost use Rattle.std.specs.Io.KnownBytes.{Appends};
 ghost use Rattle.nav_io.specs.Causes.{HasCause};
 ghost use Rattle.nav_io.specs.Prefix.{AppendsPrefix};
@@ -11,14 +12,14 @@ ghost use Rattle.receiver_log.specs.Capture.{refusal_line};
 ghost use Rattle.receiver_messages.specs.declared.said.Said.{Said as SaidNow};
 ghost use Rattle.receiver_log.specs.Log.{counted};
 ghost use Rattle.receiver_log.specs.Mirrors.{to_come, work_left};
-ghost use Rattle.receiver_log.specs.Steps.{Hears, IsIdle, Reads, Stops, Tells, fresh, steps_left, view_of};
+ghost use Rattle.receiver_log.specs.Steps.{Hears, IsIdle, Reads, Stops, Tells, fresh, steps_left};
+ghost use Rattle.receiver_log.specs.Steps.{view_of, waiting_of};
 
 use crate::hearing::hear;
-use crate::lines::LineBuffer;
 use crate::queue::{Pending, Queue};
 use crate::receiver::Receiver;
 use crate::report::Refused;
-use crate::state::{LogCounts, LogState, MessageCounts};
+use crate::state::{Log, LogCounts, LogState, MessageCounts};
 use arrayvec::ArrayVec;
 use nav_io::{Failed, Source};
 use one_run::{BridgeFault, read_piece};
@@ -34,31 +35,11 @@ const PIECE: usize = 16_384;
 // The number of bytes at which a log is too long.
 const TOO_MANY: u64 = u64::MAX;
 
-/// A log while its bytes are read.
-#[derive(Drop)]
-pub struct Log<J: Receiver> {
-    // bytes, of which the messages are taken
-    deframer: Deframer<J>,
-    // the counts of these
-    counts: MessageCounts,
-    // subframes and pages that wait for their time
-    queue: Queue,
-    // the capture's week, and its counts
-    state: LogState,
-    // lines, of which the first `given` bytes were given
-    lines: LineBuffer,
-    given: usize,
-    /// How many bytes were read.
-    pub taken: u64,
-    ghost dated: { J.has_times ≡ true → queue.time ≡ None },
-    ghost within: { given ≤ length lines.items },
-}
-
 impl<J: Receiver> Log<J> {
     /// A log before its first byte.
-    pub fn new() -> Self
-        ensures fresh { (view_of result.deframer result.queue result.counts result.state result.taken) ≡ fresh }
-        ensures lines { (drop result.given result.lines.items) ≡ [] }
+    pub(crate) fn new() -> Self
+        ensures fresh { view_of result ≡ fresh }
+        ensures lines { waiting_of result ≡ [] }
     {
         Log {
             deframer: Deframer::new(),
@@ -78,28 +59,29 @@ impl<J: Receiver> Log<J> {
     /// - `ReadFault` where a read fails; nothing more is decided then.
     /// - `TooLong` where 18,446,744,073,709,551,615 bytes were read.
     /// - `ReportFault` where a rejected message can't be reported.
-    pub fn next_lines<S: Source, R: Refused>(
+    pub(crate) fn next_lines<S: Source, R: Refused>(
         &mut self,
         source: &mut S,
         refused: &mut R,
     ) -> Result<bool, BridgeFault>
-        ensures reads { OnOk result (Reads J.heading J.said (view_of self.old.deframer self.old.queue self.old.counts self.old.state self.old.taken) (view_of self.new.deframer self.new.queue self.new.counts self.new.state self.new.taken)
-            (S.left source.old) (S.left source.new) (drop self.old.given self.old.lines.items) (drop self.new.given self.new.lines.items)
+        ensures reads { OnOk result (Reads J.heading J.said (view_of self.old) (view_of self.new)
+            (S.left source.old) (S.left source.new) (waiting_of self.old) (waiting_of self.new)
             (Appends (R.reported refused.old) (R.reported refused.new))) }
-        ensures stopped { IfErr result (λ fault. Reads J.heading J.said (view_of self.old.deframer self.old.queue self.old.counts self.old.state self.old.taken) (view_of self.new.deframer self.new.queue self.new.counts self.new.state self.new.taken)
-            (S.left source.old) (S.left source.new) (drop self.old.given self.old.lines.items) (drop self.new.given self.new.lines.items)
+        ensures stopped { IfErr result (λ fault. Reads J.heading J.said
+            (view_of self.old) (view_of self.new)
+            (S.left source.old) (S.left source.new) (waiting_of self.old) (waiting_of self.new)
             (Tells fault (R.reported refused.old) (R.reported refused.new))) }
         ensures faults { OnOk result ((S.faults source.new ≡ S.faults source.old)
             × (R.faults refused.new ≡ R.faults refused.old)) }
-        ensures why { IfErr result (Stops J.heading J.said (view_of self.new.deframer self.new.queue self.new.counts self.new.state self.new.taken) (drop self.new.given self.new.lines.items)
+        ensures why { IfErr result (Stops J.heading J.said (view_of self.new) (waiting_of self.new)
             (S.never_fails source.old) (S.faults source.old) (S.faults source.new)
             (R.faults refused.old) (R.faults refused.new)) }
         ensures never { IsTrue (S.never_fails source.old) → IsTrue (S.never_fails source.new) }
-        ensures some { IfOk result (λ more. more ≡ true → 0 < length (drop self.new.given self.new.lines.items)) }
-        ensures end { IfOk result (λ more. more ≡ false → ((drop self.new.given self.new.lines.items) ≡ [])
-            × (self.new.deframer.finished ≡ true) × IsIdle J.heading J.said (view_of self.new.deframer self.new.queue self.new.counts self.new.state self.new.taken)) }
-        ensures onward { IfOk result (λ more. more ≡ true → (drop self.old.given self.old.lines.items) ≡ []
-            → steps_left (view_of self.new.deframer self.new.queue self.new.counts self.new.state self.new.taken) < steps_left (view_of self.old.deframer self.old.queue self.old.counts self.old.state self.old.taken)) }
+        ensures some { IfOk result (λ more. more ≡ true → 0 < length (waiting_of self.new)) }
+        ensures end { IfOk result (λ more. more ≡ false → (waiting_of self.new ≡ [])
+            × (self.new.deframer.finished ≡ true) × IsIdle J.heading J.said (view_of self.new)) }
+        ensures onward { IfOk result (λ more. more ≡ true → waiting_of self.old ≡ []
+            → steps_left (view_of self.new) < steps_left (view_of self.old)) }
     {
         while self.given >= self.lines.len() {
             match self.take(refused) {
@@ -118,9 +100,10 @@ impl<J: Receiver> Log<J> {
 
     // Takes messages, until there are many lines or none is decided.
     fn take<R: Refused>(&mut self, refused: &mut R) -> Result<(), Failed>
-        ensures hears { OnOk result (Hears J.heading J.said (view_of self.old.deframer self.old.queue self.old.counts self.old.state self.old.taken) (view_of self.new.deframer self.new.queue self.new.counts self.new.state self.new.taken) []
+        ensures hears { OnOk result (Hears J.heading J.said (view_of self.old) (view_of self.new) []
             [] self.new.lines.items (Appends (R.reported refused.old) (R.reported refused.new))) }
-        ensures stopped { OnErr result (Hears J.heading J.said (view_of self.old.deframer self.old.queue self.old.counts self.old.state self.old.taken) (view_of self.new.deframer self.new.queue self.new.counts self.new.state self.new.taken) []
+        ensures stopped { OnErr result (Hears J.heading J.said
+            (view_of self.old) (view_of self.new) []
             [] self.new.lines.items
             (AppendsPrefix (R.reported refused.old) (R.reported refused.new))) }
         ensures cause { HasCause (R.faults refused.old) (R.faults refused.new) result }
@@ -128,10 +111,11 @@ impl<J: Receiver> Log<J> {
         ensures taken { self.new.taken ≡ self.old.taken }
         ensures finished { self.new.deframer.finished ≡ self.old.deframer.finished }
         ensures idle { OnOk result (length self.new.lines.items ≤ 8192
-            → IsIdle J.heading J.said (view_of self.new.deframer self.new.queue self.new.counts self.new.state self.new.taken)) }
-        ensures steady { OnOk result (steps_left (view_of self.new.deframer self.new.queue self.new.counts self.new.state self.new.taken) ≤ steps_left (view_of self.old.deframer self.old.queue self.old.counts self.old.state self.old.taken)) }
+            → IsIdle J.heading J.said (view_of self.new)) }
+        ensures steady { OnOk result
+            (steps_left (view_of self.new) ≤ steps_left (view_of self.old)) }
         ensures onward { OnOk result (0 < length self.new.lines.items
-            → steps_left (view_of self.new.deframer self.new.queue self.new.counts self.new.state self.new.taken) < steps_left (view_of self.old.deframer self.old.queue self.old.counts self.old.state self.old.taken)) }
+            → steps_left (view_of self.new) < steps_left (view_of self.old)) }
     {
         self.clear();
         while self.lines.len() <= ROOM {
@@ -147,10 +131,11 @@ impl<J: Receiver> Log<J> {
     fn step<R: Refused>(&mut self, refused: &mut R) -> Result<bool, Failed>
         requires room { length self.old.lines.items ≤ 8192 }
         requires given { self.old.given ≡ 0 }
-        ensures hears { OnOk result (Hears J.heading J.said (view_of self.old.deframer self.old.queue self.old.counts self.old.state self.old.taken) (view_of self.new.deframer self.new.queue self.new.counts self.new.state self.new.taken) []
+        ensures hears { OnOk result (Hears J.heading J.said (view_of self.old) (view_of self.new) []
             self.old.lines.items self.new.lines.items
             (Appends (R.reported refused.old) (R.reported refused.new))) }
-        ensures stopped { OnErr result (Hears J.heading J.said (view_of self.old.deframer self.old.queue self.old.counts self.old.state self.old.taken) (view_of self.new.deframer self.new.queue self.new.counts self.new.state self.new.taken) []
+        ensures stopped { OnErr result (Hears J.heading J.said
+            (view_of self.old) (view_of self.new) []
             self.old.lines.items self.new.lines.items
             (AppendsPrefix (R.reported refused.old) (R.reported refused.new))) }
         ensures cause { HasCause (R.faults refused.old) (R.faults refused.new) result }
@@ -158,11 +143,12 @@ impl<J: Receiver> Log<J> {
         ensures taken { self.new.taken ≡ self.old.taken }
         ensures finished { self.new.deframer.finished ≡ self.old.deframer.finished }
         ensures onward { IfOk result (λ more. more ≡ true
-            → steps_left (view_of self.new.deframer self.new.queue self.new.counts self.new.state self.new.taken) < steps_left (view_of self.old.deframer self.old.queue self.old.counts self.old.state self.old.taken)) }
+            → steps_left (view_of self.new) < steps_left (view_of self.old)) }
         ensures steady { IfOk result (λ more. more ≡ false
-            → (steps_left (view_of self.new.deframer self.new.queue self.new.counts self.new.state self.new.taken) ≤ steps_left (view_of self.old.deframer self.old.queue self.old.counts self.old.state self.old.taken))
+            → (steps_left (view_of self.new) ≤ steps_left (view_of self.old))
             × (self.new.lines.items ≡ self.old.lines.items)) }
-        ensures idle { IfOk result (λ more. more ≡ false → IsIdle J.heading J.said (view_of self.new.deframer self.new.queue self.new.counts self.new.state self.new.taken)) }
+        ensures idle { IfOk result (λ more. more ≡ false
+            → IsIdle J.heading J.said (view_of self.new)) }
     {
         if let Some(reception) = self.queue.next() {
             let reason = hear(&mut self.state, &reception, &mut self.lines);
@@ -215,20 +201,21 @@ impl<J: Receiver> Log<J> {
     // Reads a piece of the log, or finds its end.
     fn fill<S: Source>(&mut self, source: &mut S) -> Result<(), BridgeFault>
         requires may_feed { MayFeed (format_of J.heading) self.old.deframer }
-        ensures reads { Reads J.heading J.said (view_of self.old.deframer self.old.queue self.old.counts self.old.state self.old.taken) (view_of self.new.deframer self.new.queue self.new.counts self.new.state self.new.taken)
+        ensures reads { Reads J.heading J.said (view_of self.old) (view_of self.new)
             (S.left source.old) (S.left source.new) self.old.lines.items self.new.lines.items
             (λ text. text ≡ []) }
         ensures lines { (self.new.lines.items ≡ self.old.lines.items)
             × (self.new.given ≡ self.old.given) }
         ensures faults { OnOk result (S.faults source.new ≡ S.faults source.old) }
-        ensures same { OnErr result ((view_of self.new.deframer self.new.queue self.new.counts self.new.state self.new.taken) ≡ (view_of self.old.deframer self.old.queue self.old.counts self.old.state self.old.taken)) }
+        ensures same { OnErr result (view_of self.new ≡ (view_of self.old)) }
         ensures why { (text : List ℕ) → (reports : ℕ) → text ≡ []
-            → IsIdle J.heading J.said (view_of self.old.deframer self.old.queue self.old.counts self.old.state self.old.taken)
-            → IfErr result (Stops J.heading J.said (view_of self.new.deframer self.new.queue self.new.counts self.new.state self.new.taken) text
+            → IsIdle J.heading J.said (view_of self.old)
+            → IfErr result (Stops J.heading J.said (view_of self.new) text
             (S.never_fails source.old) (S.faults source.old) (S.faults source.new)
             reports reports) }
         ensures never { IsTrue (S.never_fails source.old) → IsTrue (S.never_fails source.new) }
-        ensures onward { OnOk result (steps_left (view_of self.new.deframer self.new.queue self.new.counts self.new.state self.new.taken) < steps_left (view_of self.old.deframer self.old.queue self.old.counts self.old.state self.old.taken)) }
+        ensures onward { OnOk result
+            (steps_left (view_of self.new) < steps_left (view_of self.old)) }
     {
         if self.taken >= TOO_MANY {
             return Err(BridgeFault::TooLong);
@@ -249,19 +236,19 @@ impl<J: Receiver> Log<J> {
     }
 
     /// The lines that wait.
-    pub fn waiting(&self) -> &[u8]
-        ensures { result.now ≡ (drop self.now.given self.now.lines.items) }
+    pub(crate) fn waiting(&self) -> &[u8]
+        ensures { result.now ≡ waiting_of self.now }
     {
         &self.lines.as_slice()[self.given..]
     }
 
     /// Gives lines that wait, as many bytes as there is room for, and how many.
-    pub fn give(&mut self, into: &mut [u8]) -> usize
+    pub(crate) fn give(&mut self, into: &mut [u8]) -> usize
         ensures within { result ≤ length into.new }
-        ensures some { 0 < length into.new → 0 < length (drop self.old.given self.old.lines.items) → 0 < result }
-        ensures bytes { take result into.new ≡ take result (drop self.old.given self.old.lines.items) }
-        ensures rest { (drop self.new.given self.new.lines.items) ≡ drop result (drop self.old.given self.old.lines.items) }
-        ensures view { (view_of self.new.deframer self.new.queue self.new.counts self.new.state self.new.taken) ≡ (view_of self.old.deframer self.old.queue self.old.counts self.old.state self.old.taken) }
+        ensures some { 0 < length into.new → 0 < length (waiting_of self.old) → 0 < result }
+        ensures bytes { take result into.new ≡ take result (waiting_of self.old) }
+        ensures rest { waiting_of self.new ≡ drop result (waiting_of self.old) }
+        ensures view { view_of self.new ≡ view_of self.old }
     {
         let count = (self.lines.len() - self.given).min(into.len());
         into[..count].copy_from_slice(&self.waiting()[..count]);
@@ -270,17 +257,17 @@ impl<J: Receiver> Log<J> {
     }
 
     /// Removes the lines, once they are written.
-    pub fn clear(&mut self)
+    pub(crate) fn clear(&mut self)
         ensures lines { self.new.lines.items ≡ [] }
         ensures given { self.new.given ≡ 0 }
-        ensures view { (view_of self.new.deframer self.new.queue self.new.counts self.new.state self.new.taken) ≡ (view_of self.old.deframer self.old.queue self.old.counts self.old.state self.old.taken) }
+        ensures view { view_of self.new ≡ view_of self.old }
     {
         self.lines.clear();
         self.given = 0;
     }
 
     /// The counts so far.
-    pub fn counts(&self) -> LogCounts
+    pub(crate) fn counts(&self) -> LogCounts
         ensures log { result.log ≡ self.now.counts }
         ensures capture { result.capture ≡ self.now.state.counts }
     {

@@ -134,7 +134,8 @@ impl Queue {
         requires settled { self.old.settled ≡ None }
         requires system { IsOfSystem part.now.content }
         ensures more { length self.new.waiting ≡ length self.old.waiting + 1 }
-        ensures comes { (more : Bool) (before : ℕ) (says : List Said) → part.now.number ≡ one_more before
+        ensures comes { (more : Bool) (before : ℕ) (says : List Said)
+            → part.now.number ≡ one_more before
             → to_come more self.old before (Heard part.now.content ∷ says)
             ≡ to_come more self.new part.now.number says }
     {
@@ -156,7 +157,8 @@ impl Queue {
         requires system { IsOfSystem part.now.content }
         ensures more { length self.new.waiting ≡ length self.old.waiting + 1 }
         ensures time { self.new.time ≡ None }
-        ensures comes { (more : Bool) (before : ℕ) (says : List Said) → part.now.number ≡ one_more before
+        ensures comes { (more : Bool) (before : ℕ) (says : List Said)
+            → part.now.number ≡ one_more before
             → to_come more self.old before (Dated time part.now.content ∷ says)
             ≡ to_come more self.new part.now.number says }
     {

@@ -3,10 +3,9 @@
 ghost use Rattle.one_run.specs.Runs.{Ran};
 ghost use Rattle.receiver_log.specs.Capture.{log_meaning};
 
-use crate::log::Log;
 use crate::receiver::Receiver;
 use crate::report::counts_text;
-use crate::state::LogCounts;
+use crate::state::{Log, LogCounts};
 use nav_io::{Failed, Sink, Source};
 use one_run::BridgeFault;
 

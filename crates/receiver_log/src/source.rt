@@ -1,19 +1,18 @@
 //! A source over a receiver's log.
 
 ghost use Rattle.std.specs.Prelude.{◌≡◌, ◌+◌, ◌<◌, ◌≤◌, length};
-ghost use Rattle.std.specs.Prelude.{drop, ◌&&◌, IsTrue, IsOk};
+ghost use Rattle.std.specs.Prelude.{◌&&◌, IsTrue, IsOk};
 ghost use Rattle.std.specs.Io.{ReadsAtMost};
 ghost use Rattle.std.specs.Io.KnownBytes.{ReadConsumes};
 ghost use Rattle.nav_io.specs.Causes.{HasCause};
 ghost use Rattle.receiver_log.specs.Capture.{too_many};
 ghost use Rattle.receiver_log.specs.LogLeft.{HasLogCause, KeepsLength};
 ghost use Rattle.receiver_log.specs.LogLeft.{capture_left, is_short, left_of};
-ghost use Rattle.receiver_log.specs.Steps.{view_of};
+ghost use Rattle.receiver_log.specs.Steps.{view_of, waiting_of};
 
-use crate::log::Log;
 use crate::receiver::Receiver;
 use crate::report::Refused;
-use crate::state::LogCounts;
+use crate::state::{Log, LogCounts};
 use nav_io::{Failed, Source};
 use one_run::BridgeFault;
 use receiver_messages::Reason;
@@ -107,7 +106,8 @@ impl<J: Receiver, S: Source, N: Refused> LogSource<J, S, N> {
 }
 
 impl<J: Receiver, S: Source, N: Refused> Source for LogSource<J, S, N> {
-    ghost left = { λ s. left_of J.heading J.said (view_of s.log.deframer s.log.queue s.log.counts s.log.state s.log.taken) (drop s.log.given s.log.lines.items) (S.left s.source) };
+    ghost left = { λ s. left_of J.heading J.said (view_of s.log) (waiting_of s.log)
+        (S.left s.source) };
 
     ghost faults = { λ s. S.faults s.source + s.faults };
 
@@ -121,15 +121,17 @@ impl<J: Receiver, S: Source, N: Refused> Source for LogSource<J, S, N> {
         requires asks { length into.old ≤ 16384 }
         ensures bound { ReadsAtMost result into.new }
         ensures bytes { ReadConsumes
-            (left_of J.heading J.said (view_of self.old.log.deframer self.old.log.queue self.old.log.counts self.old.log.state self.old.log.taken) (drop self.old.log.given self.old.log.lines.items) (S.left self.old.source))
-            (left_of J.heading J.said (view_of self.new.log.deframer self.new.log.queue self.new.log.counts self.new.log.state self.new.log.taken) (drop self.new.log.given self.new.log.lines.items) (S.left self.new.source))
+            (left_of J.heading J.said (view_of self.old.log) (waiting_of self.old.log)
+            (S.left self.old.source))
+            (left_of J.heading J.said (view_of self.new.log) (waiting_of self.new.log)
+            (S.left self.new.source))
             result into.new }
         ensures cause { HasCause (S.faults self.old.source + self.old.faults)
             (S.faults self.new.source + self.new.faults) result }
         ensures never { IsTrue
             (S.never_fails self.old.source && is_short self.old.log.taken (S.left self.old.source))
-            → IsOk result × IsTrue
-            (S.never_fails self.new.source && is_short self.new.log.taken (S.left self.new.source)) }
+            → IsOk result × IsTrue (S.never_fails self.new.source
+            && is_short self.new.log.taken (S.left self.new.source)) }
         ensures fault { HasLogCause (S.faults self.old.source) (S.faults self.new.source)
             self.new.log.taken result }
         ensures log_length { KeepsLength self.old.log.taken (S.left self.old.source)

@@ -1,8 +1,12 @@
 //! The state of a log, and its counts.
 
-ghost use Rattle.std.specs.Prelude.{◌≡◌};
+ghost use Rattle.std.specs.Prelude.{◌≡◌, ◌≤◌, length, true, None};
 ghost use Rattle.receiver_log.specs.Log.{begun, counted, none_counted};
 
+use crate::lines::LineBuffer;
+use crate::queue::Queue;
+use crate::receiver::Receiver;
+use receiver_frames::Deframer;
 use receiver_messages::Said;
 
 /// LogCounts of a log's messages. Each saturates at 18,446,744,073,709,551,615.
@@ -49,6 +53,27 @@ pub struct LogState {
     pub week: Option<u32>,
     /// The counts.
     pub counts: CaptureCounts,
+}
+
+/// A log while its bytes are read.
+#[derive(Drop)]
+pub struct Log<J: Receiver> {
+    /// Bytes, of which the messages are taken.
+    pub deframer: Deframer<J>,
+    /// The counts of these.
+    pub counts: MessageCounts,
+    /// Subframes and pages that wait for their time.
+    pub queue: Queue,
+    /// The capture's week, and its counts.
+    pub state: LogState,
+    /// Lines, of which the first `given` bytes were given.
+    pub lines: LineBuffer,
+    /// How many bytes of the lines were given.
+    pub given: usize,
+    /// How many bytes were read.
+    pub taken: u64,
+    ghost dated: { J.has_times ≡ true → queue.time ≡ None },
+    ghost within: { given ≤ length lines.items },
 }
 
 impl LogState {

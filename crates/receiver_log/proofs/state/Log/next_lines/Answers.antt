@@ -5,7 +5,7 @@ use Rattle.std.proofs.lemmas.Result.{err_from_is_err_and}
 use Rattle.one_run.specs.declared.fault.BridgeFault.TheVariants.{ReportFault}
 use Rattle.receiver_log.proofs.LogSteps.{appends_none, both_told, hears_nothing, reads_more}
 use Rattle.receiver_log.proofs.LogSteps.{reads_none, reads_stopped, reads_took, stops_from, told_by}
-use Rattle.receiver_log.proofs.log.Log.next_lines.Goals as goal
+use Rattle.receiver_log.proofs.state.Log.next_lines.Goals as goal
 
 pub loop-self-init : goal.loop-self-init
 loop-self-init g c = record {

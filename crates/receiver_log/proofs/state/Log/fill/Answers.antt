@@ -1,6 +1,6 @@
 use Rattle.std.proofs.Common.{refl, ap, ◌∙◌, arith}
 use Rattle.receiver_log.proofs.LogSteps.{hears_nothing, reads_end, reads_failed, reads_fed, reads_none}
-use Rattle.receiver_log.proofs.log.Log.fill.Goals as goal
+use Rattle.receiver_log.proofs.state.Log.fill.Goals as goal
 
 pub returns-then-self-ge-TOO_MANY-clause-reads : goal.returns-then-self-ge-TOO_MANY-clause-reads
 returns-then-self-ge-TOO_MANY-clause-reads g c =

@@ -3,7 +3,7 @@ use Rattle.std.proofs.lemmas.Bool.{both_ways}
 use Rattle.std.proofs.lemmas.Result.{err_from_is_err_and}
 use Rattle.receiver_log.proofs.LogSteps.{appends_none}
 use Rattle.receiver_log.proofs.OneStep.{end_step, given_step, message_step, none_step}
-use Rattle.receiver_log.proofs.log.Log.step.Goals as goal
+use Rattle.receiver_log.proofs.state.Log.step.Goals as goal
 
 pub returns-in_err-tell-clause-stopped : goal.returns-in_err-tell-clause-stopped
 returns-in_err-tell-clause-stopped g c =

@@ -2,7 +2,7 @@ use Rattle.std.proofs.Common.{[], length, refl, ap, ◌∙◌, arith}
 use Rattle.std.proofs.lemmas.Result.{err_from_is_err_and}
 use Rattle.receiver_log.specs.Steps.{steps_left}
 use Rattle.receiver_log.proofs.LogSteps.{appends_none, both_told, hears_cleared, hears_on, part_told}
-use Rattle.receiver_log.proofs.log.Log.take.Goals as goal
+use Rattle.receiver_log.proofs.state.Log.take.Goals as goal
 
 pub loop-self-init : goal.loop-self-init
 loop-self-init g c =
