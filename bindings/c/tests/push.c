@@ -1,7 +1,8 @@
 /* A conversion whose input is pushed, in pieces of every size from 1 to 80 and of some larger ones, with rooms of many sizes, in
  * four threads, each with the 256 KB of stack that docs/LIBRARY.md asks for: the output, the report and the status are what
  * nb_convert gives of the whole. Then the same with each request for memory refused from there on: the answer is NB_NO_MEMORY,
- * each further call's too, what was taken is a prefix, and nothing leaks.
+ * each further call's too, what was taken is a prefix, and nothing leaks. A long capture is followed by bytes up to 2^32: then each
+ * call's answer is NB_TOO_LONG, also that of nb_push_finish().
  *
  *   push INPUT WORD..    the words name a job whose input can be pushed
  */
@@ -120,6 +121,20 @@ static void opens_nothing(void) {
     nb_push_close(&it);
 }
 
+/* As many bytes as a capture must not have. */
+static void too_long(void) {
+    static nb_push_state it;
+    uint64_t n = n_input;
+    uint32_t status = nb_push_open(&it, words, n_words);
+    if (status == NB_OK) status = nb_push(&it, input, n_input);
+    memset(input, 'x', MOST);
+    for (; status == NB_OK && n + MOST <= UINT32_MAX; n += MOST) status = nb_push(&it, input, MOST);
+    want(status == NB_OK && nb_push(&it, input, (size_t)(UINT32_MAX - n)) == NB_OK, 0, "2^32 - 1 bytes");
+    want(nb_push(&it, input, 1) == NB_TOO_LONG && nb_push_finish(&it) == NB_TOO_LONG && nb_push(&it, input, 0) == NB_TOO_LONG, 0, "2^32 bytes");
+    nb_push_close(&it);
+    want(nb_push_finish(&it) == NB_CLOSED, 0, "closed");
+}
+
 int main(int argc, char **argv) {
     pthread_t threads[4];
     pthread_attr_t small;
@@ -153,6 +168,7 @@ int main(int argc, char **argv) {
     requests = refused();
     refuse_from(-1);
     opens_nothing();
+    if (n_input > 10000) too_long();
     printf("push: 87 sizes in 4 threads, %ld requests for memory, %lu bytes a conversion, %d wrong\n", requests,
            (unsigned long)nb_push_size(), wrong);
     return wrong != 0;
