@@ -1,7 +1,7 @@
 #!/usr/bin/env bash
 # Builds the library for C from the archive of bindings/archive.sh, and tests it from outside: the examples compiled as C99 and as
 # C++, each run of examples/runs.txt by nb_convert, the stateless calls against values of an independent program, buffers of many
-# sizes, four threads, each allocation failing once, and the Python module.
+# sizes, four threads, each allocation failing once, random calls for half a minute (bench/fuzz.sh), the Python module, the Rust crate.
 #
 #   checks/bindings.sh [--archive FILE] [--sanitize] [--valgrind]
 #
@@ -164,5 +164,8 @@ if command -v cargo > /dev/null && [ -z "$sanitize" ]; then
   grep -qx "version = \"$(sed -n 's/^## \([0-9][^ ]*\).*/\1/p;T;q' CHANGELOG.md)\"" bindings/rust/Cargo.toml \
     || differs 'the version of bindings/rust is not that of CHANGELOG.md'
   echo 'the crate for Rust: its example and its tests were run'
+fi
+if [ -z "$sanitize" ]; then
+  bench/fuzz.sh --archive "$archive" --minutes 0.5 --seed 1 --corpus "$out/corpus" || differs 'bench/fuzz.sh'
 fi
 ended bindings
