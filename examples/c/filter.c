@@ -1,5 +1,6 @@
 /* A caster's filter: passes the frames of a stream of RTCM 3 from standard input to standard output, but no frame of message
- * 1019 or 1046 that stands for no ephemeris, and nothing that is no frame. Its one word is a week near that of the stream. */
+ * 1019 or 1046 that stands for no ephemeris, whose reason it prints, and nothing that is no frame. Its one word is a week near that
+ * of the stream. */
 #include <stdio.h>
 #include <stdlib.h>
 
@@ -16,11 +17,12 @@ int main(int argc, char **argv) {
     frames_begin(&in, STDIN_FILENO);
     while ((size = frames_next(&in)) > 0) {
         nb_item item;
-        uint32_t status = nb_message_read(in.frame + 3, size - 6, week, &item);
+        const nb_status status = nb_message_read(in.frame + 3, size - 6, week, &item);
         if (status == NB_OK || status == NB_OTHER_MESSAGE || status == NB_NO_NUMBER) {
             if (fwrite(in.frame, 1, size, stdout) < size || fflush(stdout) != 0) return 4;
             passed++;
         } else {
+            fprintf(stderr, "dropped: %s\n", nb_status_text(status));
             dropped++;
         }
     }
