@@ -158,16 +158,8 @@ pub fn kind_d2() -> Kind
     ensures kind { IsKind result }
 {
     Kind {
-        letter: b'C',
         title: b"D2",
-        prn: 0,
-        scale: TimeScale::BeiDou,
-        clock: weeks!(13, 1356, 1356, 8, 2, 18, 6),
-        sisa: None,
-        table: message!(FIELDS_1042, 64),
-        links: &D1_LINKS,
-        parts: &D1_PARTS,
-        layout: layout!(D1, D1_ROWS),
+        ..kind_d1()
     }
 }
 

@@ -34,6 +34,6 @@ pub use crate::layouts::sbas_layout;
 pub use crate::row::{Row, RowFault, row_of_message, write_record};
 pub use crate::tables::{
     FIELDS_1019, FIELDS_1020, FIELDS_1041, FIELDS_1042, FIELDS_1044, FIELDS_1045, FIELDS_1046,
-    table_1019, table_1020, table_1041, table_1042, table_1044, table_1045, table_1046,
+    table_1019, table_1046,
 };
 pub use crate::times::RowTimes;

@@ -149,18 +149,6 @@ pub const FIELDS_1020: [Field; 39] = [
     reserved!(7), // reserved
 ];
 
-/// Message 1020, GLONASS ephemeris.
-pub fn table_1020() -> Table
-    ensures fields { result.fields.now ≡ FIELDS_1020 }
-    ensures bytes { result.bytes ≡ 45 }
-    ensures table { IsTrue (is_table result) }
-{
-    Table {
-        fields: &FIELDS_1020,
-        bytes: 45,
-    }
-}
-
 /// The fields of message 1041, NavIC ephemeris.
 pub const FIELDS_1041: [Field; 32] = [
     constant!(12, 1041), // number
@@ -197,18 +185,6 @@ pub const FIELDS_1041: [Field; 32] = [
     reserved!(6), // filler
 ];
 
-/// Message 1041, NavIC ephemeris.
-pub fn table_1041() -> Table
-    ensures fields { result.fields.now ≡ FIELDS_1041 }
-    ensures bytes { result.bytes ≡ 61 }
-    ensures table { IsTrue (is_table result) }
-{
-    Table {
-        fields: &FIELDS_1041,
-        bytes: 61,
-    }
-}
-
 /// The fields of message 1042, BeiDou ephemeris.
 pub const FIELDS_1042: [Field; 30] = [
     constant!(12, 1042), // number
@@ -242,18 +218,6 @@ pub const FIELDS_1042: [Field; 30] = [
     unsigned!(1), // health
     reserved!(1), // filler
 ];
-
-/// Message 1042, BeiDou ephemeris.
-pub fn table_1042() -> Table
-    ensures fields { result.fields.now ≡ FIELDS_1042 }
-    ensures bytes { result.bytes ≡ 64 }
-    ensures table { IsTrue (is_table result) }
-{
-    Table {
-        fields: &FIELDS_1042,
-        bytes: 64,
-    }
-}
 
 /// The fields of message 1044, QZSS ephemeris.
 pub const FIELDS_1044: [Field; 31] = [
@@ -290,18 +254,6 @@ pub const FIELDS_1044: [Field; 31] = [
     reserved!(3), // filler
 ];
 
-/// Message 1044, QZSS ephemeris.
-pub fn table_1044() -> Table
-    ensures fields { result.fields.now ≡ FIELDS_1044 }
-    ensures bytes { result.bytes ≡ 61 }
-    ensures table { IsTrue (is_table result) }
-{
-    Table {
-        fields: &FIELDS_1044,
-        bytes: 61,
-    }
-}
-
 /// The fields of message 1045, Galileo F/NAV ephemeris.
 pub const FIELDS_1045: [Field; 29] = [
     constant!(12, 1045), // number
@@ -334,18 +286,6 @@ pub const FIELDS_1045: [Field; 29] = [
     unsigned!(1), // dvs_e5a
     reserved!(7), // reserved
 ];
-
-/// Message 1045, Galileo F/NAV ephemeris.
-pub fn table_1045() -> Table
-    ensures fields { result.fields.now ≡ FIELDS_1045 }
-    ensures bytes { result.bytes ≡ 62 }
-    ensures table { IsTrue (is_table result) }
-{
-    Table {
-        fields: &FIELDS_1045,
-        bytes: 62,
-    }
-}
 
 /// The fields of message 1046, Galileo I/NAV ephemeris.
 pub const FIELDS_1046: [Field; 32] = [
