@@ -83,7 +83,14 @@ run "several files to one, of which one is none, by a form that is named" 2 "log
 is_gone "several files to one, of which one is none, by a form that is named" n.rnx
 mkfifo once
 run "several files to one, of which one can be read only once" 2 "once: it can be read only once" -t merged -o n.rnx one.rnx once
-run "a long name for what can be read only once" 2 "once: it can be read only once" --long-name STAT00CCC -o in once
+cat station.navcap > once &
+run "a long name for what can be read only once" 0 "in/STAT00CCC_R_20233650200_01H_MN.rnx: 2 ephemerides" "${date[@]}" --long-name STAT00CCC -o in once
+wait
+is_same "a long name for what can be read only once" in/STAT00CCC_R_20233650200_01H_MN.rnx "$examples/station.rnx"
+rm in/STAT00CCC_R_20233650200_01H_MN.rnx
+input=station.navcap run "a long name for standard input" 0 "in/STAT00CCC_R_20233650200_01H_MN.rnx: 2 ephemerides" "${date[@]}" --long-name STAT00CCC -o in -
+is_same "a long name for standard input" in/STAT00CCC_R_20233650200_01H_MN.rnx "$examples/station.rnx"
+rm in/STAT00CCC_R_20233650200_01H_MN.rnx
 run "a long name on standard output" 2 "--long-name names" --long-name STAT00CCC -o - station.navcap
 run "what would be done" 0 - -n "${date[@]}" -o d.rnx log.ubx
 grep -qF "navlog --from ubx < 'log.ubx' | navbridge '--from=capture' '--to=rinex'" out || differs "what would be done" "$(cat out)"

@@ -15,10 +15,10 @@ use Rattle.rinex_read.specs.Files.{is_navigation}
 use Rattle.rinex_read.specs.Forms.{is_four, is_version, rinex4}
 use Rattle.rinex_read.specs.Form3.{is_three, rinex3}
 use Rattle.rinex_read.specs.Lines.{columns, lines_of, stands_at}
-use Rattle.file_form.specs.Kinds.{binary_kind, first_char, is_head, kind_of, or_else, prefix_kind, rinex_kind, text_kind, told_by, version_of}
-use Rattle.file_form.specs.Units.{first_unit}
-use Rattle.file_form.specs.declared.Kind.{Kind}
-use Rattle.file_form.specs.declared.Kind.TheVariants.{Capture1, Capture2, Empty, Hatanaka, Observations, OtherRinex, Rinex2, Rinex3, Rinex4, Unknown}
+use Rattle.whole_file.specs.Kinds.{binary_kind, first_char, is_head, kind_of, or_else, prefix_kind, rinex_kind, text_kind, told_by, version_of}
+use Rattle.whole_file.specs.Units.{first_unit}
+use Rattle.whole_file.specs.declared.kinds.Kind.{Kind}
+use Rattle.whole_file.specs.declared.kinds.Kind.TheVariants.{Capture1, Capture2, Empty, Hatanaka, Observations, OtherRinex, Rinex2, Rinex3, Rinex4, Unknown}
 
 never : false ≡ true → ⊥
 never e = cc

@@ -18,9 +18,9 @@ use Rattle.bridge_engine.specs.declared.done.Done.{Done}
 use Rattle.bridge_engine.specs.declared.done.Done.TheVariants as dones
 use Rattle.bridge_engine.specs.declared.job.Job.{Job}
 use Rattle.bridge_engine.specs.declared.job.Job.TheVariants as jobs
-use Rattle.file_form.specs.Kinds.{kind_of}
-use Rattle.file_form.specs.declared.Kind.{Kind}
-use Rattle.file_form.specs.declared.Kind.TheVariants.{Capture1, Capture2, Rinex3, Rinex4}
+use Rattle.whole_file.specs.Kinds.{kind_of}
+use Rattle.whole_file.specs.declared.kinds.Kind.{Kind}
+use Rattle.whole_file.specs.declared.kinds.Kind.TheVariants.{Capture1, Capture2, Rinex3, Rinex4}
 use Rattle.job_laws.specs.Told.{IsToldFor}
 use Rattle.job_laws.proofs.FirstLines.{first_line, first_text, four_told, head_told, three_told}
 

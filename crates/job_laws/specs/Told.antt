@@ -2,8 +2,8 @@
 use Rattle.std.specs.Prelude.{◌≡◌, ◌⊎◌}
 use Rattle.bridge_engine.specs.declared.job.Job.{Job}
 use Rattle.bridge_engine.specs.declared.job.Job.TheVariants as jobs
-use Rattle.file_form.specs.declared.Kind.{Kind}
-use Rattle.file_form.specs.declared.Kind.TheVariants as kinds
+use Rattle.whole_file.specs.declared.kinds.Kind.{Kind}
+use Rattle.whole_file.specs.declared.kinds.Kind.TheVariants as kinds
 
 -- That of what the job reads: a capture, or a navigation file of its version. Nothing for a stream, as which any bytes are
 -- accepted, nor for a job that reads nothing.

@@ -3,11 +3,11 @@
 ghost use Rattle.std.specs.Prelude.{ℕ, List, IsSome};
 ghost use Rattle.bridge_engine.specs.Meanings.{meaning_of};
 ghost use Rattle.bridge_engine.specs.declared.job.Job.{Job};
-ghost use Rattle.file_form.specs.Kinds.{kind_of};
+ghost use Rattle.whole_file.specs.Kinds.{kind_of};
 ghost use Rattle.job_laws.specs.Told.{IsToldFor};
 
 /// What a job accepts is told as its form, as far as bytes tell it: a capture, and a navigation
-/// file of its version. Any bytes are a stream: which tell one says [`file_form`].
+/// file of its version. Any bytes are a stream: which tell one says [`whole_file`].
 pub fn accepted_bytes_tell_their_form()
     ensures { (job : Job) (bytes : List ℕ) → IsSome ((meaning_of job).counts bytes)
         → IsToldFor job (kind_of bytes) }

@@ -5,7 +5,7 @@
 //! the meaning of the bytes of its input; the laws here say what that is. The crate has no other
 //! functions.
 //!
-//! Of the form of a file (`file_form`):
+//! Of the form of a file (`whole_file`):
 //!
 //! - [`accepted_bytes_tell_their_form`]: what a job accepts is told as its form by its first line.
 //!

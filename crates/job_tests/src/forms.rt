@@ -1,11 +1,10 @@
 //! Forms of files by their first bytes, and of logs that are cut.
 
-use file_form::{Kind, kind_of, look};
-use file_step::Peeked;
-use file_words::kind_text;
+use file_conversion::kind_text;
 use nav_io::MemSource;
 use std::alloc::{AllocError, Global};
 use std::test::Fail;
+use whole_file::{Kind, Peeked, kind_of, look};
 
 // The first bytes of a file, and what they say.
 struct Prefix {

@@ -1,10 +1,9 @@
 //! Steps over a folder in memory.
 
 use crate::steps::{Broken, Seven};
-use file_folders::MemFolder;
-use file_step::{FileFault, Folder, StepFault, part_of, put_output};
 use std::alloc::{AllocError, Global};
 use std::test::Fail;
+use whole_file::{FileFault, Folder, Given, MemFolder, Named, StepFault, part_of, put_output};
 
 // How a step ended.
 #[derive(Clone, Copy, PartialEq, Eq)]
@@ -17,9 +16,9 @@ enum End {
 }
 
 // How a step ended.
-fn end_of(done: Result<(), StepFault<Broken>>) -> End {
+fn end_of(done: Result<Named<()>, StepFault<Broken>>) -> End {
     match done {
-        Ok(()) => End::Done,
+        Ok(_) => End::Done,
         Err(StepFault::Begin(FileFault::AlreadyThere)) => End::PartThere,
         Err(StepFault::Run(Broken::Refused, _)) => End::Refused,
         Err(_) => End::Other,
@@ -146,7 +145,8 @@ fn end_in(alloc: Global, folder: &mut MemFolder, step: &Step) -> Result<End, All
         Err(_) => return Ok(End::Other),
     };
     let part = part_of(alloc, step.name)?;
-    let done = put_output(folder, &mut Seven, &mut input, part.as_str(), step.name);
+    let mut name = Given::new(String::from_str(alloc, step.name)?);
+    let done = put_output(folder, &mut Seven, &mut input, &mut name, part.as_str());
     Ok(end_of(done))
 }
 

@@ -1,9 +1,9 @@
 //! Sources that are looked at, and counted.
 
-use file_step::{Counted, PeekFault, Peeked, Progress};
 use nav_io::{MemSource, Source};
 use std::alloc::{AllocError, Global};
 use std::test::Fail;
+use whole_file::{Counted, PeekFault, Peeked, Progress};
 
 // The last count that was told.
 #[derive(Clone, Copy, Drop)]

@@ -1,8 +1,6 @@
 //! Steps over files that a test plays, with each call failing in turn.
 
 use crate::steps::Seven;
-use file_folders::HostFolder;
-use file_step::{Folder, put_output};
 use std::alloc::{Allocator, Global};
 use std::cell::Cell;
 use std::fs::{Metadata, OpenFile, OpenOptions};
@@ -11,6 +9,7 @@ use std::io::{ErrorKind, Read, Seek, SeekFrom, Write};
 use std::rc::Rc;
 use std::rt::Files;
 use std::test::Fail;
+use whole_file::{Folder, Given, HostFolder, put_output};
 
 // What became of the files: calls are counted, and that of one number fails.
 #[derive(Drop)]
@@ -172,10 +171,11 @@ struct Outcome {
 // Whether a file was converted to another.
 fn is_converted(alloc: Global, play: &Play) -> bool {
     let mut folder = HostFolder::new(alloc, play);
-    let Ok(mut input) = folder.open("a.nav") else {
+    let (Ok(mut input), Ok(name)) = (folder.open("a.nav"), String::from_str(alloc, "a.rnx")) else {
         return false;
     };
-    put_output(&mut folder, &mut Seven, &mut input, "a.rnx.part", "a.rnx").is_ok()
+    let mut name = Given::new(name);
+    put_output(&mut folder, &mut Seven, &mut input, &mut name, "a.rnx.part").is_ok()
 }
 
 // A step whose call of this number fails.

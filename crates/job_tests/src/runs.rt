@@ -2,15 +2,18 @@
 
 ghost use Rattle.std.specs.Prelude.{◌≡◌};
 
-use file_folders::MemFolder;
-use file_form::Target;
-use file_step::Untold;
-use file_words::{Refusal, Values, kind_text};
-use front_run::{Outcome, Plan, Sourced, Stop, Teller, Told, convert_one, convert_source, finish};
+use bridge_engine::BridgeFault;
+use file_conversion::{
+    Made, Observers, Outcome, Plan, Refusal, Sourced, Stop, Target, Teller, convert_one,
+    convert_source, finish, kind_text,
+};
+use gnss_week::RefWeek;
 use nav_io::{Failed, MemSink, MemSource};
 use receiver_log::Nobody;
+use rinex_write::HeaderWords;
 use std::alloc::{AllocError, Global};
 use std::test::Fail;
+use whole_file::{Given, MemFolder, Untold};
 
 // How a conversion ended, with what is said of the form under which the file was read.
 #[derive(Clone, Copy, PartialEq, Eq)]
@@ -19,20 +22,20 @@ enum End {
     NotOpened,
     NotRead,
     NoConversion(&'static str),
-    NoJob(&'static str),
     NotAccepted(&'static str),
     Other,
 }
 
 // How a conversion ended.
-fn end_of(done: Result<(), Stop>) -> End {
+fn end_of(done: &Result<Made, Stop>) -> End {
     match done {
-        Ok(()) => End::Done,
+        Ok(_) => End::Done,
         Err(Stop::Open(_)) => End::NotOpened,
         Err(Stop::Look(None)) => End::NotRead,
-        Err(Stop::NoConversion(kind)) => End::NoConversion(kind_text(kind)),
-        Err(Stop::NoJob(kind)) => End::NoJob(kind_text(kind)),
-        Err(Stop::Run(kind, 5, _, _, _)) => End::NotAccepted(kind_text(kind)),
+        Err(Stop::NoConversion(kind)) => End::NoConversion(kind_text(*kind)),
+        Err(Stop::Run(kind, BridgeFault::NotThisForm, _, _, _)) => End::NotAccepted(kind_text(
+            *kind,
+        )),
         Err(_) => End::Other,
     }
 }
@@ -43,7 +46,7 @@ struct Case {
     name: &'static str,
     bytes: Option<&'static [u8]>,
     target: Target,
-    week: Option<&'static str>,
+    week: Option<u32>,
     old: Option<&'static [u8]>,
     new: Option<&'static [u8]>,
     end: End,
@@ -53,7 +56,7 @@ struct Case {
 
 const CAPTURE: &[u8] = b"NAVCAP 2 2295 300\n";
 
-static CASES: [Case; 8] = [
+static CASES: [Case; 7] = [
     Case {
         name: "a capture",
         bytes: Some(CAPTURE),
@@ -80,7 +83,7 @@ static CASES: [Case; 8] = [
         name: "another week than that of the capture",
         bytes: Some(CAPTURE),
         target: Target::List,
-        week: Some("2294"),
+        week: Some(2294),
         old: Some(b"old"),
         new: Some(b"old"),
         end: End::NotAccepted("a capture with a week"),
@@ -121,17 +124,6 @@ static CASES: [Case; 8] = [
         status: 2,
     },
     Case {
-        name: "a week that is none",
-        bytes: Some(b"NAVCAP 1 300\n"),
-        target: Target::List,
-        week: Some("99999"),
-        old: None,
-        new: None,
-        end: End::NoJob("a capture without a week"),
-        fails: false,
-        status: 2,
-    },
-    Case {
         name: "no file",
         bytes: None,
         target: Target::List,
@@ -145,22 +137,25 @@ static CASES: [Case; 8] = [
 ];
 
 // What is asked: this target, with the week where one is named.
-fn plan_of<'a>(target: Target, week: Option<&'a str>) -> Plan<'a> {
-    Plan {
+fn plan_of(target: Target, week: Option<u32>) -> Result<Plan, Fail> {
+    Ok(Plan {
         form: None,
         target,
-        values: Values {
-            week,
-            clock_week: "2400",
-            leap: "18",
-            date: "20260101 000000 UTC",
+        week: match week {
+            None => None,
+            Some(week) => RefWeek::new(week),
         },
-    }
+        clock_week: RefWeek::new(2400).ok_or("a reference week")?,
+        header: HeaderWords {
+            date: *b"20260101 000000 UTC",
+            leap: 18,
+        },
+    })
 }
 
 // Nobody but a report is told.
-fn listeners(alloc: Global) -> Result<Told<MemSink, Nobody, Untold>, AllocError> {
-    Ok(Told {
+fn observers(alloc: Global) -> Result<Observers<MemSink, Nobody, Untold>, AllocError> {
+    Ok(Observers {
         report: MemSink::new(alloc, 1000, Vec::new(alloc))?,
         refusals: Nobody,
         progress: Untold,
@@ -212,17 +207,26 @@ fn has(folder: &MemFolder, name: &str, bytes: Option<&[u8]>) -> bool {
 }
 
 // Whether the conversion of a case ends so, and leaves these files.
-fn ends_so(alloc: Global, case: &Case) -> Result<bool, AllocError> {
+fn ends_so(alloc: Global, case: &Case) -> Result<bool, Fail> {
     let mut folder = folder_of(alloc, case)?;
-    let told = listeners(alloc)?;
-    let plan = plan_of(case.target, case.week);
-    let outcome = convert_one(alloc, &plan, &mut folder, told, "in", "part", "out");
-    let is_end = end_of(outcome.done) == case.end;
+    let observers = observers(alloc)?;
+    let plan = plan_of(case.target, case.week)?;
+    let mut name = Given::new(String::from_str(alloc, "out")?);
+    let outcome = convert_one(
+        alloc,
+        &plan,
+        &mut folder,
+        observers,
+        "in",
+        "part",
+        &mut name,
+    );
+    let is_end = end_of(&outcome.done) == case.end;
     let mut hearer = Hearer {
         fails: case.fails,
         faults: 0,
     };
-    let status = finish(&plan, &outcome, "out", "part", &mut hearer);
+    let status = finish(&outcome, "out", "part", &mut hearer);
     Ok(
         is_end
             && status == case.status
@@ -251,21 +255,22 @@ fn source_ends_so(
     fails: u32,
     end: End,
     output: Option<&[u8]>,
-) -> Result<bool, AllocError> {
-    let told = listeners(alloc)?;
+) -> Result<bool, Fail> {
+    let observers = observers(alloc)?;
     let source = source_of(alloc, fails)?;
     let mut folder = MemFolder::new(alloc);
-    let plan = plan_of(Target::List, None);
+    let plan = plan_of(Target::List, None)?;
+    let mut name = Given::new(String::from_str(alloc, "out")?);
     let Sourced { outcome, source: _ } = convert_source(
         alloc,
         &plan,
         &mut folder,
         source,
-        told,
+        observers,
         "part",
-        "out",
+        &mut name,
     );
-    Ok(end_of(outcome.done) == end && has(&folder, "out", output))
+    Ok(end_of(&outcome.done) == end && has(&folder, "out", output))
 }
 
 #[test]

@@ -3,8 +3,8 @@
 ghost use Rattle.std.specs.Prelude.{◌≡◌, ◌≢◌, ◌⊎◌, ℕ};
 ghost use Rattle.std.specs.Prelude.{List, Option, IfSome, IfErr, OnOk, codes};
 
-use file_step::Conversion;
 use nav_io::{Sink, Source};
+use whole_file::Conversion;
 
 /// Writes the same seven bytes of any file but an empty one and one that begins with `?`.
 #[derive(Drop)]
@@ -20,9 +20,13 @@ pub(crate) enum Broken {
 }
 
 impl Conversion for Seven {
+    type Done = ();
+
     type Fault = Broken;
 
     ghost makes = { λ _ _. codes "seven b" };
+
+    ghost counts = { λ _ _ _. Unit {0} };
 
     ghost can = { λ _ _. ⊥ };
 

@@ -1,11 +1,10 @@
 //! Names of outputs, and sentences.
 
-use file_form::Kind;
-use file_step::FileFault;
-use file_words::{Refusal, is_site, long_name, output_name};
+use file_conversion::{Refusal, is_site, long_name, output_name};
 use gnss_week::Moment;
 use std::alloc::{AllocError, Global};
 use std::test::Fail;
+use whole_file::{FileFault, Kind};
 
 // A name by the convention, and the moments in seconds from 1980-01-06.
 struct LongCase {
@@ -142,7 +141,7 @@ static SENTENCES: [Sentence; 12] = [
         text: "it is an RTCM 3 stream; that converts to rinex, rinex3, rtcm, frames",
     },
     Sentence {
-        refusal: Refusal::NoConversion(Kind::Gzip),
+        refusal: Refusal::NoSuchConversion(Kind::Gzip),
         status: 2,
         text: "it is packed by gzip; unpack it: gzip -dc FILE | navconvert -o OUT -",
     },

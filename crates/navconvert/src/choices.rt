@@ -1,19 +1,18 @@
 //! What is done, by what was asked.
 
-use crate::clock::ClockWords;
 use crate::command::Asked;
-use crate::files::{Task, are_joined, convert_file, convert_joined, takes_several};
+use crate::files::{Settings, are_joined, convert_file, convert_joined};
 use crate::outputs::{Output, output_of};
 use crate::reports::{is_headed, report_of};
 use crate::staged::{Before, staged_of};
 use crate::taken::Known;
 use crate::telling::{tell_file, tell_program};
+use crate::values::plan_of;
 use crate::words::is_broken;
-use file_form::Kind;
-use file_words::{Refusal, Values, is_site};
-use front_run::{Plan, is_date};
+use file_conversion::{Plan, Refusal};
 use std::fs::File;
 use std::io::IsTerminal;
+use whole_file::Kind;
 
 // The forms, as they are listed.
 const FORMS: &str = "capture   what navlog makes: a line for each subframe, page part or frame
@@ -23,24 +22,32 @@ rinex3    a navigation file of RINEX 3
 ubx       a log of a u-blox receiver
 sbf       a log of a Septentrio receiver";
 
-/// The file for reports, where one is named, or the status where no file is to be converted.
-pub(crate) fn begin(rt: &HostRuntime, asked: &Asked) -> Result<Option<File>, u8> {
+/// Does what is asked; the status.
+pub(crate) fn do_asked(rt: &HostRuntime, asked: &Asked) -> u8 {
     if asked.has("list-forms") {
         return match println!(rt; "{FORMS}") {
-            Ok(()) => Err(0),
-            Err(_) => Err(4),
+            Ok(()) => 0,
+            Err(_) => 4,
         };
     }
     if let Some(refusal) = refused(rt, asked) {
-        return Err(tell_program(rt, &refusal));
+        return tell_program(rt, &refusal);
     }
-    match report_of(rt, asked) {
-        Ok(report) => Ok(report),
-        Err(refusal) => Err(tell_program(rt, &refusal)),
+    match plan_of(rt, asked) {
+        Ok(plan) => do_plan(rt, asked, plan),
+        Err(refusal) => tell_program(rt, &refusal),
     }
 }
 
-// Why nothing is done, where no file is named, several would go to one, or a value is none.
+// Does what is asked by this plan; the status.
+fn do_plan(rt: &HostRuntime, asked: &Asked, plan: Plan) -> u8 {
+    match report_of(rt, asked) {
+        Ok(report) => convert_asked(rt, asked, plan, report.as_ref()),
+        Err(refusal) => tell_program(rt, &refusal),
+    }
+}
+
+// Why nothing is done, where no file is named, several would go to one, or a name is not UTF-8.
 fn refused<'a>(rt: &HostRuntime, asked: &Asked<'a>) -> Option<Refusal<'a>> {
     let Some(files) = asked.files() else {
         return Some(Refusal::NoFiles);
@@ -50,44 +57,6 @@ fn refused<'a>(rt: &HostRuntime, asked: &Asked<'a>) -> Option<Refusal<'a>> {
             return Some(Refusal::SeveralFiles(name));
         }
     }
-    match refused_word(asked) {
-        None => refused_value(asked),
-        it => it,
-    }
-}
-
-// The value that is none.
-fn refused_value<'a>(asked: &Asked<'a>) -> Option<Refusal<'a>> {
-    match refused_number(asked) {
-        None => refused_text(asked),
-        it => it,
-    }
-}
-
-// The number that is not written in digits alone.
-fn refused_number<'a>(asked: &Asked<'a>) -> Option<Refusal<'a>> {
-    let leap = asked.leap();
-    if !is_number(leap) {
-        return Some(Refusal::Leap(leap));
-    }
-    match asked.value("week") {
-        Some(week) if !is_number(week) => Some(Refusal::Week(week)),
-        _ => None,
-    }
-}
-
-// Whether a text is a number as navbridge reads it: up to 18 digits.
-fn is_number(text: &str) -> bool {
-    for byte in text.as_bytes() {
-        if !byte.is_ascii_digit() {
-            return false;
-        }
-    }
-    !text.is_empty() && text.len() <= 18
-}
-
-// The option whose value is not UTF-8.
-fn refused_word<'a>(asked: &Asked<'a>) -> Option<Refusal<'a>> {
     match (asked.value("output"), asked.value("report")) {
         (Some(name), _) if is_broken(name) => Some(Refusal::Word(name)),
         (_, Some(name)) if is_broken(name) => Some(Refusal::Word(name)),
@@ -95,25 +64,16 @@ fn refused_word<'a>(asked: &Asked<'a>) -> Option<Refusal<'a>> {
     }
 }
 
-// The site or the date that is none.
-fn refused_text<'a>(asked: &Asked<'a>) -> Option<Refusal<'a>> {
-    match (asked.value("long-name"), asked.value("date")) {
-        (Some(site), _) if !is_site(site) => Some(Refusal::Site(site)),
-        (_, Some(date)) if !is_date(date.as_bytes()) => Some(Refusal::Date(date)),
-        _ => None,
-    }
-}
-
-/// Converts each file, with reports to this one; the status.
-pub(crate) fn convert_asked<'x, 'a>(
+// Converts each file by this plan, with reports to this one; the status.
+fn convert_asked<'x, 'a>(
     rt: &'x HostRuntime,
     asked: &'x Asked<'a>,
-    clock: &'x ClockWords,
+    plan: Plan,
     report: Option<&'x File>,
 ) -> u8 {
-    let task = Task {
+    let settings = Settings {
         rt,
-        plan: plan_of(asked, clock),
+        plan,
         staged: &[],
         before: Before::new(),
         output: output_of(rt, asked),
@@ -127,22 +87,22 @@ pub(crate) fn convert_asked<'x, 'a>(
     };
     match asked.files() {
         None => 0,
-        Some(files) => convert_staged(&task, files),
+        Some(files) => convert_staged(&settings, files),
     }
 }
 
 // Converts each file, or makes one output of several, those of RINEX 3 converted before; the status.
-fn convert_staged<'a>(task: &Task<'a>, files: &'a [&'a str]) -> u8 {
-    match staged_of(task, files) {
+fn convert_staged<'a>(settings: &Settings<'a>, files: &'a [&'a str]) -> u8 {
+    match staged_of(settings, files) {
         Err(status) => status,
         Ok((staged, before)) => {
-            let task = Task {
-                plan: merging(task.plan),
+            let settings = Settings {
+                plan: merging(settings.plan),
                 staged: staged.as_slice(),
                 before,
-                ..*task
+                ..*settings
             };
-            convert_files(&task, files)
+            convert_files(&settings, files)
         }
     }
 }
@@ -150,40 +110,25 @@ fn convert_staged<'a>(task: &Task<'a>, files: &'a [&'a str]) -> u8 {
 // The plan by which files are merged: those of RINEX 3 are of RINEX 4 now.
 fn merging(plan: Plan) -> Plan {
     match plan.form {
-        Some(Kind::Rinex3) if takes_several(plan.target) => Plan { form: None, ..plan },
+        Some(Kind::Rinex3) if plan.target.takes_several() => Plan { form: None, ..plan },
         _ => plan,
     }
 }
 
-// What is asked of each file.
-fn plan_of<'x, 'a>(asked: &'x Asked<'a>, clock: &'x ClockWords) -> Plan<'x> {
-    let values = Values {
-        week: asked.value("week"),
-        clock_week: clock.week.as_str(),
-        leap: asked.leap(),
-        date: asked.value("date").unwrap_or(clock.date.as_str()),
-    };
-    Plan {
-        form: asked.from(),
-        target: asked.to(),
-        values,
-    }
-}
-
 // Converts each file, or makes one output of several; the status of the first that failed.
-fn convert_files<'a>(task: &Task<'a>, files: &'a [&'a str]) -> u8 {
-    let Ok(mut known) = Known::new(task.rt, files) else {
-        return tell_program(task.rt, &Refusal::NoMemory);
+fn convert_files<'a>(settings: &Settings<'a>, files: &'a [&'a str]) -> u8 {
+    let Ok(mut known) = Known::new(settings.rt, files) else {
+        return tell_program(settings.rt, &Refusal::NoMemory);
     };
-    if are_joined(task.plan.target, files) {
-        return convert_joined(task, files, &mut known);
+    if are_joined(settings.plan.target, files) {
+        return convert_joined(settings, files, &mut known);
     }
     let mut status = 0;
     for file in files {
-        let ended = if is_headed(task, file, files) {
-            convert_file(task, file, &mut known)
+        let ended = if is_headed(settings, file, files) {
+            convert_file(settings, file, &mut known)
         } else {
-            tell_file(task.rt, file, &Refusal::ReportFault)
+            tell_file(settings.rt, file, &Refusal::ReportFault)
         };
         if status == 0 {
             status = ended;

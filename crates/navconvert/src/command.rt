@@ -8,13 +8,13 @@ ghost use Rattle.clap.specs.Words.{all_of, app_of, found_of, rows_of, rule_of};
 ghost use Rattle.navconvert.specs.Commands.{IsCommand, ReadsWords, command_with};
 ghost use Rattle.navconvert.specs.Commands.{files_rule, has_flag, name_rule, row_rule};
 ghost use Rattle.navconvert.specs.Commands.{value_in};
-ghost use Rattle.file_words.specs.Words.{kind_named, target_named};
+ghost use Rattle.file_conversion.specs.Words.{kind_named, target_named};
 
 use clap::builder::ValueParser;
 use clap::{Arg, ArgAction, ArgMatches, Command, Error};
-use file_form::{Kind, Target};
-use file_words::{kind_named, target_named};
+use file_conversion::{Target, kind_named, target_named};
 use std::alloc::{AllocError, Global};
+use whole_file::Kind;
 
 /// What the command line asks for.
 #[derive(Drop)]

@@ -1,48 +1,47 @@
 //! The commands of `navbridge` that do the same.
 
-use crate::files::{Task, takes_several};
+use crate::files::Settings;
 use crate::forms::input_kind;
 use crate::inputs::{Inputs, opened};
 use crate::staged::{is_three, plan_before};
-use crate::telling::{tell_file, tell_program, tell_refusal};
-use file_form::{Kind, is_copied};
-use file_words::Refusal;
-use front_run::{refusal_of, words_under};
+use crate::telling::{tell_file, tell_refusal};
+use bridge_engine::Job;
+use file_conversion::{Plan, Refusal, Target, Task, task_for, to_word};
+use gnss_week::RefWeek;
+use std::str::from_utf8;
+use whole_file::Kind;
 
 /// Prints the command that does what is asked of files, the first of which has this name, and where
 /// its output goes; the status.
-pub(crate) fn show_files(task: &Task, first: &str, files: &[&str], name: Option<&str>) -> u8 {
+pub(crate) fn show_files(
+    settings: &Settings,
+    first: &str,
+    files: &[&str],
+    name: Option<&str>,
+) -> u8 {
     for file in files {
-        if takes_several(task.plan.target) && is_three(task, file) {
-            return show_before(task, files, name);
+        if settings.plan.target.takes_several() && is_three(settings, file) {
+            return show_before(settings, files, name);
         }
     }
     let inputs = Inputs {
         names: files,
         staged: &[],
     };
-    match input_kind(task, task.plan.form, opened(task.rt, inputs)) {
-        Ok(kind) => show_kind(task, first, files, name, kind),
-        Err(refusal) => tell_file(task.rt, first, &refusal),
+    match input_kind(settings, settings.plan.form, opened(settings.rt, inputs)) {
+        Ok(kind) => show_kind(settings, first, files, name, kind),
+        Err(refusal) => tell_file(settings.rt, first, &refusal),
     }
 }
 
 // Prints the command that converts the files of RINEX 3 first.
-fn show_before(task: &Task, files: &[&str], name: Option<&str>) -> u8 {
-    let alloc = task.rt.alloc();
-    let before = words_under(alloc, &plan_before(task), Kind::Rinex3);
-    let (Ok(before), Ok(words)) = (before, words_under(alloc, &task.plan, Kind::Rinex4)) else {
-        return tell_program(task.rt, &Refusal::NoMemory);
-    };
-    let mut line = Line {
-        rt: task.rt,
-        whole: true,
-    };
+fn show_before(settings: &Settings, files: &[&str], name: Option<&str>) -> u8 {
+    let mut line = Line::new(settings.rt);
     line.text("{");
     for file in files {
-        if is_three(task, file) {
+        if is_three(settings, file) {
             line.text(" navbridge");
-            line.words(Some(before.as_slice()));
+            line.job(&plan_before(settings), Kind::Rinex3);
             line.word(" < ", file);
         } else {
             line.word(" cat -- ", file);
@@ -50,49 +49,60 @@ fn show_before(task: &Task, files: &[&str], name: Option<&str>) -> u8 {
         line.text(";");
     }
     line.text(" } | navbridge");
-    line.words(Some(words.as_slice()));
+    line.job(&settings.plan, Kind::Rinex4);
     line.end(name)
 }
 
 // Prints the command for files of this form.
-fn show_kind(task: &Task, first: &str, files: &[&str], name: Option<&str>, kind: Kind) -> u8 {
-    if is_copied(kind, task.plan.target) {
-        return show(task.rt, files, name, kind, None);
-    }
-    match words_under(task.rt.alloc(), &task.plan, kind) {
-        Ok(words) => show(task.rt, files, name, kind, Some(words.as_slice())),
-        Err(stop) => {
-            let refusal = refusal_of(&task.plan, stop, first, first);
-            tell_refusal(task, first, &refusal)
-        }
-    }
-}
-
-// Prints the command in which navbridge has these words, where it has a part in it.
-fn show(
-    rt: &HostRuntime,
+fn show_kind(
+    settings: &Settings,
+    first: &str,
     files: &[&str],
     name: Option<&str>,
     kind: Kind,
-    words: Option<&[String]>,
 ) -> u8 {
-    let mut line = Line { rt, whole: true };
+    let is_copied = match task_for(&settings.plan, kind) {
+        None => return tell_refusal(settings, first, &Refusal::NoSuchConversion(kind)),
+        Some(Task::Copied) => true,
+        Some(Task::Does(_)) => false,
+    };
+    let mut line = Line::new(settings.rt);
     match reader_of(kind, files.len()) {
         Some((program, mark)) => {
             line.text(program);
             line.files(mark, files);
-            if words.is_some() {
+            if !is_copied {
                 line.text(" | navbridge");
+                line.job(&settings.plan, kind);
             }
-            line.words(words);
         }
         None => {
             line.text("navbridge");
-            line.words(words);
+            line.job(&settings.plan, kind);
             line.files(" < ", files);
         }
     }
     line.end(name)
+}
+
+/// The reference week of a job.
+pub(crate) fn week_in(job: &Job) -> Option<RefWeek> {
+    match job {
+        Job::Capture(job) => job.week,
+        Job::Stream(job) => Some(job.week),
+        Job::SendRinex(week) | Job::SendRinex3(week) => Some(*week),
+        _ => None,
+    }
+}
+
+// The `--from` word for a file that is read under this form.
+fn from_word(kind: Kind) -> &'static str {
+    match kind {
+        Kind::Stream => "stream",
+        Kind::Rinex4 => "rinex",
+        Kind::Rinex3 => "rinex3",
+        _ => "capture",
+    }
 }
 
 // The program that reads so many files of this form, and the mark before their names, where that is
@@ -113,7 +123,12 @@ struct Line<'a> {
     whole: bool,
 }
 
-impl Line<'_> {
+impl<'a> Line<'a> {
+    // One with nothing yet.
+    fn new(rt: &'a HostRuntime) -> Line<'a> {
+        Line { rt, whole: true }
+    }
+
     // Prints a text.
     fn text(&mut self, text: &str) {
         self.whole = self.whole && print!(self.rt; "{text}").is_ok();
@@ -134,13 +149,29 @@ impl Line<'_> {
         }
     }
 
-    // Prints words, where there are any.
-    fn words(&mut self, words: Option<&[String]>) {
-        if let Some(words) = words {
-            for word in words {
-                self.word(" ", word.as_str());
+    // Prints the options of navbridge for a file of this form.
+    fn job(&mut self, plan: &Plan, kind: Kind) {
+        self.option("--from=", from_word(kind));
+        self.option("--to=", to_word(plan.target));
+        if let Some(Task::Does(job)) = task_for(plan, kind) {
+            if let Some(week) = week_in(&job) {
+                let week = week.value();
+                self.whole = self.whole && print!(self.rt; " '--week={week}'").is_ok();
             }
         }
+        if let Target::Rinex | Target::Rinex3 | Target::Merged = plan.target {
+            let leap = plan.header.leap;
+            self.whole = self.whole && print!(self.rt; " '--leap={leap}'").is_ok();
+            self.option("--date=", from_utf8(&plan.header.date).unwrap_or(""));
+        }
+    }
+
+    // Prints an option and its value in quotes.
+    fn option(&mut self, name: &str, value: &str) {
+        self.text(" '");
+        self.text(name);
+        self.text(value);
+        self.text("'");
     }
 
     // Prints the names of files, each behind this mark; none for standard input.

@@ -1,38 +1,39 @@
 //! The forms of files.
 
-use crate::files::Task;
+use crate::files::Settings;
 use crate::inputs::{Input, opened_one};
-use file_folders::fault_of;
-use file_form::Kind;
-use file_step::{FileFault, PeekFault, Peeked};
-use file_words::Refusal;
-use front_run::look;
+use file_conversion::Refusal;
 use std::io::ErrorKind;
+use whole_file::{FileFault, Kind, PeekFault, Peeked, fault_of, look};
 
 /// The form under which a file is read, where this one is named.
 pub(crate) fn file_kind(
-    task: &Task,
+    settings: &Settings,
     named: Option<Kind>,
     file: &str,
 ) -> Result<Kind, Refusal<'static>> {
-    input_kind(task, named, opened_one(task.rt, file))
+    input_kind(settings, named, opened_one(settings.rt, file))
 }
 
 /// The form under which an input that was opened is read, where this one is named.
 pub(crate) fn input_kind(
-    task: &Task,
+    settings: &Settings,
     named: Option<Kind>,
     opened: Result<Input, FileFault>,
 ) -> Result<Kind, Refusal<'static>> {
     match opened {
-        Ok(input) => looked(task, named, input),
+        Ok(input) => looked(settings, named, input),
         Err(fault) => Err(Refusal::NotOpened(fault)),
     }
 }
 
 // The form under which an input is read.
-fn looked(task: &Task, named: Option<Kind>, input: Input) -> Result<Kind, Refusal<'static>> {
-    let mut input = Peeked::new(task.rt.alloc(), input);
+fn looked(
+    settings: &Settings,
+    named: Option<Kind>,
+    input: Input,
+) -> Result<Kind, Refusal<'static>> {
+    let mut input = Peeked::new(settings.rt.alloc(), input);
     let kind = look(named, &mut input);
     told(kind, input.into_source().fault())
 }

@@ -3,12 +3,11 @@
 ghost use Rattle.std.specs.Prelude.{◌≡◌, IfOk};
 ghost use Rattle.std.specs.Io.{ReadsAtMost};
 
-use file_folders::fault_of;
-use file_step::FileFault;
 use nav_io::{ReadSource, Source};
 use std::fs::File;
 use std::io::{Read, Stdin};
 use std::{fs, io};
+use whole_file::{FileFault, fault_of};
 
 /// An input that is opened.
 pub(crate) type Input<'a> = ReadSource<Bytes<'a>>;

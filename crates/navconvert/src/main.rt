@@ -1,9 +1,10 @@
 //! `navconvert` converts files of GNSS broadcast orbits: `navconvert log.ubx` makes a navigation
 //! file of what a receiver logged, and `navconvert -t rtcm station.navcap` frames of RTCM 3.
 //!
-//! The form of each file is told by what is in it, and the words of `navbridge` for it give its
-//! job. An output is written as a part beside its name, and gets the name once it is whole:
-//! [`front_run::convert_one`] has the contract. What a file came to is one line on standard error.
+//! The form of each file is told by what is in it, and gives the job of `navbridge` for it. An
+//! output is written as a part beside its name, and gets the name once it is whole:
+//! [`file_conversion::convert_one`] has the contract. What a file came to is one line on standard
+//! error.
 //! The status is that of the first file that failed, as `navbridge` has it.
 #![tactic(auto)]
 
@@ -14,6 +15,7 @@ mod dry;
 mod files;
 mod forms;
 mod inputs;
+mod long_names;
 mod made;
 mod messages;
 mod meter;
@@ -23,7 +25,6 @@ mod parts;
 mod place;
 mod records;
 mod reports;
-mod said;
 mod staged;
 mod steps;
 mod summary;
@@ -31,16 +32,15 @@ mod systems;
 mod taken;
 mod tally;
 mod telling;
-mod times;
+mod values;
 mod watch;
 mod words;
 
-use crate::choices::{begin, convert_asked};
-use crate::clock::clock_of;
-use crate::command::{Asked, read_words};
+use crate::choices::do_asked;
+use crate::command::read_words;
 use crate::telling::tell_program;
 use crate::words::words_of;
-use file_words::{Refusal, Shown};
+use file_conversion::{Refusal, Shown};
 use std::alloc::AllocError;
 use std::fs::File;
 use std::process::ExitCode;
@@ -64,24 +64,8 @@ fn held_places(rt: &HostRuntime) -> [io::Result<File>; 3] {
 // Does what the words behind the name of the program ask; the status.
 fn run(rt: &HostRuntime, words: &[String]) -> u8 {
     match read_words(rt.alloc(), words) {
-        Ok(asked) => run_asked(rt, &asked),
+        Ok(asked) => do_asked(rt, &asked),
         Err(error) => tell_words(rt, &error),
-    }
-}
-
-// Does what is asked; the status.
-fn run_asked(rt: &HostRuntime, asked: &Asked) -> u8 {
-    match begin(rt, asked) {
-        Ok(report) => convert_now(rt, asked, report.as_ref()),
-        Err(status) => status,
-    }
-}
-
-// Converts what is asked, by the clock as it is now; the status.
-fn convert_now(rt: &HostRuntime, asked: &Asked, report: Option<&File>) -> u8 {
-    match clock_of(rt) {
-        Ok(clock) => convert_asked(rt, asked, &clock, report),
-        Err(AllocError) => tell_program(rt, &Refusal::NoMemory),
     }
 }
 

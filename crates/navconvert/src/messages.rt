@@ -2,8 +2,8 @@
 
 use crate::systems::{Skips, System, system_of_block, system_of_number, system_of_signal};
 use arrayvec::ArrayVec;
-use file_form::Kind;
 use memchr::memchr;
+use whole_file::Kind;
 
 // So many bytes tell what a message is: of UBX those up to the sigId.
 const ROOM: usize = 9;

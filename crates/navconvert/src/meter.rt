@@ -1,8 +1,8 @@
 //! How far a conversion has come, on a terminal.
 
-use file_step::Progress;
-use file_words::Shown;
+use file_conversion::Shown;
 use std::rt::Clock;
+use whole_file::Progress;
 
 // So long nothing is shown, and so long one line stands, in milliseconds.
 const PAUSE: u64 = 500;

@@ -6,7 +6,7 @@ ghost use Rattle.std.specs.Path.{path_buf_bytes};
 ghost use Rattle.navconvert.specs.Outputs.{placed};
 
 use crate::command::Asked;
-use file_words::{Refusal, output_name};
+use file_conversion::{Refusal, output_name};
 use std::alloc::{AllocError, Global};
 use std::fs;
 use std::path::{AsPath, Path, PathBuf};

@@ -1,13 +1,12 @@
 //! Parts: outputs while they are written, under names of their own.
 
-use file_folders::fault_of;
-use file_step::{FileFault, part_of};
 use std::alloc::{AllocError, Global};
 use std::fs::{File, Metadata, OpenOptions};
 use std::io::ErrorKind;
 use std::os::unix::fs::MetadataExt;
 use std::path::Path;
 use std::{fs, io};
+use whole_file::{FileFault, fault_of, part_of};
 
 // The most bytes of a name without its folder that leave room for the suffix, in the 255 that file
 // systems have; and those that are kept of a longer one.

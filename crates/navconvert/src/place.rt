@@ -3,20 +3,17 @@
 
 ghost use Rattle.std.specs.Prelude.{◌≡◌, IfOk};
 
+use crate::files::Settings;
 use crate::inputs::{Inputs, opened};
 use crate::made::Made;
 use crate::parts::begun;
 use crate::systems::Skips;
-use crate::times::Times;
 use crate::watch::{Watch, Watched};
-use file_folders::HostFolder;
-use file_form::Kind;
-use file_step::{FileFault, Folder, GATHERED, Gathered};
-use file_words::Refusal;
-use gnss_week::Moment;
+use file_conversion::Refusal;
 use nav_io::{Failed, Sink, WriteSink};
 use std::fs::File;
 use std::io::Stdout;
+use whole_file::{FileFault, Folder, GATHERED, Gathered, HostFolder, Kind};
 
 /// Where what is made goes.
 #[derive(Clone, Copy)]
@@ -27,7 +24,7 @@ pub(crate) enum Goal {
     Standard,
     /// To memory.
     Memory,
-    /// Nowhere: its times are kept.
+    /// Nowhere.
     Nowhere,
 }
 
@@ -37,7 +34,7 @@ enum Outlet {
     File(Gathered<File>),
     Standard(WriteSink<Stdout>),
     Memory(WriteSink<Vec<u8>>),
-    Nowhere(Times),
+    Nowhere,
 }
 
 impl Sink for Outlet {
@@ -50,7 +47,7 @@ impl Sink for Outlet {
       | outlets.File draft ↦ ⟦<Gathered<File> as Sink>⟧.faults draft
       | outlets.Standard output ↦ ⟦<WriteSink<Stdout> as Sink>⟧.faults output
       | outlets.Memory output ↦ ⟦<WriteSink<Vec<u8>> as Sink>⟧.faults output
-      | outlets.Nowhere times ↦ ⟦<Times as Sink>⟧.faults times
+      | outlets.Nowhere ↦ 0
     ] };
 
     /// Writes the piece where it goes.
@@ -59,7 +56,7 @@ impl Sink for Outlet {
             Outlet::File(draft) => draft.write(piece),
             Outlet::Standard(output) => output.write(piece),
             Outlet::Memory(output) => output.write(piece),
-            Outlet::Nowhere(times) => times.write(piece),
+            Outlet::Nowhere => Ok(()),
         }
     }
 }
@@ -103,29 +100,21 @@ pub(crate) struct Place<'a> {
     goal: Goal,
     watch: Watch,
     made: Made,
-    /// The first and the last of the times in what was made and went nowhere.
-    pub range: Option<(Moment, Moment)>,
     /// What was made, and went to memory.
     pub bytes: Option<Vec<u8>>,
 }
 
 impl<'a> Place<'a> {
-    /// For these files, and what goes there; whether a file that has the name of the output is
-    /// replaced.
-    pub(crate) fn new(
-        rt: &'a HostRuntime,
-        inputs: Inputs<'a>,
-        goal: Goal,
-        replaces: bool,
-    ) -> Place<'a> {
+    /// For these files, and what goes there.
+    pub(crate) fn new(settings: &Settings<'a>, inputs: Inputs<'a>, goal: Goal) -> Place<'a> {
+        let rt = settings.rt;
         Place {
-            folder: HostFolder::with(rt.alloc(), rt, replaces),
+            folder: HostFolder::with(rt.alloc(), rt, settings.overwrites),
             rt,
             inputs,
             goal,
             watch: Watch::new(),
             made: Made::new(),
-            range: None,
             bytes: None,
         }
     }
@@ -158,7 +147,7 @@ impl<'a> Place<'a> {
             },
             Goal::Standard => Ok(Outlet::Standard(WriteSink::new(self.rt.stdout()))),
             Goal::Memory => Ok(Outlet::Memory(WriteSink::new(Vec::new(self.rt.alloc())))),
-            Goal::Nowhere => Ok(Outlet::Nowhere(Times::new())),
+            Goal::Nowhere => Ok(Outlet::Nowhere),
         }
     }
 }
@@ -213,7 +202,7 @@ impl<'a> Folder for Place<'a> {
         }
     }
 
-    /// Gives the file its name, or keeps the bytes or the times.
+    /// Gives the file its name, or keeps the bytes.
     fn publish(&mut self, draft: Draft, part: &str, name: &str) -> Result<(), FileFault> {
         self.made = draft.made;
         match draft.outlet {
@@ -224,10 +213,7 @@ impl<'a> Folder for Place<'a> {
                 self.bytes = Some(output.into_writer());
                 self.folder.told(fault)
             }
-            Outlet::Nowhere(times) => {
-                self.range = times.range;
-                Ok(())
-            }
+            Outlet::Nowhere => Ok(()),
         }
     }
 
@@ -237,7 +223,7 @@ impl<'a> Folder for Place<'a> {
             Outlet::File(file) => self.folder.discard(file, part),
             Outlet::Standard(output) => self.folder.told(output.fault()),
             Outlet::Memory(output) => self.folder.told(output.fault()),
-            Outlet::Nowhere(_) => Ok(()),
+            Outlet::Nowhere => Ok(()),
         }
     }
 }

@@ -1,17 +1,15 @@
 //! Where reports go.
 
 use crate::command::Asked;
-use crate::files::{Task, are_joined};
+use crate::files::{Settings, are_joined};
 use crate::outputs::{Output, name_of, output_of, placed};
 use crate::taken::{input_path, is_same_file, is_standard_output};
 use crate::tally::is_put;
-use file_folders::fault_of;
-use file_form::Target;
-use file_step::FileFault;
-use file_words::{Refusal, ending_of};
+use file_conversion::{Refusal, Target, ending_of};
 use std::fs::File;
 use std::io;
 use std::path::Path;
+use whole_file::{FileFault, fault_of};
 
 /// The file for reports, where one is named and can have them.
 pub(crate) fn report_of<'a>(
@@ -109,9 +107,9 @@ fn created(rt: &HostRuntime, name: &str, overwrites: bool) -> io::Result<File> {
 
 /// Writes the name of a file before what is reported of it, where it is one of several; whether
 /// that was done.
-pub(crate) fn is_headed(task: &Task, file: &str, files: &[&str]) -> bool {
+pub(crate) fn is_headed(settings: &Settings, file: &str, files: &[&str]) -> bool {
     files.len() == 1
-        || is_put(task.report, b"file ")
-            && is_put(task.report, file.as_bytes())
-            && is_put(task.report, b"\n")
+        || is_put(settings.report, b"file ")
+            && is_put(settings.report, file.as_bytes())
+            && is_put(settings.report, b"\n")
 }

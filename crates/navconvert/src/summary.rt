@@ -1,24 +1,86 @@
 //! The line that says what became of a file.
 
-use crate::files::Task;
+use crate::dry::week_in;
+use crate::files::Settings;
 use crate::place::Seen;
 use crate::systems::{COUNT, SYSTEMS, Skips};
-use crate::tally::Tally;
-use file_form::{Kind, Target, WeekRule, row_of};
-use file_words::Shown;
-use front_run::Outcome;
+use bridge_engine::{CaptureCounts, Done, RinexCounts};
+use file_conversion::{Shown, Target, Task, task_for};
+use receiver_log::LogCounts;
 use std::fmt;
+use whole_file::Kind;
+
+/// What a job has counted.
+#[derive(Clone, Copy)]
+pub(crate) struct JobCounts {
+    /// The ephemerides and ionosphere records that were made; none, where they are not counted.
+    pub items: Option<u64>,
+    /// The lines, records or frames that were rejected.
+    pub rejected: u64,
+    /// The records or messages that were skipped.
+    pub skipped: u64,
+    // what else is amiss, in the order of [`AMISS`]
+    amiss: [u64; KINDS],
+}
+
+/// What is counted of what a job has done.
+pub(crate) fn counted(done: &Option<Done>) -> JobCounts {
+    match done {
+        None | Some(Done::Frames(_) | Done::Generated(_)) => of_items(None, 0, 0),
+        Some(Done::Capture(counts)) => of_capture(counts),
+        Some(Done::Stream(counts)) => of_items(Some(counts.items), counts.refused, counts.unused),
+        Some(Done::File(counts) | Done::Sent(counts) | Done::Covered(counts)) => of_file(counts),
+        Some(Done::Merged(counts)) => JobCounts {
+            amiss: [0, 0, 0, 0, 0, counts.items.saturating_sub(counts.kept)],
+            ..of_items(Some(counts.kept), counts.refused, counts.passed)
+        },
+    }
+}
+
+// These counts, and nothing else amiss.
+fn of_items(items: Option<u64>, rejected: u64, skipped: u64) -> JobCounts {
+    JobCounts {
+        items,
+        rejected,
+        skipped,
+        amiss: [0; KINDS],
+    }
+}
+
+// What is counted of a navigation file.
+fn of_file(counts: &RinexCounts) -> JobCounts {
+    of_items(Some(counts.items), counts.refused, counts.passed)
+}
+
+// What is counted of a capture, of which the messages that are not used are not told apart.
+fn of_capture(counts: &CaptureCounts) -> JobCounts {
+    JobCounts {
+        amiss: [
+            counts.malformed,
+            counts.late,
+            counts.partial,
+            counts.contradicted,
+            counts.nohealth,
+            counts.again,
+        ],
+        ..of_items(Some(counts.whole), counts.refused, 0)
+    }
+}
 
 /// What became of a file: of what its output is made, what was rejected and skipped of it, and the
 /// week of the clock where it was read by that.
 #[derive(Clone, Copy)]
 pub(crate) struct Summary<'x, 'a> {
-    /// What is done with each file.
-    pub task: &'x Task<'a>,
+    /// What is asked for all files.
+    pub settings: &'x Settings<'a>,
     /// The name of the output.
     pub name: &'x str,
-    /// How the conversion has ended.
-    pub outcome: &'x Outcome<Tally<'a>>,
+    /// The form under which its input was read.
+    pub kind: Option<Kind>,
+    /// What was counted.
+    pub counted: JobCounts,
+    /// What was counted of a log.
+    pub log: Option<LogCounts>,
     /// What was seen of its input and its output.
     pub seen: Seen,
 }
@@ -31,11 +93,11 @@ impl fmt::Display for Summary<'_, '_> {
         let skipped = self.write_skipped(f)?;
         if !amiss && !skipped {
             f.write_str("; nothing rejected")?;
-            if !is_capture(self.outcome.kind) {
+            if !is_capture(self.kind) {
                 f.write_str(", nothing skipped")?;
             }
         }
-        write_week(f, self.task, self.outcome.kind)
+        write_week(f, self.settings, self.kind)
     }
 }
 
@@ -43,7 +105,7 @@ impl Summary<'_, '_> {
     // Writes what was made.
     fn write_made<W: fmt::Write>(&self, f: &mut fmt::Formatter<W>) -> fmt::Result {
         let made = self.seen.made;
-        match (self.task.plan.target, self.outcome.report.said.written()) {
+        match (self.settings.plan.target, self.counted.items) {
             (Target::Rinex | Target::Merged, Some(_)) => {
                 write_count(f, ": ", made.ephemerides, EPHEMERIDES)?;
                 if made.ionospheres == 0 {
@@ -52,7 +114,7 @@ impl Summary<'_, '_> {
                 write_count(f, ", ", made.ionospheres, IONOSPHERES)
             }
             (_, Some(items)) => write_count(f, ": made of ", items, ITEMS),
-            (_, None) => match &self.outcome.counts {
+            (_, None) => match &self.log {
                 None => f.write_str(": written"),
                 Some(counts) => {
                     write_count(f, ": ", counts.capture.subframes, ("subframe", "subframes"))?;
@@ -62,32 +124,18 @@ impl Summary<'_, '_> {
         }
     }
 
-    // The count of a report, with that of the inputs that were converted before.
-    fn count(&self, name: &str) -> u64 {
-        let own = self.outcome.report.said.count(name).unwrap_or(0);
-        match name {
-            "refused" => own.saturating_add(self.task.before.rejected),
-            "passed" => own.saturating_add(self.task.before.passed),
-            _ => own,
-        }
-    }
-
-    // Writes each count of what is amiss that is not 0; whether one is.
+    // Writes each count of what is amiss that is not 0, with those of the inputs that were converted
+    // before; whether one is.
     fn write_amiss<W: fmt::Write>(&self, f: &mut fmt::Formatter<W>) -> Result<bool, fmt::Error> {
-        let mut any = false;
-        for (name, one, many) in AMISS {
-            let count = match name {
-                "again" => self.outcome.report.said.repeated(),
-                _ => self.count(name),
-            };
-            let names = if name == "refused" {
-                rejected_of(self.outcome.kind)
-            } else {
-                (one, many)
-            };
-            any = write_some(f, any, count, names)?;
+        let rejected = self
+            .counted
+            .rejected
+            .saturating_add(self.settings.before.rejected);
+        let mut any = write_some(f, false, rejected, rejected_of(self.kind))?;
+        for place in 0..KINDS {
+            any = write_some(f, any, self.counted.amiss[place], AMISS[place])?;
         }
-        let messages = match &self.outcome.counts {
+        let messages = match &self.log {
             None => 0,
             Some(counts) => counts.capture.refused,
         };
@@ -96,11 +144,12 @@ impl Summary<'_, '_> {
 
     // How many records or messages are skipped.
     fn all_skipped(&self) -> u64 {
-        match (&self.outcome.counts, self.outcome.kind) {
-            (Some(counts), _) => counts.log.other,
-            (None, Some(Kind::Stream)) => self.count("unused"),
-            (None, Some(Kind::Rinex4 | Kind::Rinex3)) => self.count("passed"),
-            _ => 0,
+        match &self.log {
+            Some(counts) => counts.log.other,
+            None => self
+                .counted
+                .skipped
+                .saturating_add(self.settings.before.passed),
         }
     }
 
@@ -111,7 +160,7 @@ impl Summary<'_, '_> {
             return Ok(false);
         }
         let mut skips = self.seen.skips;
-        skips.join(&self.task.before.skips);
+        skips.join(&self.settings.before.skips);
         f.write_str("; skipped: ")?;
         if skips.sum() > all {
             skips = Skips::new();
@@ -123,7 +172,7 @@ impl Summary<'_, '_> {
         }
         let is_mixed = any;
         write_system(f, any, other, if is_mixed { "other" } else { "" })?;
-        let (one, many) = skipped_of(self.outcome.kind);
+        let (one, many) = skipped_of(self.kind);
         f.write_str(if other == 0 || is_mixed { " " } else { "" })?;
         f.write_str(if all == 1 { one } else { many })?;
         Ok(true)
@@ -140,15 +189,16 @@ const ITEMS: (&str, &str) = (
     "ephemerides and ionosphere records",
 );
 
-// What is amiss: the name of its count, and what is said of one and of many.
-const AMISS: [(&str, &str, &str); 7] = [
-    ("refused", "", ""),
-    ("malformed", "line malformed", "lines malformed"),
-    ("late", "line late", "lines late"),
-    ("partial", "issue partial", "issues partial"),
-    ("contradicted", "issue contradicted", "issues contradicted"),
-    ("nohealth", "issue without health", "issues without health"),
-    ("again", "repeated", "repeated"),
+// What is amiss besides what is rejected: what is said of one and of many.
+const KINDS: usize = 6;
+
+const AMISS: [(&str, &str); KINDS] = [
+    ("line malformed", "lines malformed"),
+    ("line late", "lines late"),
+    ("issue partial", "issues partial"),
+    ("issue contradicted", "issues contradicted"),
+    ("issue without health", "issues without health"),
+    ("repeated", "repeated"),
 ];
 
 // Writes a count, of one thing or of many, behind a text.
@@ -196,12 +246,12 @@ fn write_system<W: fmt::Write>(
 // Writes the week of the clock, where a file of this form was read by it.
 fn write_week<W: fmt::Write>(
     f: &mut fmt::Formatter<W>,
-    task: &Task,
+    settings: &Settings,
     kind: Option<Kind>,
 ) -> fmt::Result {
     match kind {
-        Some(kind) if takes_clock(task, kind) => {
-            let week = task.plan.values.clock_week;
+        Some(kind) if takes_clock(settings, kind) => {
+            let week = settings.plan.clock_week.value();
             write!(f, "; read near week {week} of the clock")
         }
         _ => Ok(()),
@@ -230,10 +280,11 @@ fn is_capture(kind: Option<Kind>) -> bool {
     matches!(kind, Some(Kind::Capture1 | Kind::Capture2))
 }
 
-// Whether a file of this form is read by the week of the clock.
-fn takes_clock(task: &Task, kind: Kind) -> bool {
-    match (task.plan.values.week, row_of(kind, task.plan.target)) {
-        (None, Some(row)) => matches!(row.week, WeekRule::Always),
+// Whether a file of this form is read by the week of the clock: its job has a week, and none is
+// named.
+fn takes_clock(settings: &Settings, kind: Kind) -> bool {
+    match task_for(&settings.plan, kind) {
+        Some(Task::Does(job)) if settings.plan.week.is_none() => week_in(&job).is_some(),
         _ => false,
     }
 }

@@ -1,7 +1,6 @@
 //! Whether an output may have its name: what stands there, and what was made.
 
-use file_step::FileFault;
-use file_words::Refusal;
+use file_conversion::Refusal;
 use std::alloc::AllocError;
 use std::collections::BTreeSet;
 use std::fs;
@@ -9,6 +8,7 @@ use std::fs::Metadata;
 use std::io::ErrorKind;
 use std::os::unix::fs::MetadataExt;
 use std::path::Path;
+use whole_file::FileFault;
 
 /// Why an output may not have this name, if it may not.
 pub(crate) fn taken<'a>(

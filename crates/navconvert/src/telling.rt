@@ -1,21 +1,19 @@
 //! What is said on standard error.
 
 ghost use Rattle.std.specs.Prelude.{◌≡◌};
-ghost use Rattle.file_words.specs.Says.{status_of};
+ghost use Rattle.file_conversion.specs.Says.{status_of};
 
-use crate::files::{Task, takes_several};
+use crate::files::Settings;
 use crate::place::Seen;
-use crate::summary::Summary;
-use crate::tally::{Tally, is_put};
-use file_form::Kind;
-use file_step::FileFault;
-use file_words::{Refusal, Shown};
-use front_run::{Outcome, Teller};
+use crate::summary::{Summary, counted};
+use crate::tally::{ReportFile, is_put};
+use file_conversion::{Outcome, Refusal, Shown, Teller};
 use nav_io::Failed;
 use receiver_log::counts_text;
 use std::fs;
 use std::io::{IsTerminal, Read};
 use std::path::Path;
+use whole_file::{FileFault, Kind};
 
 // What takes the line of a meter away: to its end, however long it is.
 const CLEARED: &str = "\r\x1b[K";
@@ -40,18 +38,18 @@ pub(crate) fn tell_file(rt: &HostRuntime, file: &str, refusal: &Refusal) -> u8
 
 /// Says why a file is not converted to what is asked, with the command that unpacks it where it is
 /// packed; the status.
-pub(crate) fn tell_refusal(task: &Task, file: &str, refusal: &Refusal) -> u8 {
+pub(crate) fn tell_refusal(settings: &Settings, file: &str, refusal: &Refusal) -> u8 {
     match refusal {
         Refusal::NoSuchConversion(kind) => {
-            tell_file(task.rt, file, &form_refusal(task, file, *kind))
+            tell_file(settings.rt, file, &form_refusal(settings, file, *kind))
         }
-        _ => tell_file(task.rt, file, refusal),
+        _ => tell_file(settings.rt, file, refusal),
     }
 }
 
 // Why a file of this form is not converted to what is asked.
-fn form_refusal(task: &Task, file: &str, kind: Kind) -> Refusal<'static> {
-    let target = task.plan.target;
+fn form_refusal(settings: &Settings, file: &str, kind: Kind) -> Refusal<'static> {
+    let target = settings.plan.target;
     match kind {
         Kind::Gzip => Refusal::Unready("packed by gzip; unpack it", "gzip -dc FILE", target),
         Kind::Compress => Refusal::Unready(
@@ -60,19 +58,19 @@ fn form_refusal(task: &Task, file: &str, kind: Kind) -> Refusal<'static> {
             target,
         ),
         Kind::Zip => Refusal::Unready("an archive of zip; unpack it", "unzip -p FILE", target),
-        Kind::Rinex3 if takes_several(target) => {
+        Kind::Rinex3 if target.takes_several() => {
             let what = "a navigation file of RINEX 3 and read only once; convert it first";
             Refusal::Unready(what, "navconvert -o - - < FILE", target)
         }
-        Kind::Unknown => unknown_refusal(task, file).unwrap_or(Refusal::NoSuchConversion(kind)),
+        Kind::Unknown => unknown_refusal(settings, file).unwrap_or(Refusal::NoSuchConversion(kind)),
         _ => Refusal::NoSuchConversion(kind),
     }
 }
 
 // Why a file of no form that is converted is not: it is of another that is known.
-fn unknown_refusal(task: &Task, file: &str) -> Option<Refusal<'static>> {
-    let target = task.plan.target;
-    match first_bytes(task.rt, file) {
+fn unknown_refusal(settings: &Settings, file: &str) -> Option<Refusal<'static>> {
+    let target = settings.plan.target;
+    match first_bytes(settings.rt, file) {
         [b'B', b'Z', b'h', ..] => {
             Some(Refusal::Unready("packed by bzip2; unpack it", "bzip2 -dc FILE", target))
         }
@@ -100,19 +98,19 @@ fn first_bytes(rt: &HostRuntime, file: &str) -> [u8; 6] {
 /// Who says what became of a file, under its name and that of its output.
 #[derive(Drop)]
 pub(crate) struct Saying<'x, 'a> {
-    /// What is done with each file.
-    pub task: &'x Task<'a>,
+    /// What is asked for all files.
+    pub settings: &'x Settings<'a>,
     /// The file.
     pub file: &'x str,
-    /// Its output.
-    pub name: &'x str,
+    /// What is said of its output, where that is not its name.
+    pub name: Option<&'x str>,
     /// What was seen of both.
     pub seen: Seen,
     /// How often a report could not be ended.
     pub faults: u64,
 }
 
-impl<'a> Teller<Tally<'a>> for Saying<'_, 'a> {
+impl<'a> Teller<ReportFile<'a>> for Saying<'_, 'a> {
     ghost faults = { λ s. s.faults };
 
     ghost told = { λ _ _. Unit {0} };
@@ -122,39 +120,47 @@ impl<'a> Teller<Tally<'a>> for Saying<'_, 'a> {
         if let Refusal::WriteFault(_, FileFault::ReaderGone) = refusal {
             return;
         }
-        let _ = tell_refusal(self.task, self.file, refusal);
+        let _ = tell_refusal(self.settings, self.file, refusal);
     }
 
-    fn done(&mut self, outcome: &Outcome<Tally<'a>>) -> Result<(), Failed> {
-        if !is_counted(self.task, outcome) {
+    fn done(&mut self, outcome: &Outcome<ReportFile<'a>>) -> Result<(), Failed> {
+        if !is_counted(self.settings, outcome) {
             self.faults = self.faults.saturating_add(1);
             return Err(Failed);
         }
-        if !self.task.quiet {
-            tell_done(self.task, self.name, outcome, self.seen);
+        if !self.settings.quiet {
+            tell_done(self.settings, self.name, outcome, self.seen);
         }
         Ok(())
     }
 }
 
 // Writes the counts of a log to the report, as `navlog` has them; whether that was done.
-fn is_counted(task: &Task, outcome: &Outcome<Tally>) -> bool {
+fn is_counted(settings: &Settings, outcome: &Outcome<ReportFile>) -> bool {
     match &outcome.counts {
         None => true,
-        Some(counts) => is_put(task.report, counts_text(counts, outcome.count).as_slice()),
+        Some(counts) => is_put(
+            settings.report,
+            counts_text(counts, outcome.count).as_slice(),
+        ),
     }
 }
 
 // Says what became of a file, as one line that is written at once.
-fn tell_done(task: &Task, name: &str, outcome: &Outcome<Tally>, seen: Seen) {
-    clear(task.rt);
+fn tell_done(settings: &Settings, name: Option<&str>, outcome: &Outcome<ReportFile>, seen: Seen) {
+    let Ok(made) = &outcome.done else {
+        return;
+    };
+    clear(settings.rt);
     let done = Summary {
-        task,
-        name,
-        outcome,
+        settings,
+        name: name.unwrap_or(made.name.as_str()),
+        kind: outcome.kind,
+        counted: counted(&made.done),
+        log: outcome.counts,
         seen,
     };
-    let _ = eprintln!(task.rt; "{done}");
+    let _ = eprintln!(settings.rt; "{done}");
 }
 
 // Takes the line of a meter away, where there is a terminal.

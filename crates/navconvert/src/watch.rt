@@ -8,11 +8,11 @@ use crate::messages::Messages;
 use crate::records::Records;
 use crate::systems::Skips;
 use arrayvec::ArrayVec;
-use file_form::Kind;
-use file_words::Refusal;
+use file_conversion::Refusal;
 use nav_io::{Failed, Source};
 use std::io::ErrorKind;
 use std::mem;
+use whole_file::Kind;
 
 // So many bytes tell what is looked at: the first line of a navigation file.
 const ROOM: usize = 80;

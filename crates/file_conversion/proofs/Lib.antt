@@ -1,0 +1,6 @@
+mod Passing
+mod Copying
+mod Running
+mod Beginning
+mod Closing
+mod Statuses

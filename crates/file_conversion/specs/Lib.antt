@@ -1,0 +1,12 @@
+pub mod Table
+pub mod Tasks
+pub mod Logs
+pub mod Makes
+pub mod Stops
+pub mod Steps
+pub mod Words
+pub mod Fits
+pub mod Names
+pub mod Long
+pub mod KindTexts
+pub mod Says

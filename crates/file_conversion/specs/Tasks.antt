@@ -1,0 +1,28 @@
+-- What a task makes of the bytes that it reads, and what it counts of them.
+use Rattle.std.specs.Prelude.{◌≡◌, ℕ, List, Bool, true, Option, None, Some, IsSome}
+use Rattle.whole_file.specs.declared.kinds.Kind.{Kind}
+use Rattle.bridge_engine.specs.Meanings.{done_of, meaning_of}
+use Rattle.bridge_engine.specs.declared.done.Done.{Done}
+use Rattle.bridge_engine.specs.declared.job.Job.{Job}
+use Rattle.file_conversion.specs.declared.table.Task.{Task}
+use Rattle.file_conversion.specs.declared.table.Task.TheVariants.{Copied, Does}
+
+-- it reads the bytes of a file
+abbrev pub reads_input : Task → Bool
+reads_input Copied = true
+reads_input (Does job) = (meaning_of job).reads
+
+-- the bytes themselves, or the output of the job
+abbrev pub makes_by : Task → List ℕ → List ℕ
+makes_by Copied bytes = bytes
+makes_by (Does job) bytes = (meaning_of job).whole.output bytes
+
+-- nothing, or what the job counts
+abbrev pub counts_by : Task → List ℕ → Option Done
+counts_by Copied bytes = None
+counts_by (Does job) bytes = (done_of job).counts bytes
+
+-- the task takes these bytes: the job counts them
+abbrev pub accepts : Task → List ℕ → Type 0
+accepts Copied bytes = Unit {0}
+accepts (Does job) bytes = IsSome ((done_of job).counts bytes)

@@ -1,0 +1,118 @@
+//! From the file of one name, or a source, to the file of another.
+
+ghost use Rattle.std.specs.Prelude.{◌≤◌, IfErr, IfOk, IfSome, OnErr};
+ghost use Rattle.std.specs.String.{string_bytes};
+ghost use Rattle.nav_io.specs.Causes.{Rose};
+ghost use Rattle.whole_file.specs.Files.{Stays};
+ghost use Rattle.whole_file.specs.Steps.{bytes_of};
+ghost use Rattle.file_conversion.specs.Makes.{CanConvert, ConvertsAs, CountsAs, PutsAs};
+ghost use Rattle.file_conversion.specs.Steps.{IsLack, TellsForm};
+
+use crate::begun::begin;
+use crate::ends::{Observers, Outcome, Sourced, ended};
+use crate::stops::Stop;
+use crate::table::Plan;
+use bridge_engine::Done;
+use nav_io::{Sink, Source};
+use receiver_log::Refused;
+use std::alloc::Global;
+use whole_file::{Folder, Namer, Progress, put_output};
+
+/// Converts the file of one name to another file, as the plan asks: opens it, looks at its first
+/// bytes, does the job for it and names the output.
+///
+/// # Errors
+///
+/// Every name but that of the part is as it was, and the part is removed where the folder can
+/// remove it.
+pub fn convert_one<F: Folder, U: Sink, N: Refused + Drop, P: Progress, A: Namer<Option<Done>>>(
+    alloc: Global,
+    plan: &Plan,
+    folder: &mut F,
+    observers: Observers<U, N, P>,
+    from: &str,
+    part: &str,
+    names: &mut A,
+) -> Outcome<U>
+    ensures converts { IfOk result.done (λ made. ConvertsAs plan.now (F.files folder.old)
+        (F.files folder.new) from.now part.now (string_bytes made.name)) }
+    ensures counts { IfOk result.done (λ made.
+        IfSome (bytes_of (F.files folder.old) from.now) (λ bytes.
+        CountsAs plan.now bytes made.done)) }
+    ensures named { IfOk result.done (λ made.
+        A.gives names.old made.done (string_bytes made.name)) }
+    ensures stays { OnErr result.done (Stays (F.files folder.old) (F.files folder.new) part.now) }
+    ensures form { TellsForm plan.now (bytes_of (F.files folder.old) from.now) result.done
+        result.kind }
+
+    // It is done where the file is there, its bytes are accepted, the output has a name and nothing
+    // fails, but for want of memory or of a log's 2^64 - 1 bytes.
+    ensures complete { IfSome (bytes_of (F.files folder.old) from.now) (λ bytes.
+        CanConvert plan.now bytes
+        → ¬ Rose (U.faults observers.report) (U.faults result.report)
+        → ¬ Rose (A.faults names.old) (A.faults names.new)
+        → ¬ Rose (F.faults folder.old) (F.faults folder.new)
+        → IfErr result.done IsLack) }
+{
+    match folder.open(from) {
+        Ok(input) => {
+            let left = convert_source(alloc, plan, folder, input, observers, part, names);
+            let Sourced { outcome, source } = left;
+            let closed = folder.close(source);
+            outcome.told_by(closed.err())
+        }
+        Err(fault) => Outcome::stopped(Stop::Open(fault), observers.report),
+    }
+}
+
+/// Converts what a source gives to a file.
+///
+/// # Errors
+///
+/// As those of [`convert_one`].
+pub fn convert_source<
+    F: Folder,
+    S: Source,
+    U: Sink,
+    N: Refused + Drop,
+    P: Progress,
+    A: Namer<Option<Done>>,
+>(
+    alloc: Global,
+    plan: &Plan,
+    folder: &mut F,
+    source: S,
+    observers: Observers<U, N, P>,
+    part: &str,
+    names: &mut A,
+) -> Sourced<U, S>
+    ensures puts { IfOk result.outcome.done (λ made. IfSome (S.left source) (λ bytes.
+        PutsAs plan.now bytes (F.files folder.old) (F.files folder.new) part.now
+        (string_bytes made.name))) }
+    ensures counts { IfOk result.outcome.done (λ made. IfSome (S.left source) (λ bytes.
+        CountsAs plan.now bytes made.done)) }
+    ensures named { IfOk result.outcome.done (λ made.
+        A.gives names.old made.done (string_bytes made.name)) }
+    ensures stays { OnErr result.outcome.done
+        (Stays (F.files folder.old) (F.files folder.new) part.now) }
+    ensures later { F.faults folder.old ≤ F.faults folder.new }
+    ensures form { TellsForm plan.now (S.left source) result.outcome.done result.outcome.kind }
+
+    // It is done where the bytes of the source are accepted, the output has a name and nothing
+    // fails, but for want of memory or of a log's 2^64 - 1 bytes.
+    ensures complete { IfSome (S.left source) (λ bytes.
+        CanConvert plan.now bytes
+        → ¬ Rose (S.faults source) (S.faults result.source)
+        → ¬ Rose (U.faults observers.report) (U.faults result.outcome.report)
+        → ¬ Rose (A.faults names.old) (A.faults names.new)
+        → ¬ Rose (F.faults folder.old) (F.faults folder.new)
+        → IfErr result.outcome.done IsLack) }
+{
+    match begin(alloc, plan, source, observers) {
+        Ok(mut begun) => {
+            let done = put_output(folder, &mut begun.run, &mut begun.input, names, part);
+            ended(begun, done)
+        }
+        Err(stopped) => stopped,
+    }
+}

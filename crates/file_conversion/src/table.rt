@@ -1,0 +1,201 @@
+//! The table of conversions: what is done with a file of a form, for each target.
+
+ghost use Rattle.std.specs.Prelude.{◌≡◌, IfSome, true};
+ghost use Rattle.file_conversion.specs.Table.{capture_task, capture_to, file_to, file3_task};
+ghost use Rattle.file_conversion.specs.Table.{file4_task, stream_task, stream_to, task_for};
+ghost use Rattle.file_conversion.specs.Table.{log_task, week_of};
+ghost use Rattle.file_conversion.specs.Tasks.{reads_input};
+
+use crate::targets::Target;
+use bridge_engine::{CaptureJob, CaptureTo, Job, RinexTo, StreamJob, StreamTo};
+use gnss_week::RefWeek;
+use rinex_write::HeaderWords;
+use whole_file::Kind;
+
+/// What is asked of each file.
+#[derive(Clone, Copy)]
+pub struct Plan {
+    /// The form that is named; none, where each file tells its own.
+    pub form: Option<Kind>,
+    /// What is made.
+    pub target: Target,
+    /// The reference week, where one is named.
+    pub week: Option<RefWeek>,
+    /// The current GPS week, from the clock.
+    pub clock_week: RefWeek,
+    /// The date and the leap seconds of a header.
+    pub header: HeaderWords,
+}
+
+/// What is done with a file.
+#[derive(Clone, Copy)]
+pub enum Task {
+    /// What is read is written: of a log its capture.
+    Copied,
+    /// A job of `navbridge`.
+    Does(Job),
+}
+
+/// What is done with a file that is read under this form, where there is a conversion of it.
+///
+/// A capture that names no week, and a stream, are read near the week that is named, or else near
+/// that of the clock. A capture that names its week gets one only where one is named.
+pub fn task_for(plan: &Plan, kind: Kind) -> Option<Task>
+    ensures is { result ≡ task_for plan.now kind }
+    ensures reads { IfSome result (λ task. reads_input task ≡ true) }
+{
+    row_of(plan, kind)
+}
+
+// The same, by the table.
+fn row_of(plan: &Plan, kind: Kind) -> Option<Task>
+    ensures { result ≡ task_for plan.now kind }
+{
+    match kind {
+        Kind::Capture1 => capture_task(plan, Some(week_of(plan))),
+        Kind::Capture2 => capture_task(plan, plan.week),
+        Kind::Ubx | Kind::Sbf => log_task(plan),
+        Kind::Stream => stream_task(plan),
+        Kind::Rinex4 => file4_task(plan),
+        Kind::Rinex3 => file3_task(plan),
+        _ => None,
+    }
+}
+
+/// Whether a file of this form, which can be read again, is converted to the target: one of RINEX 3
+/// is merged as the file of RINEX 4 to which it is converted.
+pub fn is_converted(kind: Kind, target: Target) -> bool {
+    let kind = match kind {
+        Kind::Rinex3 if target.takes_several() => Kind::Rinex4,
+        _ => kind,
+    };
+    match RefWeek::new(1024) {
+        None => false,
+        Some(clock_week) => {
+            let plan = Plan {
+                form: None,
+                target,
+                week: None,
+                clock_week,
+                header: HeaderWords {
+                    date: *b"19800106 000000 UTC",
+                    leap: 0,
+                },
+            };
+            task_for(&plan, kind).is_some()
+        }
+    }
+}
+
+// The week that is named, or else that of the clock.
+fn week_of(plan: &Plan) -> RefWeek
+    ensures { result ≡ week_of plan.now }
+{
+    match plan.week {
+        None => plan.clock_week,
+        Some(week) => week,
+    }
+}
+
+// What is done with a capture that is given this week.
+fn capture_task(plan: &Plan, week: Option<RefWeek>) -> Option<Task>
+    ensures { result ≡ capture_task plan.now week }
+{
+    match capture_to(plan.target, plan.header) {
+        None => None,
+        Some(to) => Some(Task::Does(Job::Capture(CaptureJob { week, to }))),
+    }
+}
+
+// What is done with a log.
+fn log_task(plan: &Plan) -> Option<Task>
+    ensures { result ≡ log_task plan.now plan.now.target }
+{
+    match plan.target {
+        Target::Capture => Some(Task::Copied),
+        _ => capture_task(plan, plan.week),
+    }
+}
+
+// What is done with a stream.
+fn stream_task(plan: &Plan) -> Option<Task>
+    ensures { result ≡ stream_task plan.now plan.now.target }
+{
+    match plan.target {
+        Target::Frames => Some(Task::Does(Job::StreamToFrames)),
+        target => match stream_to(target, plan.header) {
+            None => None,
+            Some(to) => {
+                let week = week_of(plan);
+                Some(Task::Does(Job::Stream(StreamJob { week, to })))
+            }
+        },
+    }
+}
+
+// What is done with a navigation file of RINEX 4.
+fn file4_task(plan: &Plan) -> Option<Task>
+    ensures { result ≡ file4_task plan.now plan.now.target }
+{
+    match plan.target {
+        Target::Merged => Some(Task::Does(Job::Merge(plan.header))),
+        Target::Cover => Some(Task::Does(Job::Cover)),
+        Target::Capture => Some(Task::Does(Job::SendRinex(week_of(plan)))),
+        target => match file_to(target, plan.header) {
+            None => None,
+            Some(to) => Some(Task::Does(Job::Rinex(to))),
+        },
+    }
+}
+
+// What is done with a navigation file of RINEX 3.
+fn file3_task(plan: &Plan) -> Option<Task>
+    ensures { result ≡ file3_task plan.now plan.now.target }
+{
+    match plan.target {
+        Target::Capture => Some(Task::Does(Job::SendRinex3(week_of(plan)))),
+        target => match file_to(target, plan.header) {
+            None => None,
+            Some(to) => Some(Task::Does(Job::Rinex3(to))),
+        },
+    }
+}
+
+// The target of a capture.
+fn capture_to(target: Target, header: HeaderWords) -> Option<CaptureTo>
+    ensures { result ≡ capture_to target header }
+{
+    match target {
+        Target::Rinex => Some(CaptureTo::Rinex(header)),
+        Target::Rinex3 => Some(CaptureTo::Rinex3(header)),
+        Target::Rtcm => Some(CaptureTo::Rtcm),
+        Target::List => Some(CaptureTo::ToList),
+        Target::Count => Some(CaptureTo::Count),
+        Target::Frames | Target::Merged | Target::Cover | Target::Capture => None,
+    }
+}
+
+// The target of the ephemerides of a stream.
+fn stream_to(target: Target, header: HeaderWords) -> Option<StreamTo>
+    ensures { result ≡ stream_to target header }
+{
+    match target {
+        Target::Rinex => Some(StreamTo::Rinex(header)),
+        Target::Rinex3 => Some(StreamTo::Rinex3(header)),
+        Target::Rtcm => Some(StreamTo::Rtcm),
+        _ => None,
+    }
+}
+
+// The target of a navigation file.
+fn file_to(target: Target, header: HeaderWords) -> Option<RinexTo>
+    ensures { result ≡ file_to target header }
+{
+    match target {
+        Target::Rinex => Some(RinexTo::Rinex(header)),
+        Target::Rinex3 => Some(RinexTo::Rinex3(header)),
+        Target::Rtcm => Some(RinexTo::Rtcm),
+        Target::List => Some(RinexTo::ToList),
+        _ => None,
+    }
+}

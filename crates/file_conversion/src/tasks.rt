@@ -1,0 +1,82 @@
+//! The run of a task.
+
+ghost use Rattle.std.specs.Prelude.{◌≡◌, ◌<◌, ◌^◌, IfErr, IfOk, IfSome, IsSome, OnOk, Some};
+ghost use Rattle.std.specs.Prelude.{length, true};
+ghost use Rattle.std.specs.Io.KnownBytes.{Appends};
+ghost use Rattle.nav_io.specs.Causes.{Rose};
+ghost use Rattle.bridge_engine.specs.Meanings.{done_of, meaning_of};
+ghost use Rattle.file_conversion.specs.Tasks.{reads_input};
+
+use crate::copies::copy;
+use crate::table::Task;
+use bridge_engine::{BridgeFault, Done, Job, run_job};
+use nav_io::{Sink, Source};
+use std::alloc::Global;
+use whole_file::Conversion;
+
+/// A task that is done with a report.
+pub(crate) struct TaskRun<U: Sink> {
+    pub alloc: Global,
+    pub task: Task,
+    pub report: U,
+    pub ghost reads: { reads_input task ≡ true },
+}
+
+impl<U: Sink> Conversion for TaskRun<U> {
+    ghost use Rattle.std.specs.Prelude.{◌≡◌, ◌^◌, ◌<◌, length};
+    ghost use Rattle.one_run.specs.declared.fault.BridgeFault.TheVariants.{NoMemory};
+    ghost use Rattle.file_conversion.specs.Tasks.{accepts, counts_by, makes_by};
+
+    type Done = Option<Done>;
+
+    type Fault = BridgeFault;
+
+    ghost makes = { λ s. makes_by s.task };
+
+    ghost counts = { λ s bytes done. done ≡ counts_by s.task bytes };
+
+    ghost can = { λ s bytes. accepts s.task bytes × (length bytes < 2 ^ 32) };
+
+    ghost lacks = { λ fault. fault ≡ NoMemory };
+
+    ghost faults = { λ s. U.faults s.report };
+
+    /// Does the task.
+    fn run<S: Source, T: Sink>(
+        &mut self,
+        input: &mut S,
+        output: &mut T,
+    ) -> Result<Option<Done>, BridgeFault> {
+        match &self.task {
+            Task::Does(job) => do_job(self.alloc, job, input, output, &mut self.report),
+            Task::Copied => copy(input, output),
+        }
+    }
+}
+
+// Does a job that reads its input.
+fn do_job<S: Source, T: Sink, U: Sink>(
+    alloc: Global,
+    job: &Job,
+    input: &mut S,
+    output: &mut T,
+    report: &mut U,
+) -> Result<Option<Done>, BridgeFault>
+    requires { (meaning_of job.now).reads ≡ true }
+    ensures text { OnOk result (IfSome (S.left input.old) (λ bytes.
+        Appends (T.written output.old) (T.written output.new)
+        ((meaning_of job.now).whole.output bytes))) }
+    ensures counts { IfOk result (λ done. IfSome (S.left input.old) (λ bytes.
+        done ≡ (done_of job.now).counts bytes)) }
+    ensures complete { IfSome (S.left input.old) (λ bytes.
+        IsSome ((done_of job.now).counts bytes) × (length bytes < 2 ^ 32)
+        → ¬ Rose (S.faults input.old) (S.faults input.new)
+        → ¬ Rose (T.faults output.old) (T.faults output.new)
+        → ¬ Rose (U.faults report.old) (U.faults report.new)
+        → IfErr result (λ fault. fault ≡ BridgeFault.NoMemory)) }
+{
+    match run_job(alloc, job, input, output, report) {
+        Ok(done) => Ok(Some(done)),
+        Err(fault) => Err(fault),
+    }
+}

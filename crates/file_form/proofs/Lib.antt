@@ -1,3 +1,0 @@
-mod FirstUnit
-mod FrameForms
-mod Looked

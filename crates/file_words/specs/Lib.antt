@@ -1,6 +1,0 @@
-pub mod Words
-pub mod Fits
-pub mod Names
-pub mod Long
-pub mod KindTexts
-pub mod Says

@@ -1,7 +1,0 @@
-pub mod Ended
-pub mod Asking
-mod JobReads
-pub mod Beginning
-pub mod Closing
-pub mod Copying
-mod Refusing

@@ -1,5 +1,0 @@
-use Rattle.std.proofs.Common.{ap, ◌∙◌}
-use Rattle.front_run.proofs.reading.source_of.Goals as goal
-
-pub returns : goal.returns
-returns g c = ap g.S.Source.faults (c.into_source.ensures ∙ ap (λ p. p.0.source) c.into_parts-input.ensures)

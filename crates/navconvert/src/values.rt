@@ -1,0 +1,97 @@
+//! The values of options, read once.
+
+ghost use Rattle.std.specs.Prelude.{◌<◌, IfOk};
+
+use crate::clock::{date_of, now, week_of};
+use crate::command::Asked;
+use bridge_engine::is_date;
+use file_conversion::{Plan, Refusal, is_site};
+use gnss_week::{Moment, RefWeek};
+use rinex_write::HeaderWords;
+
+/// What is asked of each file, by the clock where a value is not named.
+pub(crate) fn plan_of<'a>(rt: &HostRuntime, asked: &Asked<'a>) -> Result<Plan, Refusal<'a>> {
+    let leap = match leap_of(asked.leap()) {
+        Ok(leap) => leap,
+        Err(refusal) => return Err(refusal),
+    };
+    let week = match named_week(asked.value("week")) {
+        Ok(week) => week,
+        Err(refusal) => return Err(refusal),
+    };
+    if let Some(refusal) = refused_site(asked.value("long-name")) {
+        return Err(refusal);
+    }
+    let moment = now(rt);
+    let date = match date_at(moment, asked.value("date")) {
+        Ok(date) => date,
+        Err(refusal) => return Err(refusal),
+    };
+    match week_of(moment) {
+        None => Err(Refusal::Week("of the clock")),
+        Some(clock_week) => Ok(Plan {
+            form: asked.from(),
+            target: asked.to(),
+            week,
+            clock_week,
+            header: HeaderWords { date, leap },
+        }),
+    }
+}
+
+// The leap seconds that a text names.
+fn leap_of(text: &str) -> Result<u8, Refusal>
+    ensures { IfOk result (λ leap. leap < 100) }
+{
+    match number_of(text) {
+        Some(leap) if leap < 100 => Ok(leap as u8),
+        _ => Err(Refusal::Leap(text)),
+    }
+}
+
+// The week that a text names.
+fn named_week(text: Option<&str>) -> Result<Option<RefWeek>, Refusal> {
+    let Some(text) = text else {
+        return Ok(None);
+    };
+    match RefWeek::new(number_of(text).unwrap_or(0)) {
+        Some(week) => Ok(Some(week)),
+        None => Err(Refusal::Week(text)),
+    }
+}
+
+// Why a text names no site, where one is there.
+fn refused_site(text: Option<&str>) -> Option<Refusal> {
+    match text {
+        Some(site) if !is_site(site) => Some(Refusal::Site(site)),
+        _ => None,
+    }
+}
+
+// The date that a text names, or that of a moment.
+fn date_at(moment: Moment, text: Option<&str>) -> Result<[u8; 19], Refusal> {
+    let Some(text) = text else {
+        return Ok(date_of(moment));
+    };
+    match <[u8; 19]>::try_from(text.as_bytes()) {
+        Ok(date) if is_date(text.as_bytes()) => Ok(date),
+        _ => Err(Refusal::Date(text)),
+    }
+}
+
+// The number that is written in digits alone, as `navbridge` reads it: in ten, at most.
+fn number_of(text: &str) -> Option<u32> {
+    if text.is_empty() || text.len() > 10 {
+        return None;
+    }
+    let mut number = 0u32;
+    for byte in text.as_bytes() {
+        if !byte.is_ascii_digit() {
+            return None;
+        }
+        number = number
+            .saturating_mul(10)
+            .saturating_add(u32::from(*byte - b'0'));
+    }
+    Some(number)
+}

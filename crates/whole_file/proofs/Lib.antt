@@ -1,0 +1,6 @@
+mod Gathering
+mod Known
+mod Putting
+mod FirstUnit
+mod FrameForms
+mod Looked
