@@ -1,10 +1,8 @@
-/* The plain program that the figures of bench/frames.sh compare with, and the maker of its streams.
+/* The maker of streams of bench/frames.sh, bench/jobs.sh and bench/instructions.sh.
  *
  *   frames make BYTES   frames of 67 bytes (message 1019's size), BYTES in all or a little less, to standard output
  *   frames start BYTES  BYTES bytes D3, to standard output
  *   frames mixed BYTES  frames, noise, broken frames and false starts, always the same, to standard output
- *   frames count        reads standard input and prints the number of frames that it holds
- *   frames lines        the same, with the line that navbridge prints for each frame
  *
  * A frame is the byte D3, 6 bits, 10 bits of length, the payload and CRC-24Q over all before it (RTCM 10403.3, section 4).
  */
@@ -74,43 +72,12 @@ static void make_mixed(size_t bytes) {
     }
 }
 
-static void count_frames(int lines) {
-    size_t room = 1 << 20, held = 0;
-    uint8_t *bytes = malloc(room);
-    for (size_t got; (got = fread(bytes + held, 1, room - held, stdin)) > 0;) {
-        held += got;
-        if (held == room) bytes = realloc(bytes, room *= 2);
-        if (!bytes) exit(1);
-    }
-    unsigned long long frames = 0;
-    for (size_t at = 0; at < held;) {
-        if (bytes[at] == 0xD3 && at + 3 <= held) {
-            size_t payload = (bytes[at + 1] & 3) << 8 | bytes[at + 2], end = at + payload + 6;
-            if (end <= held) {
-                uint32_t sent = bytes[end - 3] << 16 | bytes[end - 2] << 8 | bytes[end - 1];
-                if (crc_of(bytes + at, payload + 3) == sent) {
-                    frames++;
-                    if (lines && payload < 2) printf("- %zu\n", payload);
-                    if (lines && payload >= 2) printf("%u %zu\n", bytes[at + 3] << 4 | bytes[at + 4] >> 4, payload);
-                    at = end;
-                    continue;
-                }
-            }
-        }
-        at++;
-    }
-    if (!lines) printf("%llu\n", frames);
-    free(bytes);
-}
-
 int main(int count, char **words) {
     fill_table();
     size_t bytes = count > 2 ? strtoull(words[2], 0, 10) : 0;
     if (count > 2 && !strcmp(words[1], "make")) make_frames(bytes);
     else if (count > 2 && !strcmp(words[1], "start")) make_starts(bytes);
     else if (count > 2 && !strcmp(words[1], "mixed")) make_mixed(bytes);
-    else if (count == 2 && !strcmp(words[1], "count")) count_frames(0);
-    else if (count == 2 && !strcmp(words[1], "lines")) count_frames(1);
     else return 2;
     return 0;
 }

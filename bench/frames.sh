@@ -1,5 +1,5 @@
 #!/usr/bin/env bash
-# Measures the frames of a raw stream: MB/s and frames/s of the built program, compared with a C program (bench/frames.c).
+# Measures the frames of a raw stream: MB/s and frames/s of the built program, compared with a C program (bench/streams.c).
 #
 #   bench/frames.sh [MEGABYTES] [--program FILE]      default 50
 #
@@ -12,7 +12,7 @@ program=''
 options '--program: ..' "$@"
 megabytes=${arguments[0]:-50}
 built program navbridge
-plain frames
+plain frames streams
 "$here/frames" make $((megabytes * 1000000)) > "$here/frames.bin"
 "$here/frames" start $((megabytes * 1000000)) > "$here/start.bin"
 "$here/frames" mixed $((megabytes * 1000000)) > "$here/mixed.bin"
@@ -31,7 +31,5 @@ for stream in frames start mixed; do
   show "navbridge, $stream" "$here/$stream.bin" "$time" "${count[$stream]}"
 done
 # the plain C program looks again at each byte of a false start, so only the stream of frames is a fair mirror
-time=$(least 5 "$here/frames.bin" "$here/frames" lines)
-show "C with lines, frames" "$here/frames.bin" "$time" "${count[frames]}"
-time=$(least 5 "$here/frames.bin" "$here/frames" count)
-awk -v t="$time" -v b="$(stat -c %s "$here/frames.bin")" 'BEGIN { printf "%-28s %10.0f %12s %10.3f\n", "C that counts, frames", b / t * 1e3, "", t / 1e9 }'
+time=$(least 5 "$here/frames.bin" "$here/streams" frames)
+show "C, frames" "$here/frames.bin" "$time" "${count[frames]}"

@@ -81,12 +81,9 @@ job() { # name, input, expected, C command, words
 }
 words="2295 '20240101 000000 UTC' 18"
 job 'frames of 67 bytes, stream to frames' "frames.$size" - 'streams frames' --from stream --to frames
-job 'frames of 67 bytes, against printf' "frames.$size" - 'frames lines' --from stream --to frames
 job 'bytes D3, stream to frames' "start.$size" - - --from stream --to frames
 job 'half as many bytes D3' "start.$((size / 2))" - - --from stream --to frames
 job 'distinct frames to rinex' "distinct.$size" - "streams rinex $words" --from stream --to rinex "${week[@]}" "${date[@]}"
-job 'the same, C that keeps no table' "distinct.$size" - "streams rinex $words plain" \
-  --from stream --to rinex "${week[@]}" "${date[@]}"
 job 'repeated frames to rinex' "repeated.$size" - "streams rinex $words" --from stream --to rinex "${week[@]}" "${date[@]}"
 job 'distinct frames to rtcm' "distinct.$size" - 'streams rtcm 2295' --from stream --to rtcm "${week[@]}"
 job 'distinct frames to rinex3' "distinct.$size" - "streams rinex3 $words" \

@@ -133,8 +133,6 @@ static struct scale scales[SCALES] = {
     [PI31] = {1, 1, -31, 0}, [PI43] = {1, 1, -43, 0},
 };
 
-static int plain_decimals; /* each number by repeated products with ten, and no table */
-
 /* the scale times 10^20, as over / under */
 static void size_of(const struct scale *s, wide *over, wide *under) {
     wide whole = (wide)s->factor * (s->pi ? 3141592653589800000u : 1000000000000000000u);
@@ -206,7 +204,7 @@ static inline void put_eight(char *into, uint32_t number) {
     memcpy(into, &ones, 8);
 }
 
-/* the 13 digits of n at a scale, and the place of its exponent */
+/* the 13 digits of n at a scale, and the place of its exponent, in exact arithmetic */
 static uint64_t thirteen_plain(uint64_t n, const struct scale *s, int *at) {
     wide over, under;
     size_of(s, &over, &under);
@@ -237,8 +235,7 @@ static inline char *put_number(char *into, int64_t number, int which) {
     }
     int place;
     uint64_t size = number < 0 ? -number : number;
-    uint64_t digits = __builtin_expect(plain_decimals, 0) ? thirteen_plain(size, &scales[which], &place)
-                                                          : thirteen_kept(size, &scales[which], &place);
+    uint64_t digits = thirteen_kept(size, &scales[which], &place);
     if (__builtin_expect(digits == 10000000000000u, 0)) { digits = 1000000000000u; place++; }
     uint32_t high = digits / 100000000, low = digits % 100000000, first = high / 10000;
     into[0] = number < 0 ? '-' : ' ';

@@ -6,7 +6,6 @@
  *   streams rinex WEEK DATE LEAP         stream to rinex; `rinex3` the same without the titles
  *   streams rtcm WEEK                    stream to rtcm
  *
- * A word `plain` behind these takes each decimal by repeated products with ten, in place of a kept table.
  * Standard input is read; output and report are those of navbridge, byte for byte.
  */
 #include "records.h"
@@ -284,7 +283,6 @@ static int run_items(char **words) {
 }
 
 int main(int count, char **words) {
-    if (count > 2 && !strcmp(words[count - 1], "plain")) { plain_decimals = 1; count--; }
     fill_tables();
     fill_small();
     draw_state = 7;
