@@ -197,7 +197,8 @@ static inline void take_item(const struct eph *i, unsigned long long line) {
     } else if (into_form == MERGED) keep((uint64_t)toe << 18 | i->gal << 16 | i->sat << 10 | (i->gal ? i->iode : i->iodc), i);
     else {
         int64_t half = i->fit && !i->gal ? 10800 : 7200;
-        keep((uint64_t)i->gal << 63 | (uint64_t)i->sat << 56 | (uint64_t)(toe < half ? 0 : toe - half) << 16 | (half == 10800), NULL);
+        uint64_t from = toe < half ? 0 : toe - half;
+        keep((uint64_t)i->gal << 63 | (uint64_t)i->sat << 56 | from << 16 | (half == 10800), NULL);
     }
 }
 

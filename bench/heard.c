@@ -60,7 +60,11 @@ static inline int take_line(const char *p, const char *end) {
     for (unsigned digit; (digit = (unsigned char)*p - '0') < 10; p++) stamp = 10 * stamp + digit;
     if (p == from || p - from > 10 || stamp > UINT32_MAX) return 0;
     if (p[0] != ' ' || p[2] != ' ') return 0;
-    if (p[1] == 'R') { unused++; return !is_late(stamp); }
+    if (p[1] == 'R') {
+        if (is_late(stamp)) { late++; say("late", 0); }
+        else unused++;
+        return 1;
+    }
     unsigned tens = (unsigned char)p[4] - '0', ones = (unsigned char)p[5] - '0', sat = 10 * tens + ones;
     if (tens > 9 || ones > 9 || sat == 0 || p[6] != ' ') return 0;
     uint8_t bytes[48];

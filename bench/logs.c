@@ -88,16 +88,22 @@ static void give(const struct waiting *it, int is_timed, int64_t time) {
         if (!to_capture) {
             if (is_late(stamp)) return;
             if (good && source[0] >> 16 == 0x8B) say(take_subframe(source, it->sat, stamp));
-            else if (good && source[0] >> 16 == 0x74) { for (int i = 0; i < 10; i++) source[i] ^= 0xFFFFFF; say(take_subframe(source, it->sat, stamp)); }
+            else if (good && source[0] >> 16 == 0x74) {
+                for (int i = 0; i < 10; i++) source[i] ^= 0xFFFFFF;
+                say(take_subframe(source, it->sat, stamp));
+            }
             else read_refused++;
             close_risen();
             return;
         }
         /* ten words of 30 bits as 38 bytes: four times eight bytes, four, and two */
-        uint64_t a = (uint64_t)w[0] << 34 | (uint64_t)w[1] << 4 | w[2] >> 26, b = (uint64_t)w[2] << 38 | (uint64_t)w[3] << 8 | w[4] >> 22,
-                 c = (uint64_t)w[4] << 42 | (uint64_t)w[5] << 12 | w[6] >> 18, d = (uint64_t)w[6] << 46 | (uint64_t)w[7] << 16 | w[8] >> 14,
+        uint64_t a = (uint64_t)w[0] << 34 | (uint64_t)w[1] << 4 | w[2] >> 26,
+                 b = (uint64_t)w[2] << 38 | (uint64_t)w[3] << 8 | w[4] >> 22,
+                 c = (uint64_t)w[4] << 42 | (uint64_t)w[5] << 12 | w[6] >> 18,
+                 d = (uint64_t)w[6] << 46 | (uint64_t)w[7] << 16 | w[8] >> 14,
                  e = (uint64_t)w[8] << 50 | (uint64_t)w[9] << 20;
-        uint64_t bytes[8] = {__builtin_bswap64(a), __builtin_bswap64(b), __builtin_bswap64(c), __builtin_bswap64(d), __builtin_bswap64(e)};
+        uint64_t bytes[8] = {__builtin_bswap64(a), __builtin_bswap64(b), __builtin_bswap64(c), __builtin_bswap64(d),
+                             __builtin_bswap64(e)};
         char *into = put_begin(out_room(160), stamp, 'L', 'G', it->sat);
         put_hex(into, (uint8_t *)bytes, 38);
         into[76] = '\n';
@@ -233,11 +239,12 @@ int main(int count, char **words) {
     if (!to_capture) {
         if (base < 0) return 5;
         close_before(UINT64_MAX);
-        fprintf(stderr, "lines %llu\nmalformed 0\nlate 0\nrefused %llu\nunused %llu\nwhole %llu\npartial %llu\ncontradicted %llu\n"
-                "nohealth %llu\nagain %llu\n", lines, read_refused, read_unused, whole, partial, contradicted, nohealth, again);
+        fprintf(stderr, "lines %llu\nmalformed 0\nlate 0\nrefused %llu\nunused %llu\nwhole %llu\npartial %llu\n"
+                "contradicted %llu\nnohealth %llu\nagain %llu\n", lines, read_refused, read_unused, whole, partial,
+                contradicted, nohealth, again);
     }
     out_flush();
-    fprintf(stderr, "messages %llu\nskipped %llu\ntimes %llu\nsubframes %llu\npages %llu\nrefused %llu\nother %llu\nturned %llu\n"
-            "parity %llu\n", messages, skipped, times, subframes, pages, refused, others, turned, bad_parity);
+    fprintf(stderr, "messages %llu\nskipped %llu\ntimes %llu\nsubframes %llu\npages %llu\nrefused %llu\nother %llu\n"
+            "turned %llu\nparity %llu\n", messages, skipped, times, subframes, pages, refused, others, turned, bad_parity);
     return 0;
 }

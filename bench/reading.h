@@ -94,7 +94,8 @@ static inline int64_t number_at(const char *p, int which) {
     int place, negative = p[0] == '-';
     /* the exponent's two digits, none, the first, and twelve behind the point: each is one byte, then two are one, and so on */
     __m128i text = _mm_loadu_si128((const __m128i *)(p + 3)); /* p[3] .. p[18] */
-    __m128i all = _mm_insert_epi8(_mm_shuffle_epi8(text, _mm_setr_epi8(14, 15, -1, -1, 0, 1, 2, 3, 4, 5, 6, 7, 8, 9, 10, 11)), p[1], 3);
+    const __m128i places = _mm_setr_epi8(14, 15, -1, -1, 0, 1, 2, 3, 4, 5, 6, 7, 8, 9, 10, 11);
+    __m128i all = _mm_insert_epi8(_mm_shuffle_epi8(text, places), p[1], 3);
     all = _mm_sub_epi8(all, _mm_setr_epi8(48, 48, 0, 48, 48, 48, 48, 48, 48, 48, 48, 48, 48, 48, 48, 48));
     int wrong = ~_mm_movemask_epi8(_mm_cmpeq_epi8(_mm_min_epu8(all, _mm_set1_epi8(9)), all)) & 0xFFFF;
     uint32_t rest_of;
