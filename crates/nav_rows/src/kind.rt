@@ -3,9 +3,6 @@
 ghost use Rattle.std.specs.Prelude.{◌≡◌, IsTrue, IfSome};
 ghost use Rattle.nav_rows.specs.Kinds.{IsKind};
 
-use crate::layouts::{
-    D1, D1_ROWS, FDMA, FDMA_ROWS, FNAV, FNAV_ROWS, NAVIC, NAVIC_ROWS, QZSS, QZSS_ROWS,
-};
 use crate::links::{
     D1_LINKS, D1_PARTS, FDMA_LINKS, FDMA_PARTS, FNAV_LINKS, FNAV_PARTS, NAVIC_LINKS, NAVIC_PARTS,
     QZSS_LINKS, QZSS_PARTS,
@@ -14,7 +11,9 @@ use crate::tables::{FIELDS_1020, FIELDS_1041, FIELDS_1042, FIELDS_1044, FIELDS_1
 use nav_days::WeekRule;
 use nav_links::{Link, Part};
 use nav_tables::Table;
-use rinex_write::RecordLayout;
+use rinex_write::{
+    D1, D1_ROWS, FDMA, FDMA_ROWS, FNAV, FNAV_ROWS, NAVIC, NAVIC_ROWS, QZSS, QZSS_ROWS, RecordLayout,
+};
 
 /// The scale in which the epochs of a kind's records are dates.
 #[derive(Clone, Copy, PartialEq, Eq)]
@@ -218,7 +217,7 @@ pub fn kind_navic() -> Kind
 }
 
 /// The kind of the messages of a number; of 1042 satellites 1 to 5 and 59 to 63 send D2
-/// (BDS-SIS-ICD-B1I-3.0, 4.3).
+/// (BDS-SIS-ICD-B1I-3.0).
 pub fn kind_of(message: u16, satellite: u8) -> Option<Kind>
     ensures { IfSome result IsKind }
 {

@@ -17,7 +17,6 @@
 
 mod kind;
 mod laws;
-mod layouts;
 mod links;
 mod row;
 mod tables;
@@ -30,7 +29,6 @@ pub use crate::kind::{
     kind_qzss,
 };
 pub use crate::laws::{table_1019_is_read, table_1046_is_read};
-pub use crate::layouts::sbas_layout;
 pub use crate::row::{Row, RowFault, row_of_message, write_record};
 pub use crate::tables::{
     FIELDS_1019, FIELDS_1020, FIELDS_1041, FIELDS_1042, FIELDS_1044, FIELDS_1045, FIELDS_1046,

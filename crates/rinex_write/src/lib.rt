@@ -46,7 +46,9 @@ pub use crate::laws::{
     texts_concatenate,
 };
 pub use crate::layouts::{
-    RecordLayout, galileo_ionosphere_layout, galileo_layout, gps_ionosphere_layout, gps_layout,
+    D1, D1_ROWS, FDMA, FDMA_ROWS, FNAV, FNAV_ROWS, NAVIC, NAVIC_ROWS, QZSS, QZSS_ROWS,
+    RecordLayout, SBAS, SBAS_ROWS, galileo_ionosphere_layout, galileo_layout,
+    gps_ionosphere_layout, gps_layout, sbas_layout,
 };
 pub use crate::row::{RowHead, write_row};
 pub use crate::words::HeaderWords;
