@@ -1,9 +1,11 @@
 -- The columns of a message are fields of the record.
-use Rattle.std.proofs.Common.{◌≡◌, ℕ, zero, suc, ◌+◌, ◌^◌, ◌<◌, ◌&&◌, Bool, true, false, List, [], ◌∷◌, length, refl, sym, subst, arith, ℤ, pos, negsuc, neg_ℤ, ◌-ℤ◌, ◌≤ℤ◌, int_le, inl, inr, ◌⊎◌, Option, Some, None}
+use Rattle.std.proofs.Common.{◌≡◌, ℕ, zero, suc, ◌+◌, ◌^◌, ◌<◌, ◌&&◌, Bool, true, false, List, [], ◌∷◌, ◌++◌, length, sum, map, take, drop, refl, sym, ap, ◌∙◌, subst, length-drop, arith, ℤ, pos, negsuc, neg_ℤ, ◌-ℤ◌, ◌≤ℤ◌, int_le, inl, inr, ◌⊎◌, Option, Some, None}
 use Rattle.std.specs.Prelude.{nat_le, nat_lt}
 use Rattle.std.proofs.lemmas.Int.{ints}
 use Rattle.std.proofs.lemmas.Bool.{ltb-true}
 use Rattle.std.proofs.lemmas.Bool.Decides.{nat_tests}
+use Rattle.std.proofs.lemmas.List.{length-take-le, take-append-drop}
+use Rattle.std.proofs.lemmas.List.Sums.{sum_by-cons}
 use Rattle.nav_tables.specs.declared.field.Field.{Field as TableField}
 use Rattle.nav_tables.specs.Messages.{AreInRange}
 use Rattle.nav_links.specs.declared.link.Part.{Part}
@@ -14,7 +16,8 @@ use Rattle.nav_links.proofs.LinkLemmas.{both, joined-lt, inside_at, fit_parts, f
 use Rattle.rinex_write.specs.declared.columns.Rule.{Rule}
 use Rattle.rinex_write.specs.declared.columns.Rule.TheVariants.{Plain, OrZero, OrLeast, Ura, Sisa, Fit, Sent, Unread}
 use Rattle.rinex_write.specs.declared.columns.Column.{Column}
-use Rattle.rinex_write.specs.Columns.{IsField, AreFields}
+use Rattle.rinex_write.specs.Columns.{IsField, AreFields, joined_rows}
+use Rattle.rinex_write.specs.RowTexts.{split_rows}
 use Rattle.rinex_write.specs.Mirrors.{IsSmall, IsKept, AreKept, AreReady}
 use Rattle.rinex_write.proofs.ItemFields.{kept_ready}
 use Rattle.nav_rows.specs.declared.kind.Clock.{Clock}
@@ -22,7 +25,7 @@ use Rattle.nav_rows.specs.declared.kind.Kind.{Kind}
 use Rattle.nav_rows.specs.declared.times.RowTimes.{RowTimes}
 use Rattle.nav_rows.specs.Kinds.{Range, given_range, range_of, gives_sisa, covers, all_covered, has_sisa, IsKind}
 use Rattle.nav_rows.specs.Times.{IsSatellite, HasTimes, IsGiven}
-use Rattle.nav_rows.specs.Rows.{given_of, has_spare_sisa, SisaInside}
+use Rattle.nav_rows.specs.Rows.{record_kind, given_of, has_spare_sisa, SisaInside}
 use Rattle.nav_rows.proofs.NumberLemmas.{int_le_is, lengths, satellite_is, times_are}
 
 abbrev IsIn : Range → ℤ → Type 0
@@ -149,6 +152,33 @@ all_kept (c ∷ cs) (z ∷ zs) h = (kept c.rule z h.0, all_kept cs zs h.1)
 
 pub ready : (k : Kind) (zs : List ℤ) → IsKind k → AreFields k.layout.columns.now zs → AreReady k.layout.columns.now zs
 ready k zs is h = kept_ready k.layout.columns.now zs is.good (all_kept k.layout.columns.now zs h)
+
+-- ---- rows of columns
+
+split_joined : (ns : List ℕ) (cs : List Column) → sum ns ≡ length cs → joined_rows (split_rows ns cs) ≡ cs
+split_joined [] [] e = refl
+split_joined [] (c ∷ cs) e = absurd (omega arith)
+split_joined (n ∷ ns) cs e =
+    let whole : n + sum ns ≡ length cs = sym (sum_by-cons (λ x. x) n ns) ∙ e in
+    ap (λ xs. take n cs ++ xs) (split_joined ns (drop n cs) (omega (arith, whole, length-drop n cs))) ∙ take-append-drop n cs
+
+split_lengths : (ns : List ℕ) (cs : List Column) → sum ns ≡ length cs → map length (split_rows ns cs) ≡ ns
+split_lengths [] cs e = refl
+split_lengths (n ∷ ns) cs e =
+    let whole : n + sum ns ≡ length cs = sym (sum_by-cons (λ x. x) n ns) ∙ e in
+    ap (λ m. m ∷ map length (split_rows ns (drop n cs))) (length-take-le n cs (omega (arith, whole)))
+    ∙ ap (λ ms. n ∷ ms) (split_lengths ns (drop n cs) (omega (arith, whole, length-drop n cs)))
+
+-- the rows of a kind have its columns
+pub record AreRows (k : Kind) : Type 0 where
+  pub columns : k.layout.columns.now ≡ joined_rows (record_kind k).rows
+  pub rows : k.layout.rows.now ≡ map length (record_kind k).rows
+
+pub rows_are : (k : Kind) → IsKind k → AreRows k
+rows_are k is = record {
+  columns = sym (split_joined k.layout.rows.now k.layout.columns.now is.layout.count);
+  rows = sym (split_lengths k.layout.rows.now k.layout.columns.now is.layout.count);
+}
 
 -- ---- what is known of the numbers of a message
 

@@ -1,8 +1,10 @@
 -- Rows of messages.
-use Rattle.std.specs.Prelude.{ℕ, ◌&&◌, ◌<◌, Bool, false, List, [], ◌∷◌, length, ℤ, pos, int_le, Option, Some, None, Result, Ok, Err, if◌then◌else◌}
+use Rattle.std.specs.Prelude.{ℕ, ◌&&◌, ◌<◌, Bool, false, List, [], ◌∷◌, length, ℤ, pos, int_le, Option, Some, None, Result, Ok, Err, if◌then◌else◌, codes}
 use Rattle.nav_tables.specs.declared.message.TableFault.{TableFault}
 use Rattle.nav_tables.specs.Messages.{message_in}
 use Rattle.nav_links.specs.Links.{nth, columns_of}
+use Rattle.rinex_write.specs.RowTexts.{RowKind, row_record, split_rows}
+use Rattle.rinex_write.specs.Texts.{text_of}
 use Rattle.nav_rows.specs.declared.kind.Kind.{Kind}
 use Rattle.nav_rows.specs.declared.times.RowTimes.{RowTimes}
 use Rattle.nav_rows.specs.declared.row.RowFault.{RowFault}
@@ -38,6 +40,14 @@ row_at k numbers (Some times) = Ok (record {
 abbrev pub row_by : Kind → ℕ → Result (List ℤ) TableFault → Result RowValue RowFault
 row_by k r (Err fault) = Err (Message fault)
 row_by k r (Ok numbers) = if has_spare_sisa k.sisa numbers then Err SpareSisa else row_at k numbers (times_told k.clock numbers r)
+
+-- the records of a kind
+abbrev pub record_kind : Kind → RowKind
+record_kind k = record { class = codes "EPH"; message = k.title.now; rows = split_rows k.layout.rows.now k.layout.columns.now }
+
+-- the text of a row's record
+abbrev pub record_text : Kind → RowValue → List ℕ
+record_text k row = text_of (row_record (record_kind k) k.letter row.number row.moment row.columns)
 
 -- the row of a message near a reference week, or why it has none
 abbrev pub row_in : Kind → List ℕ → ℕ → Result RowValue RowFault

@@ -4,12 +4,10 @@ ghost use Rattle.std.specs.Prelude.{◌≡◌, ◌<◌, ◌≤◌, ◌++◌, ◌
 ghost use Rattle.std.specs.Prelude.{IfOk, IfErr, Ok, Err, map};
 ghost use Rattle.nav_io.specs.Writes.{Writes};
 ghost use Rattle.nav_links.specs.Links.{nth};
-ghost use Rattle.rinex_write.specs.Columns.{AreFields, joined_rows};
-ghost use Rattle.rinex_write.specs.RowTexts.{RowKind, row_record};
-ghost use Rattle.rinex_write.specs.Texts.{text_of};
+ghost use Rattle.rinex_write.specs.Columns.{AreFields};
 ghost use Rattle.nav_rows.specs.Kinds.{IsKind};
 ghost use Rattle.nav_rows.specs.Times.{IsSatellite};
-ghost use Rattle.nav_rows.specs.Rows.{given_of, has_spare_sisa, row_in, SisaInside};
+ghost use Rattle.nav_rows.specs.Rows.{SisaInside, given_of, has_spare_sisa, record_text, row_in};
 
 use crate::kind::Kind;
 use crate::times::{RowTimes, times_told};
@@ -105,11 +103,12 @@ pub fn row_of_message(kind: &Kind, payload: &[u8], reference: RefWeek) -> Result
 pub fn write_record<T: Sink>(kind: &Kind, row: &Row, out: &mut T) -> Result<(), Failed>
     requires kind { IsKind kind.now }
     requires fields { AreFields kind.now.layout.columns.now row.now.columns.items }
-    ensures { (k : RowKind) → k.class ≡ 69 ∷ 80 ∷ 72 ∷ [] → kind.now.title.now ≡ k.message →
-        kind.now.layout.columns.now ≡ joined_rows k.rows →
-        kind.now.layout.rows.now ≡ map length k.rows →
-        Writes (T.written out.old) (T.written out.new) (T.faults out.old) (T.faults out.new) result
-        (text_of (row_record k kind.now.letter row.now.number row.now.moment row.now.columns.items)) }
+    ensures { Writes (T.written out.old) (T.written out.new) (T.faults out.old) (T.faults out.new)
+        result (record_text kind.now (record {
+          number = row.now.number;
+          moment = row.now.moment;
+          columns = row.now.columns.items;
+        })) }
 {
     let head = RowHead {
         class: *b"EPH",
