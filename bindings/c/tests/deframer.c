@@ -129,12 +129,27 @@ static void add(const uint8_t *bytes, size_t n, int what) {
     find(it);
 }
 
+static void *begins(void *at) {
+    nb_deframer_init((nb_deframer *)at);
+    return NULL;
+}
+
+/* Initialised with the 36 KB of stack that docs/LIBRARY.md asks for, and some for the thread itself. */
+static int begins_small(void) {
+    static nb_deframer it;
+    pthread_t thread;
+    pthread_attr_t small;
+    if (pthread_attr_init(&small) != 0 || pthread_attr_setstacksize(&small, 40 << 10) != 0) return 0;
+    return pthread_create(&thread, &small, begins, &it) == 0 && pthread_join(thread, NULL) == 0;
+}
+
 int main(int argc, char **argv) {
     static uint8_t bytes[MOST];
     turn turns[4];
     int what, i;
     size_t each;
     want(nb_deframer_size() <= NB_DEFRAMER_MOST, 0, "the header's size");
+    want(begins_small(), 0, "a thread with 40 KB of stack");
     for (i = 1; i < argc && i <= 4; i++) {
         FILE *from = fopen(argv[i], "rb");
         size_t n = from == NULL ? 0 : fread(bytes, 1, 10000, from);
