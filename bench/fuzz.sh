@@ -76,7 +76,7 @@ if command -v clang > /dev/null && compiled fuzzer clang -O1 -fsanitize=fuzzer,a
   corpus=$(path_of "${corpus:-$top/bench/build/corpus}")
   mkdir -p "$corpus"
   tried=$((tried + 1))
-  if "$work/fuzzer" -max_total_time="$seconds" -max_len=2048 -timeout=60 -seed="$seed" -print_final_stats=1 -artifact_prefix="$corpus/../" \
+  if "$work/fuzzer" -max_total_time="$seconds" -max_len=2048 -len_control=0 -timeout=60 -seed="$seed" -print_final_stats=1 -artifact_prefix="$corpus/../" \
     "$corpus" > "$work/log" 2>&1; then
     echo "libFuzzer: $(sed -n 's/^stat::number_of_executed_units: *//p' "$work/log") inputs, $(find "$corpus" -type f | wc -l) kept"
   else
