@@ -57,8 +57,12 @@ part() { # name, percent, threads, words
   fi
 }
 
-compiled guarded cc -O1 -DALONE -fsanitize=address,undefined -fno-sanitize-recover=all || { cat "$work/log"; fail 'not compiled'; }
-part 'AddressSanitizer and UBSan, guard pages' 30 1 "$work/guarded"
+compiled plain cc -O1 -DALONE || { cat "$work/log"; fail 'not compiled'; }
+if compiled guarded cc -O1 -DALONE -fsanitize=address,undefined -fno-sanitize-recover=all; then
+  part 'AddressSanitizer and UBSan, guard pages' 30 1 "$work/guarded"
+else
+  part 'guard pages alone, since cc has no AddressSanitizer' 30 1 "$work/plain"
+fi
 if compiled threads cc -O1 -DALONE -fsanitize=thread; then
   part 'ThreadSanitizer' 15 2 "$work/threads"
 else
