@@ -1,5 +1,5 @@
 -- A row that was written is read.
-use Rattle.std.proofs.Common.{◌≡◌, ℕ, suc, ◌+◌, ◌<◌, ◌/◌, ◌%◌, refl, nat_le, true, List, [], ◌∷◌, ◌++◌, length, map, drop, Ok, ap, sym, ◌∙◌, arith, ℤ, length-append}
+use Rattle.std.proofs.Common.{◌≡◌, ℕ, ◌+◌, ◌<◌, ◌/◌, ◌%◌, refl, nat_le, true, List, [], ◌∷◌, ◌++◌, length, map, drop, Ok, ap, ◌∙◌, arith, ℤ, length-append}
 use Rattle.std.proofs.lemmas.Bool.{le-leb}
 use Rattle.std.proofs.lemmas.List.{length-map}
 use Rattle.scaled_decimal.specs.NumberText.{digits}

@@ -1,5 +1,5 @@
 -- The fields of items are in the ranges of their columns, and their texts can be written.
-use Rattle.std.proofs.Common.{◌≡◌, ℕ, ◌-◌, ◌^◌, ◌<◌, ◌≤◌, ◌&&◌, ◌||◌, not, ◌⊎◌, nat_le, int_le, zero, suc, Bool, true, List, [], ◌∷◌, refl, ◌∙◌, ap, inl, inr, arith, ℤ, pos, negsuc, neg_ℤ, ◌≤ℤ◌, FitsSigned, w64, to_z, of_z, rules, false, map, length, lit<, lit≤}
+use Rattle.std.proofs.Common.{◌≡◌, ℕ, ◌-◌, ◌^◌, ◌<◌, ◌≤◌, ◌&&◌, ◌||◌, not, ◌⊎◌, nat_le, int_le, Bool, true, List, [], ◌∷◌, refl, ◌∙◌, ap, inl, inr, arith, ℤ, pos, negsuc, neg_ℤ, ◌≤ℤ◌, FitsSigned, w64, to_z, of_z, rules, false, map, length, lit<, lit≤}
 use lib.Signed.{mag}
 use Rattle.std.proofs.lemmas.Int.{ints, to_z-of_z}
 use Rattle.std.proofs.lemmas.Bool.Decides.{nat_tests}
