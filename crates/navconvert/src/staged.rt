@@ -14,7 +14,7 @@ use crate::taken::is_read_once;
 use crate::tally::is_put;
 use crate::telling::{tell_file, tell_refusal};
 use bridge_engine::Done;
-use file_conversion::{Plan, Refusal, Target, refusal_of};
+use file_conversion::{Outcome, Plan, Refusal, Target, refusal_of};
 use std::slice::from_ref;
 use whole_file::{Given, Kind};
 
@@ -140,13 +140,20 @@ fn convert_by<'a>(
         part,
         &mut name,
     );
-    match outcome.done {
+    let Outcome {
+        done,
+        report: _,
+        kind,
+        count: _,
+        counts: _,
+    } = outcome;
+    match done {
         Err(stop) => {
             let refusal = place.other().unwrap_or(refusal_of(stop, file, file));
             Err(tell_refusal(settings, file, &refusal))
         }
         Ok(made) => {
-            before.add(&made.done, &place.seen(outcome.kind));
+            before.add(&made.done, &place.seen(kind));
             match place.bytes {
                 Some(bytes) => Ok(bytes),
                 None => Err(tell_file(settings.rt, file, &Refusal::NoMemory)),

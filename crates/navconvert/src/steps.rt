@@ -29,11 +29,11 @@ pub(crate) struct Goes<'x> {
 /// Converts files, the first of which has this name, and says what came of them, unless the output
 /// has no name, which the namer says. The status, and the name of the output where it was made: it
 /// may have been where its report was not.
-pub(crate) fn made_by<'a, A: Namer<Option<Done>>>(
-    settings: &Settings<'a>,
+pub(crate) fn made_by<'x, 'a, A: Namer<Option<Done>>>(
+    settings: &'x Settings<'a>,
     first: &'a str,
     inputs: Inputs<'a>,
-    goes: Goes,
+    goes: Goes<'x>,
     names: &mut A,
 ) -> (u8, Option<String>) {
     let mut place = Place::new(settings, inputs, goes.goal);
