@@ -114,7 +114,7 @@ def drawn(text):
 
 
 def check_crates():
-    rows = read("docs/pictures/crates.txt").split("\n")
+    rows = read("docs/pictures/libraries.txt").split("\n")
     box, uses = {}, {}
     for left, top, right, bottom in boxes(rows):
         for row in rows[top + 1 : bottom]:
@@ -127,10 +127,10 @@ def check_crates():
             uses[head.split()[0]] = below.split()
     for it, below in uses.items():
         if it not in box:
-            tell(f"docs/pictures/crates.txt: it has no crate {it}")
+            tell(f"docs/pictures/libraries.txt: it has no crate {it}")
         for other in below:
             if it in box and other in uses and box.get(other, box[it]) < box[it]:
-                tell(f"docs/pictures/crates.txt: {it} uses {other}, whose box begins further up")
+                tell(f"docs/pictures/libraries.txt: {it} uses {other}, whose box begins further up")
 
 
 check_crates()
