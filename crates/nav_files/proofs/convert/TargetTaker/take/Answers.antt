@@ -1,8 +1,10 @@
-use Rattle.std.proofs.Common.{[]}
+use Rattle.std.proofs.Common.{[], ap, ◌∙◌}
 use Rattle.std.proofs.lemmas.Result.{err_from_is_err_and}
 use Rattle.outlets.specs.Targets.{prefix_text, item_text}
 use Rattle.nav_files.specs.Files.{read_report, read_text}
+use Rattle.nav_files.specs.Mirrors.{counted}
 use Rattle.nav_files.proofs.ConvertLemmas.{grew_between, grew_prefix, grew_more}
+use Rattle.nav_files.proofs.Surface.{counts_more}
 use Rattle.nav_files.proofs.convert.TargetTaker.take.Goals as goal
 
 pub returns-in_err-tell_read-clause-output : goal.returns-in_err-tell_read-clause-output
@@ -21,3 +23,9 @@ returns-clause-output g c = λ reads start held so_far.
 
 pub returns-clause-report : goal.returns-clause-report
 returns-clause-report g c = λ reads start held so_far. grew_more [] read_report reads c.args.read.now start _ _ so_far c.in_ok-tell_read.ensures.report
+
+pub returns-clause-held : goal.returns-clause-held
+returns-clause-held g c = λ reads held. (
+  c.count_read.ensures.counts ∙ ap (λ x. counted x c.args.read.now) held.0 ∙ counts_more reads c.args.read.now,
+  c.count_read.ensures.counted,
+)
