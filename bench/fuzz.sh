@@ -1,5 +1,5 @@
 #!/usr/bin/env bash
-# Attacks the library for C: random orders of its calls, with samples that are cut and changed, beside what each call promises.
+# Fuzzes the library for C: random orders of its calls over truncated and changed samples, compared with what navbridge.h states.
 #
 #   bench/fuzz.sh [--minutes N] [--archive FILE] [--seed N] [--corpus DIR]
 #
@@ -10,8 +10,8 @@
 #
 # The parts: each buffer at a page that may not be touched, with AddressSanitizer and UBSan in the C code; two threads, each with
 # states of its own, with ThreadSanitizer; valgrind's memcheck, with buffers of exact size, and two threads under its helgrind;
-# libFuzzer. One whose tool is missing is skipped with a line. A finding is printed with its seed or its input; the same seed finds
-# it again.
+# libFuzzer. One whose tool is missing is skipped with a line. A finding is printed with its --seed or its input; the same --seed
+# finds it again.
 #
 # Exit status: 0 no finding; 1 a finding; 2 the arguments are wrong, or a compiler or the archive is missing.
 set -u

@@ -1,5 +1,5 @@
 #!/usr/bin/env bash
-# No job takes 3 in 100 more instructions than in bench/results/instructions.txt, as callgrind counts them over small inputs.
+# No conversion takes 3 in 100 more instructions than in bench/results/instructions.txt, as callgrind counts them over small inputs.
 #
 #   checks/instructions.sh [--program FILE] [--navlog FILE] [--navconvert FILE]
 #
@@ -7,7 +7,7 @@
 #   --navlog FILE      navlog (NAVLOG, or crates/navlog/out/navlog)
 #   --navconvert FILE  navconvert (NAVCONVERT, or crates/navconvert/out/navconvert)
 #
-# It takes two minutes. Where a change is worth more instructions, `bench/instructions.sh --write` writes the table anew.
+# It takes two minutes. If a change is worth more instructions, `bench/instructions.sh --write` replaces the table.
 #
 # Status: 0 none takes more, or skipped, and why; 1 one does; 2 the arguments are wrong, or a program is not built.
 set -u
