@@ -1,10 +1,12 @@
 //! What a job that is done has counted.
 
-ghost use Rattle.std.specs.Prelude.{◌≡◌};
+ghost use Rattle.std.specs.Prelude.{◌≡◌, Err, IsOkAnd, MatchResult};
 ghost use Rattle.bridge_engine.specs.Counts.{made_of, refused_of, times_in};
+ghost use Rattle.bridge_engine.specs.declared.done.Done.TheVariants as dones;
 
 use captures::{CaptureCounts, SeedCounts};
 use nav_files::{MergeCounts, RinexCounts};
+use one_run::BridgeFault;
 use outlets::Times;
 use streams::{FrameCounts, StreamCounts};
 
@@ -81,5 +83,93 @@ impl Done {
             Done::Generated(SeedCounts::Written { .. }) => None,
             Done::Generated(SeedCounts::Counted(counts)) => counts.times,
         }
+    }
+}
+
+// How a run to frames ended.
+pub(crate) fn frames(ended: Result<FrameCounts, BridgeFault>) -> Result<Done, BridgeFault>
+    ensures { MatchResult ended (λ counts. IsOkAnd result (λ done. done ≡ dones.Frames counts))
+        (λ fault. result ≡ Err fault) }
+{
+    match ended {
+        Ok(counts) => Ok(Done::Frames(counts)),
+        Err(fault) => Err(fault),
+    }
+}
+
+// How a run over a capture ended.
+pub(crate) fn capture(ended: Result<CaptureCounts, BridgeFault>) -> Result<Done, BridgeFault>
+    ensures { MatchResult ended (λ counts. IsOkAnd result (λ done. done ≡ dones.Capture counts))
+        (λ fault. result ≡ Err fault) }
+{
+    match ended {
+        Ok(counts) => Ok(Done::Capture(counts)),
+        Err(fault) => Err(fault),
+    }
+}
+
+// How a run over a stream ended.
+pub(crate) fn stream(ended: Result<StreamCounts, BridgeFault>) -> Result<Done, BridgeFault>
+    ensures { MatchResult ended (λ counts. IsOkAnd result (λ done. done ≡ dones.Stream counts))
+        (λ fault. result ≡ Err fault) }
+{
+    match ended {
+        Ok(counts) => Ok(Done::Stream(counts)),
+        Err(fault) => Err(fault),
+    }
+}
+
+// How a run over a navigation file ended.
+pub(crate) fn file(ended: Result<RinexCounts, BridgeFault>) -> Result<Done, BridgeFault>
+    ensures { MatchResult ended (λ counts. IsOkAnd result (λ done. done ≡ dones.File counts))
+        (λ fault. result ≡ Err fault) }
+{
+    match ended {
+        Ok(counts) => Ok(Done::File(counts)),
+        Err(fault) => Err(fault),
+    }
+}
+
+// How a run that sends a navigation file ended.
+pub(crate) fn sent(ended: Result<RinexCounts, BridgeFault>) -> Result<Done, BridgeFault>
+    ensures { MatchResult ended (λ counts. IsOkAnd result (λ done. done ≡ dones.Sent counts))
+        (λ fault. result ≡ Err fault) }
+{
+    match ended {
+        Ok(counts) => Ok(Done::Sent(counts)),
+        Err(fault) => Err(fault),
+    }
+}
+
+// How a run that merges ended.
+pub(crate) fn merged(ended: Result<MergeCounts, BridgeFault>) -> Result<Done, BridgeFault>
+    ensures { MatchResult ended (λ counts. IsOkAnd result (λ done. done ≡ dones.Merged counts))
+        (λ fault. result ≡ Err fault) }
+{
+    match ended {
+        Ok(counts) => Ok(Done::Merged(counts)),
+        Err(fault) => Err(fault),
+    }
+}
+
+// How a run that lists times ended.
+pub(crate) fn covered(ended: Result<RinexCounts, BridgeFault>) -> Result<Done, BridgeFault>
+    ensures { MatchResult ended (λ counts. IsOkAnd result (λ done. done ≡ dones.Covered counts))
+        (λ fault. result ≡ Err fault) }
+{
+    match ended {
+        Ok(counts) => Ok(Done::Covered(counts)),
+        Err(fault) => Err(fault),
+    }
+}
+
+// How a run that generates a capture ended.
+pub(crate) fn generated(ended: Result<SeedCounts, BridgeFault>) -> Result<Done, BridgeFault>
+    ensures { MatchResult ended (λ counts. IsOkAnd result (λ done. done ≡ dones.Generated counts))
+        (λ fault. result ≡ Err fault) }
+{
+    match ended {
+        Ok(counts) => Ok(Done::Generated(counts)),
+        Err(fault) => Err(fault),
     }
 }

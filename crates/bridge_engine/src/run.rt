@@ -4,7 +4,7 @@ ghost use Rattle.std.specs.Prelude.{OnErr};
 ghost use Rattle.one_run.specs.Runs.{Ran};
 ghost use Rattle.bridge_engine.specs.Meanings.{IsAhead, done_of};
 
-use crate::done::Done;
+use crate::done::{self, Done};
 use crate::job::Job;
 use captures::{run_capture, run_seed};
 use nav_files::{run_cover, run_merge, run_rinex, run_rinex3, send_rinex, send_rinex3};
@@ -28,23 +28,21 @@ pub fn run_job<S: Source, T: Sink, U: Sink>(
         (T.written output.old) (T.written output.new) (U.written report.old) (U.written report.new)) }
 {
     match job {
-        Job::StreamToFrames => run_frames(input, output).map(Done::Frames),
+        Job::StreamToFrames => done::frames(run_frames(input, output)),
         Job::Capture(job) => {
-            run_capture(alloc, job.week, &job.to, input, output, report).map(Done::Capture)
+            done::capture(run_capture(alloc, job.week, &job.to, input, output, report))
         }
         Job::Stream(job) => {
-            run_stream(alloc, job.week, &job.to, input, output, report).map(Done::Stream)
+            done::stream(run_stream(alloc, job.week, &job.to, input, output, report))
         }
-        Job::Rinex(to) => run_rinex(to, input, output, report).map(Done::File),
-        Job::Rinex3(to) => run_rinex3(to, input, output, report).map(Done::File),
-        Job::SendRinex(week) => send_rinex(*week, input, output, report).map(Done::Sent),
-        Job::SendRinex3(week) => send_rinex3(*week, input, output, report).map(Done::Sent),
-        Job::Merge(words) => run_merge(alloc, words, input, output, report).map(Done::Merged),
-        Job::Cover => run_cover(alloc, input, output, report).map(Done::Covered),
-        Job::Seed(job) => {
-            run_seed(alloc, job.seed, job.sats, job.week, job.to, output, report).map(
-                Done::Generated,
-            )
-        }
+        Job::Rinex(to) => done::file(run_rinex(to, input, output, report)),
+        Job::Rinex3(to) => done::file(run_rinex3(to, input, output, report)),
+        Job::SendRinex(week) => done::sent(send_rinex(*week, input, output, report)),
+        Job::SendRinex3(week) => done::sent(send_rinex3(*week, input, output, report)),
+        Job::Merge(words) => done::merged(run_merge(alloc, words, input, output, report)),
+        Job::Cover => done::covered(run_cover(alloc, input, output, report)),
+        Job::Seed(job) => done::generated(run_seed(
+            alloc, job.seed, job.sats, job.week, job.to, output, report,
+        )),
     }
 }
