@@ -2,9 +2,9 @@
 
 use crate::samples::source_of;
 use crate::small_log::{ALL, LOG, PAGE};
-use nav_io::Source;
+use nav_io::{MemSink, Source};
 use receiver_frames::UbxJudge;
-use receiver_log::{LogSource, Nobody};
+use receiver_log::LogSource;
 use std::alloc::{AllocError, Global};
 use std::test::Fail;
 
@@ -89,7 +89,8 @@ fn read_all<S: Source>(
 // Whether a source over the log gives this and then ends, or fails where a read of the log does.
 fn gives(alloc: Global, reading: &Reading) -> Result<bool, AllocError> {
     let log = source_of(alloc, &LOG, reading.cuts, reading.fails)?;
-    let mut source = LogSource::<UbxJudge, _, _>::new(log, Nobody);
+    let report = MemSink::new(alloc, 1000, Vec::new(alloc))?;
+    let mut source = LogSource::<UbxJudge, _, _>::new(log, report);
     let mut capture = Vec::new(alloc);
     let ended = read_all(&mut source, reading.size, &mut capture)?;
     let is_given = capture.as_slice() == reading.capture.as_bytes();
