@@ -137,15 +137,19 @@ static CASES: [Case; 7] = [
 ];
 
 // What is asked: this target, with the week where one is named.
-fn plan_of(target: Target, week: Option<u32>) -> Result<Plan, Fail> {
-    Ok(Plan {
+fn plan_of(target: Target, week: Option<u32>) -> Option<Plan> {
+    let clock_week = match RefWeek::new(2400) {
+        None => return None,
+        Some(clock_week) => clock_week,
+    };
+    Some(Plan {
         form: None,
         target,
         week: match week {
             None => None,
             Some(week) => RefWeek::new(week),
         },
-        clock_week: RefWeek::new(2400).ok_or("a reference week")?,
+        clock_week,
         header: HeaderWords {
             date: *b"20260101 000000 UTC",
             leap: 18,
@@ -210,7 +214,10 @@ fn has(folder: &MemFolder, name: &str, bytes: Option<&[u8]>) -> bool {
 fn ends_so(alloc: Global, case: &Case) -> Result<bool, Fail> {
     let mut folder = folder_of(alloc, case)?;
     let observers = observers(alloc)?;
-    let plan = plan_of(case.target, case.week)?;
+    let plan = match plan_of(case.target, case.week) {
+        None => return Ok(false),
+        Some(plan) => plan,
+    };
     let mut name = Given::new(String::from_str(alloc, "out")?);
     let outcome = convert_one(
         alloc,
@@ -259,7 +266,10 @@ fn source_ends_so(
     let observers = observers(alloc)?;
     let source = source_of(alloc, fails)?;
     let mut folder = MemFolder::new(alloc);
-    let plan = plan_of(Target::List, None)?;
+    let plan = match plan_of(Target::List, None) {
+        None => return Ok(false),
+        Some(plan) => plan,
+    };
     let mut name = Given::new(String::from_str(alloc, "out")?);
     let Sourced { outcome, source: _ } = convert_source(
         alloc,
