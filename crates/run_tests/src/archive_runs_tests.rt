@@ -277,12 +277,23 @@ static MERGED: [Merged; 5] = [
     },
 ];
 
+// Whether a run that merges was done.
+fn merge_ended(
+    counts: Result<Result<MergeCounts, BridgeFault>, AllocError>,
+) -> Result<bool, AllocError> {
+    match counts {
+        Ok(Ok(_)) => Ok(true),
+        Ok(Err(_)) => Ok(false),
+        Err(fault) => Err(fault),
+    }
+}
+
 // Whether two files are merged and reported so.
 fn is_merged(alloc: Global, row: &Merged) -> Result<bool, AllocError> {
     let mut output = sink_of(alloc)?;
     let mut report = sink_of(alloc)?;
-    let counts = merge(alloc, &row.first, &row.second, &mut output, &mut report)?;
-    let is_reported = counts.is_ok() && report.bytes() == row.report;
+    let is_done = merge_ended(merge(alloc, &row.first, &row.second, &mut output, &mut report))?;
+    let is_reported = is_done && report.bytes() == row.report;
     Ok(is_reported && row.output.has(alloc, output.bytes())?)
 }
 
@@ -365,12 +376,23 @@ static COVERED: [Covered; 5] = [
     },
 ];
 
+// Whether a run that lists times was done.
+fn cover_ended(
+    counts: Result<Result<RinexCounts, BridgeFault>, AllocError>,
+) -> Result<bool, AllocError> {
+    match counts {
+        Ok(Ok(_)) => Ok(true),
+        Ok(Err(_)) => Ok(false),
+        Err(fault) => Err(fault),
+    }
+}
+
 // Whether two files cover these ranges, and are reported so.
 fn is_covered(alloc: Global, row: &Covered) -> Result<bool, AllocError> {
     let mut output = sink_of(alloc)?;
     let mut report = sink_of(alloc)?;
-    let counts = cover(alloc, &row.first, &row.second, &mut output, &mut report)?;
-    Ok(counts.is_ok() && output.bytes() == row.ranges && report.bytes() == row.report)
+    let is_done = cover_ended(cover(alloc, &row.first, &row.second, &mut output, &mut report))?;
+    Ok(is_done && output.bytes() == row.ranges && report.bytes() == row.report)
 }
 
 // Whether a file twice is counted so, and no file is none.

@@ -51,10 +51,19 @@ fn stream_run(
     Ok(run_stream(alloc, r, to, &mut input, output, report).ok())
 }
 
+// Whether a run over a stream was done.
+fn stream_ended(counts: Result<Option<StreamCounts>, AllocError>) -> Result<bool, AllocError> {
+    match counts {
+        Ok(Some(_)) => Ok(true),
+        Ok(None) => Ok(false),
+        Err(fault) => Err(fault),
+    }
+}
+
 // Whether a stream of one frame becomes a file.
 fn becomes_file(alloc: Global, to: &StreamTo, file: &mut MemSink) -> Result<bool, AllocError> {
     let mut report = sink_of(alloc)?;
-    Ok(stream_run(alloc, to, FRAME, file, &mut report)?.is_some())
+    stream_ended(stream_run(alloc, to, FRAME, file, &mut report))
 }
 
 // Runs over a file of either form, and what it ended with.
@@ -95,20 +104,27 @@ fn file_becomes(
     Ok(counts == Ok(want) && output.bytes() == text && report.bytes() == reported)
 }
 
+// Whether a run over a file was done; `None` where the file is of another form.
+fn file_ended(
+    counts: Result<Result<RinexCounts, BridgeFault>, AllocError>,
+) -> Result<Option<bool>, AllocError> {
+    match counts {
+        Ok(Ok(_)) => Ok(Some(true)),
+        Ok(Err(BridgeFault::NotThisForm)) => Ok(None),
+        Ok(Err(_)) => Ok(Some(false)),
+        Err(fault) => Err(fault),
+    }
+}
+
 // Whether a file of RINEX 3 becomes itself again, and is no file of RINEX 4.
 fn stays(alloc: Global, bytes: &[u8]) -> Result<bool, AllocError> {
     let mut again = sink_of(alloc)?;
     let mut none = sink_of(alloc)?;
     let mut report = sink_of(alloc)?;
     let to = RinexTo::Rinex3(WORDS);
-    let counts = file_run(alloc, &to, true, bytes, &mut again, &mut report)?;
-    let other = file_run(alloc, &to, false, bytes, &mut none, &mut report)?;
-    Ok(
-        counts.is_ok()
-            && again.bytes() == bytes
-            && other == Err(BridgeFault::NotThisForm)
-            && none.bytes().is_empty(),
-    )
+    let done = file_ended(file_run(alloc, &to, true, bytes, &mut again, &mut report))?;
+    let other = file_ended(file_run(alloc, &to, false, bytes, &mut none, &mut report))?;
+    Ok(done == Some(true) && again.bytes() == bytes && other.is_none() && none.bytes().is_empty())
 }
 
 // What is counted of two equal frames, and one with no payload between them.
