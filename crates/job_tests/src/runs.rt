@@ -136,25 +136,12 @@ static CASES: [Case; 7] = [
     },
 ];
 
-// What is asked: this target, with the week where one is named.
-fn plan_of(target: Target, week: Option<u32>) -> Option<Plan> {
-    let clock_week = match RefWeek::new(2400) {
-        None => return None,
-        Some(clock_week) => clock_week,
-    };
-    Some(Plan {
-        form: None,
-        target,
-        week: match week {
-            None => None,
-            Some(week) => RefWeek::new(week),
-        },
-        clock_week,
-        header: HeaderWords {
-            date: *b"20260101 000000 UTC",
-            leap: 18,
-        },
-    })
+// The values of the header of a file.
+fn header_words() -> HeaderWords {
+    HeaderWords {
+        date: *b"20260101 000000 UTC",
+        leap: 18,
+    }
 }
 
 // Nobody but a report is told.
@@ -211,7 +198,20 @@ fn has(folder: &MemFolder, name: &str, bytes: Option<&[u8]>) -> bool {
 }
 
 // Whether the conversion of a case ends so, and leaves these files.
-fn ends_so(alloc: Global, case: &Case, plan: &Plan) -> Result<bool, Fail> {
+fn ends_so(alloc: Global, case: &Case) -> Result<bool, Fail> {
+    let clock_week = RefWeek::new(2400).ok_or("a reference week")?;
+    let week = match case.week {
+        None => None,
+        Some(week) => RefWeek::new(week),
+    };
+    let header = header_words();
+    let plan = Plan {
+        form: None,
+        target: case.target,
+        week,
+        clock_week,
+        header,
+    };
     let mut folder = folder_of(alloc, case)?;
     let observers = observers(alloc)?;
     let mut name = Given::new(String::from_str(alloc, "out")?);
@@ -233,11 +233,7 @@ fn ends_so(alloc: Global, case: &Case, plan: &Plan) -> Result<bool, Fail> {
 #[test]
 fn files_are_converted_as_the_table_says(rt: HostRuntime) -> Result<(), Fail> {
     for case in &CASES {
-        let ends = match plan_of(case.target, case.week) {
-            None => false,
-            Some(plan) => ends_so(rt.alloc(), case, &plan)?,
-        };
-        assert!(rt; ends, "{}", case.name);
+        assert!(rt; ends_so(rt.alloc(), case)?, "{}", case.name);
     }
     Ok(())
 }
@@ -254,15 +250,28 @@ fn source_ends_so(
     fails: u32,
     end: End,
     output: Option<&[u8]>,
-    plan: &Plan,
+    named: Option<u32>,
 ) -> Result<bool, Fail> {
+    let clock_week = RefWeek::new(2400).ok_or("a reference week")?;
+    let week = match named {
+        None => None,
+        Some(week) => RefWeek::new(week),
+    };
+    let header = header_words();
+    let plan = Plan {
+        form: None,
+        target: Target::List,
+        week,
+        clock_week,
+        header,
+    };
     let observers = observers(alloc)?;
     let source = source_of(alloc, fails)?;
     let mut folder = MemFolder::new(alloc);
     let mut name = Given::new(String::from_str(alloc, "out")?);
     let Sourced { outcome, source: _ } = convert_source(
         alloc,
-        plan,
+        &plan,
         &mut folder,
         source,
         observers,
@@ -274,13 +283,7 @@ fn source_ends_so(
 
 #[test]
 fn source_is_converted_unless_a_read_fails(rt: HostRuntime) -> Result<(), Fail> {
-    let are_so = match plan_of(Target::List, None) {
-        None => false,
-        Some(plan) => {
-            source_ends_so(rt.alloc(), 0, End::NotRead, None, &plan)?
-                && source_ends_so(rt.alloc(), 99, End::Done, Some(b""), &plan)?
-        }
-    };
-    assert!(rt; are_so);
+    assert!(rt; source_ends_so(rt.alloc(), 0, End::NotRead, None, None)?);
+    assert!(rt; source_ends_so(rt.alloc(), 99, End::Done, Some(b""), None)?);
     Ok(())
 }
