@@ -215,7 +215,15 @@ fn ends_so(alloc: Global, case: &Case) -> Result<bool, Fail> {
     let mut folder = folder_of(alloc, case)?;
     let observers = observers(alloc)?;
     let mut name = Given::new(String::from_str(alloc, "out")?);
-    let outcome = convert_one(alloc, plan, &mut folder, observers, "in", "part", &mut name);
+    let outcome = convert_one(
+        alloc,
+        &plan,
+        &mut folder,
+        observers,
+        "in",
+        "part",
+        &mut name,
+    );
     let is_end = end_of(&outcome.done) == case.end;
     let mut hearer = Hearer {
         fails: case.fails,
