@@ -139,7 +139,7 @@ static int begins_small(void) {
     static nb_deframer it;
     pthread_t thread;
     pthread_attr_t small;
-    if (pthread_attr_init(&small) != 0 || pthread_attr_setstacksize(&small, 40 << 10) != 0) return 0;
+    if (pthread_attr_init(&small) != 0 || pthread_attr_setstacksize(&small, 48 << 10) != 0) return 0;
     return pthread_create(&thread, &small, begins, &it) == 0 && pthread_join(thread, NULL) == 0;
 }
 
@@ -149,7 +149,7 @@ int main(int argc, char **argv) {
     int what, i;
     size_t each;
     want(nb_deframer_size() <= NB_DEFRAMER_MOST, 0, "the header's size");
-    want(begins_small(), 0, "a thread with 40 KB of stack");
+    want(begins_small(), 0, "a thread with 48 KB of stack");
     for (i = 1; i < argc && i <= 4; i++) {
         FILE *from = fopen(argv[i], "rb");
         size_t n = from == NULL ? 0 : fread(bytes, 1, 10000, from);
