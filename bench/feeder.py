@@ -399,7 +399,7 @@ def numbers(words):
             try:
                 given[key] = type(given[key])(next(rest_of))
             except (StopIteration, ValueError):
-                sys.exit(f"feeder: {name} wants a number")
+                sys.exit(f"feeder: {name} needs a number")
     if not (0 < given["rate"] <= 100_000 and 0 < given["seconds"] and 1 <= given["satellites"] <= 32):
         sys.exit("feeder: --rate and --seconds are above 0, --satellites is 1 to 32")
     return given
@@ -442,7 +442,7 @@ def main(words):
             write(data)
             sys.stdout.buffer.flush()
     except BrokenPipeError:
-        print("feeder: the reader has gone", file=sys.stderr)
+        print("feeder: the reader closed its input", file=sys.stderr)
         return 1
     told = [f"bytes {size}", f"{dict(capture='lines', ubx='messages').get(form, 'frames')} {pieces}", f"ephemerides {feed.distinct}"]
     told += [f"{kind} {count}" for kind, count in (faults.counts if faults else {}).items()]

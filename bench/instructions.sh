@@ -29,7 +29,7 @@ work_folder
 plain frames streams captures heard files logs
 table=bench/results/instructions.txt
 if [ -n "$check" ] && ! grep -q '^[^|]*|[^|]*|[^|]*| *[0-9]' "$table" 2> /dev/null; then
-  skip "no figure is kept in $table: bench/instructions.sh --write keeps them"
+  skip "$table has no figure: bench/instructions.sh --write stores them"
 fi
 export GLIBC_TUNABLES=glibc.cpu.hwcaps=-ERMS
 date=(--date '20240101 000000 UTC' --leap 18)

@@ -105,7 +105,7 @@ for job in "${jobs[@]}"; do
   [ -z "$said" ] || wrong=1
   echo
   echo "$job: $(cat "$here/$job.told")"
-  echo "  $(stat -c %s "$here/$job.out") bytes out, $written ephemerides; ${said:-output and report are those of the run over the whole}"
+  echo "  $(stat -c %s "$here/$job.out") bytes out, $written ephemerides; ${said:-output and report are those of the run over the complete input}"
   tail -n 20 "$here/$job.report" | grep -v '^line\|^frame ' | paste -sd ',' | sed 's/,/, /g; s/^/  /'
   # from the first tenth on: the line of least squares through its own memory
   awk -v job="$job" -v seconds="$seconds" '

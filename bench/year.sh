@@ -18,7 +18,7 @@ set -eu
 days=365 stations=40 jobs=$(nproc) program=''
 options '--days: --stations: --jobs: --program: ..' "$@"
 dir=${arguments[0]:-}
-[ -n "$dir" ] || fail "the name of a folder is wanted; --help"
+[ -n "$dir" ] || fail "name a directory; --help"
 built program navbridge
 here=$top/bench
 dir=$(path_of "$dir")

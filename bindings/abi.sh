@@ -23,7 +23,7 @@ while [ $# -gt 0 ]; do
       ;;
     --write) write=1 ;;
     --library)
-      [ $# -ge 2 ] || { echo "abi: $1 wants a value" >&2; exit 2; }
+      [ $# -ge 2 ] || { echo "abi: $1 needs a value" >&2; exit 2; }
       library=$(readlink -f -- "$2")
       shift
       ;;

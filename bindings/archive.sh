@@ -61,7 +61,7 @@ if [ -z "$built" ]; then
   done
   # rt's lines are passed on; before the first that says what became of a crate, how many did
   count=$(wc -w <<< "$found")
-  echo "archive: $count crates below navbridge_c, proved or taken from what this machine has kept"
+  echo "archive: $count crates below navbridge_c, proved, or stored on this machine"
   (cd "$copy" && rt ci) 2>&1 | awk -v all="$count" -v names=" $found " '{
     if ($1 == "rt:" && $3 ~ /^(is|proved|NOT)$/ && index(names, " " $2 " ") && !($2 in seen)) {
       seen[$2] = 1

@@ -130,7 +130,7 @@ joined "files of versions 3 and 4 joined" 34 < <(cat version3.nav station.rnx)
 holds "which the table counts" grep -qx '    another header  *1' "$out/table"
 head -c -1 version3.nav | cat - station.rnx > "$out/joined"
 ends "joined where the last line has no end" 1 -o "$out/joined.rnx" --again "$out/joined"
-holds "that is named, and the header behind it" grep -qx ".*/joined: ends short: another header in line 33; last record left out: its last line has no end" "$out/named"
+holds "that is named, and the header after it" grep -qx ".*/joined: ends short: another header in line 33; last record left out: its last line has no end" "$out/named"
 mixed() { # name, the file whose records are read, version and number of the others, the line of the first
   cat > "$out/mixed"
   ends "$1" 1 -o "$out/mixed.rnx" --again "$out/mixed"

@@ -43,7 +43,7 @@ options() {
         ;;
       -?*)
         case $known in
-          *" $option: "* | *" $option+: "*) [ $# -ge 2 ] || fail "$option wants a value" ;;
+          *" $option: "* | *" $option+: "*) [ $# -ge 2 ] || fail "$option needs a value" ;;
           *" $option "*) ;;
           *) fail "$option is no option; --help" ;;
         esac
@@ -79,7 +79,7 @@ built() {
 
 # A folder that goes when the script ends, into the variable `work`
 work_folder() {
-  work=$(mktemp -d) || fail "no folder for temporary files"
+  work=$(mktemp -d) || fail "no directory for temporary files"
   trap 'chmod -R u+w "$work"; rm -rf "$work"' EXIT
 }
 

@@ -198,7 +198,7 @@ contracts = "".join("".join(read(it).split()) for it in glob.glob("crates/*/src/
 for page in PAGES:
     for shown in re.findall(r"^```\n(ensures .*?)^```", read(page), re.M | re.S):
         if "".join(shown.split()) not in contracts:
-            tell(page, 1, "a clause is shown that stands in no contract")
+            tell(page, 1, "a clause is shown that is in no contract")
 # the newest that is released: its heading has a date
 version = re.search(r"^## (\d\S*) \(\d{4}-\d\d-\d\d\)", read("CHANGELOG.md"), re.M)[1]
 for path in glob.glob("crates/*/src/**/*.rt", recursive=True):

@@ -86,10 +86,10 @@ silent "installed" install_it
 silent "dpkg -V" dpkg -V navbridge
 silent "six commands" test "$(dpkg -L navbridge | sed -n 's|^/usr/bin/||p' | sort | xargs)" = "merge_archive navbridge navbridge-station navconvert navlog navreport"
 for name in $(dpkg -L navbridge | sed -n 's|^/usr/bin/||p'); do
-  silent "$name has a man page, of which mandoc has nothing to say" has_page "$name"
+  silent "$name has a man page that mandoc accepts" has_page "$name"
 done
 mapfile -t units < <(dpkg -L navbridge | grep '\.\(service\|timer\)$')
-silent "systemd-analyze verify has nothing to say of ${#units[@]} units" systemd-analyze verify "${units[@]}"
+silent "systemd-analyze verify accepts ${#units[@]} units" systemd-analyze verify "${units[@]}"
 lines() { # of a unit: what it must have
   local line
   for line in User=navbridge DynamicUser=yes NoNewPrivileges=yes ProtectHome=yes ProtectSystem=strict PrivateTmp=yes; do

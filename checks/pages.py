@@ -9,7 +9,7 @@
 
 checks/words.txt has a line for each word that a page should not use: a regular expression, what to write instead, and the count
 in each page that still has it. A higher count fails. Backticks, code blocks and generated parts are left out. The --help of
-scripts is checked as a page. checks/budget.txt has the words that each page may have, in steps of 50; code blocks count,
+scripts is checked as a page, and of those in examples/ and packaging/ what they print. checks/budget.txt has the words that each page may have, in steps of 50; code blocks count,
 generated parts do not.
 
 A generated part is between <!-- generated: NAME --> and <!-- end -->; checks/generate.py makes it. A code block that begins
@@ -20,6 +20,7 @@ checks/not-run.txt, with the reason why they are not run here. Code in C and C++
 Exit status: 0 all correct; 1 something differs; 2 the arguments are wrong.
 """
 
+import ast
 import glob
 import os
 import re
@@ -76,13 +77,26 @@ def prose(path):
     return text.splitlines()
 
 
+def printed(path):
+    """The texts that a script prints: of Python those with a blank, of bash those in quotes after a command that prints."""
+    text = read(path)
+    if re.match("#!.*bash", text):
+        lines = [it for it in text.splitlines() if re.match(r"[^#]*\b(echo|fail|say|wrong|printf)\b", it)]
+        return [it[0][1:-1] for line in lines for it in re.finditer(r"\"[^\"]*\"|'[^']*'", line)]
+    tree = ast.parse(text)
+    comments = {id(it.body[0].value) for it in ast.walk(tree) if isinstance(it, (ast.FunctionDef, ast.ClassDef, ast.Module)) and isinstance(it.body[0], ast.Expr)}
+    return [it.value for it in ast.walk(tree) if isinstance(it, ast.Constant) and isinstance(it.value, str) and " " in it.value and id(it) not in comments]
+
+
 def helps():
-    """The scripts with --help, and the lines of it without options, names of files and code."""
+    """The scripts with --help, and the lines of it and of their messages, without options, names of files and variables, and code."""
     found = {}
     for path in sorted(it for at in HELPS for it in glob.glob(at) if os.path.isfile(it) and os.access(it, os.X_OK)):
         if re.search(r"--help|^options ", read(path), re.M):
             text = subprocess.run([path, "--help"], stdin=subprocess.DEVNULL, capture_output=True, text=True, timeout=60).stdout
-            found[path] = re.sub(r"`[^`\n]*`|--[\w-]+|\S*[/_.]\w\S*|\b[A-Z_]{2,}\b", " ", text).splitlines()
+            if path.startswith(("examples/", "packaging/")):
+                text = "\n".join([text, *printed(path)])
+            found[path] = re.sub(rf"`[^`\n]*`|--[\w-]+|\$\{{[^}}]*\}}|\$?\(\w+ \w+|\S*[$/_.]\w\S*|\b[A-Z_]{{2,}}\b|\b{os.path.basename(path)[:-3]}:", " ", text).splitlines()
     return found
 
 

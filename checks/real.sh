@@ -65,7 +65,7 @@ stream() {
     / ephemerides of navlog/ { both += $(NF - 2) }
     / differs in / && $2 != "transmission" { other = other "; " $0 }
     END { if (both != count) print both " ephemerides in both, not " count; if (other) print substr(other, 3) }' "$work/compared" > "$work/found"
-  [ ! -s "$work/found" ] || differs "$1 beside convbin: $(cat "$work/found")"
+  [ ! -s "$work/found" ] || differs "$1 compared with convbin: $(cat "$work/found")"
 }
 stream rtcm3.2.log 2005 2016/4/6 41
 stream GMSD7_20121014.rtcm3 1710 2012/10/14 15

@@ -142,7 +142,7 @@ def gunzip(data):
         if not data.strip(b"\0"):
             return b"".join(out), ""
         if data[:2] != b"\x1f\x8b":
-            return b"".join(out), "other bytes behind the packed ones"
+            return b"".join(out), "other bytes after the packed ones"
 
 
 def uncompress(data):
@@ -442,14 +442,14 @@ def settle(call, sections, others):
         first = sections[0]
         apart = sum(first["passed"].values()) + passed
         first.update(records=first["records"] + records,
-                     passed={**first["passed"], "not told apart": passed} if passed > 0 else {"not told apart": apart})
+                     passed={**first["passed"], "of unknown kind": passed} if passed > 0 else {"of unknown kind": apart})
     starts = [section["base"] for section in sections]
     for line, reason in refused:
         section = sections[bisect.bisect_left(starts, line) - 1]
         section["refused"][reason] = section["refused"].get(reason, 0) + 1
         if reason == "short" and line - section["base"] + section["above"] == section["last"]:
             section["outcome"] = worse("ends short", section["outcome"])
-            section["notes"].append("last record is cut")
+            section["notes"].append("last record is truncated")
     return counts
 
 
@@ -545,7 +545,7 @@ def make_cover(tool, merged, cover):
     with open(merged, "rb") as file, open(cover, "wb") as output:
         ran = subprocess.run([tool.program, "--from", "rinex", "--to", "cover"], stdin=file, stdout=output, stderr=subprocess.DEVNULL, check=False)
     if ran.returncode:
-        raise Failed(f"navbridge ended with status {ran.returncode} where it said the times covered")
+        raise Failed(f"navbridge exited with status {ran.returncode} at the times covered")
     with open(cover, "rb") as file:
         return sum(1 for _ in file)
 
@@ -909,7 +909,7 @@ class Tool:
             for batch in batches:
                 said = read_rows(self.part_of(batch) + ".files")
                 if not said:
-                    raise Failed(f"{self.part_of(batch)}.files: was taken away; was another run told --clean?")
+                    raise Failed(f"{self.part_of(batch)}.files is missing: does another run have --clean?")
                 rows += said[1]
                 paths.append(self.part_of(batch) + ".rnx")
             kept = merge_files(self, paths, merged, dated)
@@ -944,7 +944,7 @@ def version():
 
 def options(words):
     """The arguments; a wrong one is reported and ends with 2."""
-    parser = argparse.ArgumentParser(prog="merge_archive", add_help=False, allow_abbrev=False, usage="merge_archive [options] NAME.. (--help says more)")
+    parser = argparse.ArgumentParser(prog="merge_archive", add_help=False, allow_abbrev=False, usage="merge_archive [options] NAME.. (see --help)")
     parser.add_argument("names", nargs="*")
     parser.add_argument("-o", dest="out")
     parser.add_argument("--cover")
@@ -974,7 +974,7 @@ def options(words):
     if args.jobs < 1 or args.batch < 1:
         parser.error("-j and --batch are at least 1")
     if args.date is not None and not re.fullmatch(r"\d{8} \d{6} UTC", args.date):
-        parser.error('--date is of the form "20240101 000000 UTC"')
+        parser.error('--date has the format "20240101 000000 UTC"')
     if not re.fullmatch(r"\d\d?", args.leap):
         parser.error("--leap is 0 to 99")
     for path in filter(None, (args.out, args.cover)):

@@ -53,7 +53,7 @@ work=$(mktemp -d)
 trap 'rm -rf "$work"' EXIT
 root=$work/navbridge
 install -d -m 755 "$root"
-# a file of the package: mode, where it goes, where it stands
+# a file of the package: mode, its path in the package, its path here
 put() { install -D -m "$1" "$3" "$root/$2"; }
 page() { # a man page
   mkdir -p "$root/usr/share/man/man1"
@@ -79,14 +79,14 @@ END
     cat << 'END'
 
 License: Apache-2.0
- On Debian systems the text of the Apache License, version 2.0, stands in
+ On Debian systems the text of the Apache License, version 2.0, is in
  /usr/share/common-licenses/Apache-2.0.
 END
   } > "$at/copyright"
   {
     echo "$1 ($version) unstable; urgency=medium"
     echo
-    echo "  * Built from the sources at $(git rev-parse --short=12 HEAD); CHANGELOG.md says what is new."
+    echo "  * Built from the sources at $(git rev-parse --short=12 HEAD); CHANGELOG.md lists the changes."
     echo
     echo " -- $maintainer  $(date -R -d "@$epoch")"
   } | gzip -n9 > "$at/changelog.gz"
@@ -120,13 +120,13 @@ done
 for unit in examples/station/*.service examples/station/*.timer; do put 644 "usr/lib/systemd/system/${unit##*/}" "$unit"; done
 mkdir -p "$root/usr/share/lintian/overrides"
 cat > "$root/usr/share/lintian/overrides/navbridge" << 'END'
-# an example of a file that was cut, on which merge_archive.sh is tried
+# an example of a truncated file for merge_archive
 navbridge: broken-gz [usr/share/doc/navbridge/examples/archive/*]
 END
 for it in README.md CHANGELOG.md; do put 644 "$doc/$it" "$it"; done
 for it in docs/*.md docs/pictures/*; do put 644 "$doc/$it" "$it"; done
 put 644 "$doc/bench/README.md" bench/README.md
-put 755 "$doc/bench/feeder.py" bench/feeder.py # what examples/station/trial.sh hears
+put 755 "$doc/bench/feeder.py" bench/feeder.py # the input of examples/station/trial.sh
 ln -s docs/OPERATING.md "$root/$doc/OPERATING.md"
 git ls-files examples checks/{archive,lib,runs}.sh | while read -r it; do
   # what is installed already
@@ -146,7 +146,7 @@ papers navbridge
 
 mkdir -p "$root/DEBIAN" "$out"
 architecture=$(dpkg --print-architecture)
-# instances of the units: started anew by an update, stopped where the package is removed; their files and settings stay
+# instances of the units: restarted by an update, stopped where the package is removed; their files and settings stay
 running="'navbridge-station@*.service' 'navbridge-record@*.service' 'navbridge-files@*.timer'"
 script() { # a maintainer script: its name, and the text on standard input
   { printf '#!/bin/sh\nset -e\n'; cat; } > "$root/DEBIAN/$1"
@@ -168,7 +168,7 @@ fi
 END
 script postrm << 'END'
 if [ "$1" = purge ]; then
-  # what 'systemctl enable' made, which points to units that have gone
+  # what 'systemctl enable' made, which points to units that no longer exist
   for unit in navbridge-station@ navbridge-record@ navbridge-files@; do
     rm -f "$DPKG_ROOT"/etc/systemd/system/*.target.wants/"$unit"*.service "$DPKG_ROOT"/etc/systemd/system/*.target.wants/"$unit"*.timer
   done
@@ -196,14 +196,15 @@ Suggests: bash-completion, parallel
 Section: science
 Priority: optional
 Description: proved converter of broadcast satellite orbits
- navbridge converts ephemerides and ionosphere sets of GPS and Galileo between
- the bits that satellites send, RTCM 3 messages and RINEX navigation files, by
- whole numbers alone. navlog makes the input of logs of u-blox and Septentrio
- receivers. Both are written in Rattle, which is Rust with contracts, and what
- they promise is proved.
+ navconvert and navbridge convert ephemerides and ionosphere parameters of GPS
+ and Galileo between receiver logs, RTCM 3 messages and RINEX navigation files,
+ without changing a bit. navlog reads logs of u-blox and Septentrio receivers.
+ They are written in Rattle, which is Rust with contracts, and the conversion is
+ proved.
  .
- navbridge-station keeps what a caster or a receiver sends, and makes RINEX
- files by hour and by day of it; units of systemd are with it.
+ navbridge-station stores the bytes of a caster or a receiver and makes RINEX
+ files by hour and day, with systemd units. merge_archive merges directories of
+ navigation files; navreport shows their gaps as web pages.
 END
 [ -n "$library" ] || exit 0
 
@@ -238,7 +239,7 @@ Priority: optional
 Description: proved library for broadcast satellite orbits
  libnavbridge reads and writes ephemerides of GPS and Galileo: messages and
  frames of RTCM 3, LNAV subframes, I/NAV pages, records of RINEX navigation
- files, and whole conversions as navbridge does them.
+ files, and complete conversions as navbridge does them.
 END
 
 begin libnavbridge-dev
@@ -252,8 +253,8 @@ Suggests: pkgconf, cmake
 Section: libdevel
 Priority: optional
 Description: proved library for broadcast satellite orbits (for development)
- The headers of libnavbridge for C and C++, its archive, and what pkg-config
- and CMake want.
+ The headers of libnavbridge for C and C++, its archive, and its files for
+ pkg-config and CMake.
 END
 
 begin python3-navbridge

@@ -43,7 +43,7 @@ Exit status: 0 every file was read; 1 the site is written, and some file was not
 def options(arguments):
     """The options; a mistake is reported and ends with 2."""
     parser = argparse.ArgumentParser(prog="navreport", add_help=False, allow_abbrev=False,
-                                     usage="navreport [options] -o DIR NAME.. (--help says more)")
+                                     usage="navreport [options] -o DIR NAME.. (see --help)")
     parser.add_argument("names", nargs="*")
     parser.add_argument("-o", dest="site")
     parser.add_argument("--from", dest="first")

@@ -70,7 +70,7 @@ cp "$here/../merged.rnx" "$late"
 before=$(find "$dir/tree" -path '*.parts' -prune -o -name '*.rnx' -printf '%p %T@\n' | sort)
 tree --cover
 after=$(find "$dir/tree" -path '*.parts' -prune -o -name '*.rnx' -printf '%p %T@\n' | sort)
-say "a late file of a day; made anew: $(comm -13 <(echo "$before") <(echo "$after") | sed "s|^$dir/tree/||; s|\.rnx .*||" | tr '\n' ' ')"
+say "a late file of a day; made again: $(comm -13 <(echo "$before") <(echo "$after") | sed "s|^$dir/tree/||; s|\.rnx .*||" | tr '\n' ' ')"
 "$here/../merge_archive.py" -o "$dir/once.rnx" "${words[@]}" -q "$dir/archive"
 check "$dir/once.rnx" "$dir/tree/year/2023.rnx" "the year with it"
 

@@ -27,7 +27,7 @@ while [ $# -gt 0 ]; do
       exit 0
       ;;
     --program | --station | --folder | --port)
-      [ $# -ge 2 ] || { echo "faults: $1 wants a value" >&2; exit 2; }
+      [ $# -ge 2 ] || { echo "faults: $1 needs a value" >&2; exit 2; }
       printf -v "${1#--}" %s "$2"
       shift 2
       ;;
@@ -204,7 +204,7 @@ check "and has the satellites" test "$(grep -o '<th scope="row">[GE][0-9][0-9]</
 check "and asks for nothing else" test -z "$(grep -E 'src=|href=|url\(' "$page")"
 check "metrics" grep -q 'navbridge_records_total{station="STAT00CCC",system="GPS"} [1-9]' "$folder/one/status/metrics.prom"
 if command -v promtool > /dev/null; then
-  check "promtool has nothing to say of them" test -z "$(promtool check metrics < "$folder/one/status/metrics.prom" 2>&1)"
+  check "promtool accepts them" test -z "$(promtool check metrics < "$folder/one/status/metrics.prom" 2>&1)"
   check "nor of the alerts" promtool test rules examples/station/alerts_test.yml
 fi
 mkdir -p "$folder/silent/parts"
@@ -218,7 +218,7 @@ sleep 2
 check "once" once one '137'
 check "records come again" grows one 20
 kill -KILL "$(of_group | awk '$4 ~ /str2str$/ { print $1; exit }')"
-check "str2str is killed: said" until_has one 'str2str was killed by SIGKILL (exit status 137), so the source has ended' 10
+check "str2str is killed: reported" until_has one 'str2str was killed by SIGKILL (exit status 137), so the source has ended' 10
 ends 20
 check "exit status 3" test "$status" = 3
 check "no process of it is left" none_left

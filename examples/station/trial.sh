@@ -32,7 +32,7 @@ while [ $# -gt 0 ]; do
       exit 0
       ;;
     --form | --program | --navlog | --folder | --port)
-      [ $# -ge 2 ] || { echo "trial: $1 wants a value" >&2; exit 2; }
+      [ $# -ge 2 ] || { echo "trial: $1 needs a value" >&2; exit 2; }
       printf -v "${1#--}" %s "$2"
       shift 2
       ;;
@@ -170,11 +170,11 @@ done
 
 echo
 echo "sent: $(cat "$folder/sent")"
-echo "what the station said:"
+echo "messages of the station:"
 sed 's/^/  /' "$folder/run.log"
-echo "what the recorder said:"
+echo "messages of the recorder:"
 sed 's/^/  /' "$folder/record.log"
-echo "what files said of the recorder's parts:"
+echo "messages of files on the recorder's parts:"
 sed 's/^/  /' "$folder/record.files.log"
 merged() { "$program" --from rinex --to merged --date "20240101 000000 UTC" --leap 18 2> /dev/null; }
 converted() { # all that was sent

@@ -160,7 +160,7 @@ while [ $# -gt 0 ]; do
       exit 0
       ;;
     --package | --form)
-      [ $# -ge 2 ] || { echo "units: $1 wants a value" >&2; exit 2; }
+      [ $# -ge 2 ] || { echo "units: $1 needs a value" >&2; exit 2; }
       printf -v "${1#--}" %s "$2"
       shift 2
       ;;
