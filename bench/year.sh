@@ -1,5 +1,6 @@
 #!/usr/bin/env bash
-# Measures the merging of a year's archive: at once, by days, months and years, compared with sort -u and RTKLIB's convbin.
+# Measures the merging of a year's archive: at once, by days, months and years, compared with sort -u and RTKLIB's convbin; and navreport,
+# whose pages of the year may take a minute and 5 MB each.
 #
 # bench/year.sh [options] DIR
 #
@@ -12,7 +13,7 @@
 #   --jobs N                 processes at once (as many as there are processors)
 #   --program FILE           navbridge (crates/navbridge/out/navbridge of this repository)
 #
-# Exit status: 0 measured; 1 bytes differ that should not; 2 wrong arguments.
+# Exit status: 0 measured; 1 bytes differ that should not, or the pages take more; 2 wrong arguments.
 set -eu
 . "$(dirname "$(readlink -f "$0")")/lib.sh"
 days=365 stations=40 jobs=$(nproc) program=''
@@ -93,7 +94,12 @@ row "then by months" "$(bytes_of "$work"/day/*.rnx)" - "$work/months" "$dir/smal
 row "then the year" "$(bytes_of "$work"/month/*.rnx)" "$work/year.rnx" "$merge" -j "$jobs" -q -o "$work/year.rnx" "${words[@]}" "$work/month" --name '*.rnx'
 row "files of a day's size, all at once" "$(unpacked joined)" "$work/joined.rnx" "$merge" -j "$jobs" -o "$work/joined.rnx" "${words[@]}" "$dir/joined"
 row "the times covered, of the year" "$(bytes_of "$work/year.rnx")" - "$merge" --cover "$work/year.cover" "${words[@]}" "$work/year.rnx"
+began=$SECONDS
+row "web pages of all files: navreport" "$(unpacked small)" - "$here/../examples/navreport" -q -j "$jobs" -o "$work/site" --date "20240101 000000 UTC" --program "$program" "$dir/small"
 bad=0
+large=$(find "$work/site" -name '*.html' -printf '%s\n' | sort -n | tail -n 1)
+echo "web pages: $(find "$work/site" -name '*.html' | wc -l), the largest of $large bytes; report.json of $(bytes_of "$work/site/report.json")"
+if [ $((SECONDS - began)) -ge 60 ] || [ "$large" -gt 5000000 ]; then bad=1; echo "web pages: TOO SLOW or TOO LARGE"; fi
 for one in year joined; do
   if cmp -s "$work/once.rnx" "$work/$one.rnx"; then echo "$one: the bytes of all at once"; else bad=1; echo "$one: DIFFERS from all at once"; fi
 done

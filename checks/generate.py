@@ -26,7 +26,8 @@ A generated part is between <!-- generated: NAME --> and <!-- end -->; a word af
     outcomes     the outcomes of a file in examples/merge_archive.py
     results FILE a table of bench/results
 
-A man page or script with other numbers or reasons than the sources is named, and the exit status is 1.
+A man page or script with other numbers or reasons than the sources is named, and one with other options than --help or the sources;
+the exit status is then 1.
 
 Exit status: 0 they are the same, or written; 1 they differ; 2 the arguments are wrong.
 """
@@ -409,6 +410,30 @@ def results(name):
     return table(rows[0], rows[1:])
 
 
+def options_agree():
+    """The options in a man page are those of --help, and those that bash completes; of navconvert those of its table."""
+    help_of = {"merge_archive": "examples/merge_archive.py", "navreport": "examples/navreport", "navbridge-station": "examples/station/navbridge-station"}
+    for path in glob.glob("docs/*.1") + glob.glob("examples/station/*.1"):
+        name = os.path.basename(path)[:-2]
+        text = read(path)
+        lists = "\n".join(re.findall(r"^\.(?:It|Op|Nm)? ?(?=Fl).*|^\.It .*", text, re.M))
+        found = set(re.findall(r"Fl -([a-z][\w-]+)|, -([a-z][\w-]+)", lists))
+        found = {a or b for a, b in found} - ({"name"} if name == "navbridge" else set())
+        others = {}
+        if name in help_of:
+            shown = subprocess.run([help_of[name], "--help"], stdin=subprocess.DEVNULL, capture_output=True, text=True, timeout=60).stdout
+            others[f"{help_of[name]} --help"] = set(re.findall(r"(?<![\w-])--([a-z][\w-]+)", shown))
+        elif name == "navconvert":
+            source = holder(r"^static OPTIONS: \[Row")
+            others[source] = set(re.findall(r"name: \"([a-z-]+)\",\s*short:", read(source))) | {"help", "version"}
+        completed = f"packaging/{name}.bash"
+        if os.path.exists(completed):
+            others[completed] = set(re.findall(r"--([a-z][\w-]+)", re.sub(r"#.*", "", read(completed))))
+        for other, known in others.items():
+            if known - {"help", "version"} != found - {"help", "version"}:
+                tell(f"{path} and {other}: one has no option {', '.join(sorted((known ^ found) - {'help', 'version'}))}")
+
+
 MAKERS = {
     "toolchain": toolchain, "layers": layers, "crates": crate_rows, "definitions": definitions, "contracts": contracts,
     "conversions": conversions, "runs": runs, "messages": messages, "words": words, "subframes": subframes, "parity": parity, "ura": ura, "fields": fields,
@@ -432,4 +457,5 @@ for page in sorted(glob.glob("*.md") + glob.glob("docs/*.md") + glob.glob("examp
                 file.write("".join(new))
         else:
             tell(f"{page}: its generated parts differ; checks/generate.py --write")
+options_agree()
 sys.exit(1 if wrong else 0)

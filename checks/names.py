@@ -7,8 +7,7 @@
 In docs/PROMISES.md a heading names crates, and the last column of its rows functions of these and, after a colon, clauses of
 each of the functions before it. In docs/DEFINITIONS.md a row names a crate and files of its specs/. In all pages a text in
 backticks is looked up if it is a path of the repository, or a name with _ or :: or a capital letter in it: among the names of
-the sources and definitions, without their comments. A clause that a page shows must be part of a contract, and a version in the
-sources must be the newest in CHANGELOG.md that has a date.
+the sources and definitions, without their comments. A clause that a page shows must be part of a contract.
 
 Exit status: 0 all exist; 1 one does not; 2 the arguments are wrong, or there are no sources.
 """
@@ -199,13 +198,6 @@ for page in PAGES:
     for shown in re.findall(r"^```\n(ensures .*?)^```", read(page), re.M | re.S):
         if "".join(shown.split()) not in contracts:
             tell(page, 1, "a clause is shown that is in no contract")
-# the newest that is released: its heading has a date
-version = re.search(r"^## (\d\S*) \(\d{4}-\d\d-\d\d\)", read("CHANGELOG.md"), re.M)[1]
-for path in glob.glob("crates/*/src/**/*.rt", recursive=True):
-    for number, line in enumerate(read(path).splitlines(), 1):
-        for other in re.findall(r"\.version\(\"([^\"]*)\"\)", line):
-            if other != version:
-                tell(path, number, f"version {other}, and the newest with a date in CHANGELOG.md is {version}")
 if not WANTED:
     print(f"{len(PAGES)} documents, {missing} names that are not there")
 sys.exit(1 if missing else 0)
