@@ -158,7 +158,7 @@ def definitions(_):
         print(f"{path}: no comment line at its head")
     if bad:
         sys.exit(1)
-    return table(["Crate", "File", "Says"], rows)
+    return table(["Crate", "File", "Content"], rows)
 
 
 def contracts(within):
@@ -187,7 +187,7 @@ def contracts(within):
                     continue
                 place = f"`{of if it[3] else ''}{it[5]}`" + (": " + ", ".join(f"`{name}`" for name in names) if names else "")
                 rows.append([said, place])
-    return table(["Says", "Function: clauses"], rows)
+    return table(["Guarantee", "Function: clauses"], rows)
 
 
 def conversions(_):

@@ -8,7 +8,7 @@
     --commands    fails if a program for the commands is missing; without it the commands are then skipped
 
 checks/words.txt has a line for each word that a page should not use: a regular expression, what to write instead, and the count
-in each page that still has it. A higher count fails. Backticks, code blocks and generated parts are left out. The --help of
+in each page that still has it, and a line for long sentences. A higher count fails. Backticks, code blocks and generated parts are left out. The --help of
 scripts is checked as a page, and of those in examples/ and packaging/ what they print. checks/budget.txt has the words that each page may have, in steps of 50; code blocks count,
 generated parts do not.
 
@@ -46,6 +46,7 @@ PAGES = sorted(glob.glob("*.md") + glob.glob("docs/*.md") + glob.glob("examples/
 MANUALS = sorted(glob.glob("docs/*.1") + glob.glob("examples/station/*.1"))
 HELPS = ("examples/*", "examples/*/*", "packaging/*", "bindings/*", "checks/*", "bench/*")
 WRITE = "--write" in arguments
+LONG = "sentence of more than 30 words"
 wrong = 0
 
 
@@ -100,6 +101,14 @@ def helps():
     return found
 
 
+def long_sentences(lines):
+    """The sentences and parts of a table or list with more than 30 words, each with its line."""
+    for at, line in enumerate(lines, 1):
+        for it in re.split(r"(?<=[.:;?!])\s+|\|", line):
+            if sum(bool(re.search(r"\w", word)) for word in it.split()) > 30:
+                yield at, it
+
+
 def words():
     lines, scripts = [], helps()
     for line in read(WORDS).splitlines():
@@ -110,8 +119,11 @@ def words():
         known = dict(it.rsplit(":", 1) for it in (counts[0].split() if counts else []))
         left = {}
         for page in PAGES + MANUALS + list(scripts):
-            places = [(at, it) for at, it in enumerate(scripts[page] if page in scripts else prose(page), 1)
-                      for found in re.finditer(rf"\b(?:{word})\b", it, re.I) if not found[0].isupper()]
+            if word == LONG:
+                places = list(long_sentences(prose(page))) if page in PAGES else []
+            else:
+                places = [(at, it) for at, it in enumerate(scripts[page] if page in scripts else prose(page), 1)
+                          for found in re.finditer(rf"\b(?:{word})\b", it, re.I) if not found[0].isupper()]
             limit = known.get(page, "0")
             if page == shown:
                 for at, it in places:
