@@ -1,4 +1,4 @@
-# Completion of navbridge-station's words in bash
+# Completion of navbridge-station's arguments in bash
 # shellcheck shell=bash
 
 _navbridge_station() {

@@ -1,9 +1,9 @@
-# Completion of navbridge's words in bash. The program has no help of its own, so this is it: after the forms that are given it
-# offers the options that their job takes, and what may stand for each.
+# Completion of navbridge's arguments in bash. The program has no help of its own: after the formats that are given this offers the
+# options of their conversion, and values for each.
 # shellcheck shell=bash
 
-# the table of jobs: from, to, options
-_navbridge_jobs() {
+# the table of conversions: from, to, options
+_navbridge_conversions() {
   cat << 'END'
 capture rinex week date leap
 capture rinex3 week date leap
@@ -58,18 +58,18 @@ _navbridge() {
   [ "$current" != = ] || current=
   COMPREPLY=()
   case $name in
-    --from) mapfile -t words < <(_navbridge_jobs | while read -r line _; do echo "$line"; done | sort -u) ;;
-    --to) mapfile -t words < <(_navbridge_jobs | while read -r -a fields; do [ -n "$from" ] && [ "${fields[0]}" != "$from" ] || echo "${fields[1]}"; done | sort -u) ;;
-    # the week that goes on
+    --from) mapfile -t words < <(_navbridge_conversions | while read -r line _; do echo "$line"; done | sort -u) ;;
+    --to) mapfile -t words < <(_navbridge_conversions | while read -r -a fields; do [ -n "$from" ] && [ "${fields[0]}" != "$from" ] || echo "${fields[1]}"; done | sort -u) ;;
+    # the current week
     --week) words=($((($(date +%s) - 315964800) / 604800))) ;;
     --date) words=("$(date -u '+%Y%m%d %H%M%S UTC')") ;;
     --leap) words=(18) ;;
     --seed) words=(1 7) ;;
     --sats) words=(1 12 32) ;;
     *)
-      # the words of the jobs that are still open
+      # the options of the conversions that are still possible
       mapfile -t words < <(
-        _navbridge_jobs | while read -r -a fields; do
+        _navbridge_conversions | while read -r -a fields; do
           [ -n "$from" ] && [ "${fields[0]}" != "$from" ] && continue
           [ -n "$to" ] && [ "${fields[1]}" != "$to" ] && continue
           printf -- '--%s\n' from to
@@ -80,7 +80,7 @@ _navbridge() {
   esac
   for word in "${words[@]}"; do
     [[ $word == "${current//[\"\']/}"* ]] || continue
-    # a value with blanks is one word
+    # a value with blanks is one argument
     [[ $word != *' '* ]] || word="'$word'"
     COMPREPLY+=("$word")
   done

@@ -1,4 +1,4 @@
-# Completion of navconvert's words in bash
+# Completion of navconvert's arguments in bash
 # shellcheck shell=bash
 
 _navconvert() {

@@ -1,4 +1,4 @@
-# Completion of navlog's words in bash
+# Completion of navlog's arguments in bash
 # shellcheck shell=bash
 
 _navlog() {
