@@ -1,9 +1,9 @@
-//! `navbridge` converts GNSS broadcast ephemerides between their forms.
+//! `navbridge` converts GNSS broadcast ephemerides between their formats.
 //!
-//! The program reads standard input and writes standard output. Its command line names a job, such
-//! as `navbridge --from stream --to frames`, which writes a line for each RTCM 3 frame of a stream
-//! (RTCM 10403.3, section 4): its message number and the length of its payload. The exit status
-//! says how it ended; [`bridge_engine::bridge`] lists them.
+//! The program reads standard input and writes standard output. Its arguments name a conversion,
+//! such as `navbridge --from stream --to frames`, which writes a line for each RTCM 3 frame of a
+//! stream (RTCM 10403.3, section 4): its message number and the length of its payload. The exit
+//! status states how it ended; [`bridge_engine::bridge`] lists them.
 #![tactic(auto)]
 
 use bridge_engine::bridge;
@@ -12,10 +12,10 @@ use std::env;
 use std::io::ErrorKind;
 use std::process::ExitCode;
 
-// No memory for the command-line words.
+// No memory for the arguments.
 const NO_MEMORY: u8 = 6;
 
-// A command-line word cannot be read, for instance because it is not UTF-8.
+// An argument cannot be read, for instance because it is not UTF-8.
 const NO_WORD: u8 = 9;
 
 fn main(rt: HostRuntime) -> ExitCode {

@@ -1,10 +1,10 @@
 //! `navlog` reads a GNSS receiver's log and writes it as a capture: `navlog --from ubx < log.ubx`
 //! does so for u-blox's UBX, and `navlog --from sbf` for Septentrio's SBF.
 //!
-//! The report is on standard error: a line for each message that is refused, and nine of counts.
-//! The exit status is 0 where all was read and written, 2 where the command line is neither of
-//! these, 3, 4 and 7 where the input, the output or the report failed, 6 for want of memory, and 8
-//! where there are too many bytes, 2^64 - 1 or more.
+//! The report is on standard error: a line for each message that is rejected, and nine of counts.
+//! The exit status is 0 if all was read and written, 2 if the arguments are neither of these, 3,
+//! 4 and 7 if the input, the output or the report failed, 6 if out of memory, and 8 if there are
+//! too many bytes, 2^64 - 1 or more.
 #![tactic(auto)]
 
 use nav_io::{ReadSource, WriteSink};
@@ -15,14 +15,14 @@ use std::env;
 use std::io::ErrorKind;
 use std::process::ExitCode;
 
-// The forms of logs.
+// The formats of logs.
 #[derive(Clone, Copy, PartialEq, Eq)]
 enum Form {
     Ubx,
     Sbf,
 }
 
-// The form with this name.
+// The format with this name.
 fn form_named(name: &str) -> Option<Form> {
     if name == "ubx" {
         Some(Form::Ubx)
@@ -33,7 +33,7 @@ fn form_named(name: &str) -> Option<Form> {
     }
 }
 
-// The form that the command line names.
+// The format that the arguments name.
 fn form_of(words: &[String]) -> Option<Form> {
     match words {
         [word] => {
@@ -64,7 +64,7 @@ fn run<J: Receiver>(rt: &HostRuntime) -> Status {
     Status::of(&run_log::<J, _, _, _>(&mut input, &mut output, &mut report))
 }
 
-// Reads the command line, and does what it says.
+// Reads the arguments, and does what they name.
 fn status_of(rt: &HostRuntime) -> Status {
     let args = match env::args(rt) {
         Ok(args) => args,
