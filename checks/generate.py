@@ -425,7 +425,7 @@ def options_agree():
             others[f"{help_of[name]} --help"] = set(re.findall(r"(?<![\w-])--([a-z][\w-]+)", shown))
         elif name == "navconvert":
             source = holder(r"^static OPTIONS: \[Row")
-            others[source] = set(re.findall(r"name: \"([a-z-]+)\",\s*short:", read(source))) | {"help", "version"}
+            others[source] = set(re.findall(r"\bname: \"([a-z-]+)\"", found_in(source, r"^static OPTIONS: \[Row(.*?)^\];")))
         completed = f"packaging/{name}.bash"
         if os.path.exists(completed):
             others[completed] = set(re.findall(r"--([a-z][\w-]+)", re.sub(r"#.*", "", read(completed))))
