@@ -16,7 +16,7 @@ use Rattle.periods.specs.PeriodLists.{item_in}
 use Rattle.periods.specs.Verdicts.{IsComplete, IsOfEphemeris}
 use Rattle.periods.proofs.Surface.{IsKnownBefore, is-same_key, none_some, same_key-is, some_is}
 use Rattle.page_send.specs.SentItems.{as_sent, have_one_key, repeats_latest}
-use Rattle.nav_laws.proofs.SlotFacts.{gal_key, gps_key}
+use Rattle.nav_laws.proofs.Slots.{gal_key, gps_key}
 use Rattle.nav_laws.proofs.Slots.{key_of_item}
 
 -- in the stamps from a to b lies the complete period of an item, and no other one of an ephemeris

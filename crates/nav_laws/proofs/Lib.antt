@@ -1,6 +1,6 @@
 pub mod AppendLemmas
-pub mod SlotFacts
 pub mod Slots
+pub mod SlotPeriods
 pub mod History
 pub mod Circle
 pub mod SentTexts
@@ -8,6 +8,7 @@ pub mod Heard
 pub mod SentSlots
 pub mod Sendable
 pub mod Fewer
+pub mod Repeats
 mod DueLemmas
 mod PlainLemmas
 pub mod Surface

@@ -1,5 +1,5 @@
 -- What is transmitted in the slots, and that its parts are those of the slots.
-use Rattle.std.proofs.Common.{◌≡◌, ℕ, ◌+◌, ◌-◌, ◌*◌, ◌^◌, ◌<◌, ◌≤◌, ◌⊎◌, ◌↔◌, inl, inr, Bool, true, false, nat_eq, if◌then◌else◌, List, [], ◌∷◌, ◌++◌, Contains, Ok, Some, length, refl, sym, ap, subst, ◌∙◌, arith, eqb-true}
+use Rattle.std.proofs.Common.{◌≡◌, ℕ, ◌+◌, ◌-◌, ◌*◌, ◌^◌, ◌<◌, ◌≤◌, ◌⊎◌, ◌↔◌, inl, inr, Bool, true, false, nat_eq, if◌then◌else◌, List, [], ◌∷◌, ◌++◌, Contains, Ok, Some, length, refl, sym, ap, subst, subst₂, ◌∙◌, arith, eqb-true}
 use Rattle.std.proofs.lemmas.Int.{ints}
 use Rattle.nav_bits.specs.Packed.{AreBytes}
 use Rattle.nav_eph.specs.Satellite.{IsSat, Satellite}
@@ -43,7 +43,7 @@ use Rattle.capture_log.specs.declared.event.Event.TheVariants.{Heard}
 use Rattle.page_send.specs.Slots.{count_of, galileo_items, galileo_second, galileo_week_number, gps_transmission, gps_week_number, half_item, items_at, no_ionosphere, slot_stamp, subframe_item}
 use Rattle.page_send.specs.Sendable.{slots_items}
 use Rattle.nav_laws.specs.SlotParts.{part, parts_at, slots_parts}
-use Rattle.nav_laws.proofs.SlotFacts.{IsSentGal, IsSentGps}
+use Rattle.nav_laws.proofs.Slots.{IsSentGal, IsSentGps}
 use Rattle.nav_laws.proofs.Slots.{IsSent}
 use Rattle.nav_laws.proofs.Heard.{Yields, InOrder, Page, PageGives, PageLaws, PagesInOrder, Sends, Sub, SubGives, yielded_is_heard, even_item, heard_is_yielded, odd_item, sub_item}
 
@@ -89,13 +89,53 @@ pages_at s (Gps e) = []
 pages_at s (Gal e) = page1 s e ∷ page2 s e ∷ page3 s e ∷ page4 s e ∷ page5 s e ∷ []
 pages_at s (Ion e) = []
 
-abbrev slots_subs : ℕ → List NavItem → List Sub
-slots_subs slot [] = []
-slots_subs slot (x ∷ xs) = subs_at (slot_stamp slot) x ++ slots_subs (slot + 1) xs
+-- an item that is sent from a stamp on
+pub record Sending : Type 0 where
+  pub stamp : ℕ
+  pub item : NavItem
 
-abbrev slots_pages : ℕ → List NavItem → List Page
-slots_pages slot [] = []
-slots_pages slot (x ∷ xs) = pages_at (slot_stamp slot) x ++ slots_pages (slot + 1) xs
+-- the lines and the parts of what is sent, one after the other
+abbrev pub sendings_items : List Sending → List LineItem
+sendings_items [] = []
+sendings_items (x ∷ xs) = items_at x.stamp x.item ++ sendings_items xs
+
+abbrev pub sendings_parts : List Sending → List Part
+sendings_parts [] = []
+sendings_parts (x ∷ xs) = parts_at x.stamp x.item ++ sendings_parts xs
+
+abbrev sendings_subs : List Sending → List Sub
+sendings_subs [] = []
+sendings_subs (x ∷ xs) = subs_at x.stamp x.item ++ sendings_subs xs
+
+abbrev sendings_pages : List Sending → List Page
+sendings_pages [] = []
+sendings_pages (x ∷ xs) = pages_at x.stamp x.item ++ sendings_pages xs
+
+-- one begins after the one before it has ended, the first from b on
+abbrev pub AreApart : ℕ → List Sending → Type 0
+AreApart b [] = Unit {0}
+AreApart b (x ∷ xs) = (b ≤ x.stamp) × AreApart (x.stamp + 13) xs
+
+pub apart_weak : (b m : ℕ) (xs : List Sending) → b ≤ m → AreApart m xs → AreApart b xs
+apart_weak b m [] l h = tt
+apart_weak b m (x ∷ xs) l h = let low = h.0 in (omega (arith, low, l), h.1)
+
+-- those of the slots
+abbrev slots_sendings : ℕ → List NavItem → List Sending
+slots_sendings slot [] = []
+slots_sendings slot (x ∷ xs) = record { stamp = slot_stamp slot; item = x } ∷ slots_sendings (slot + 1) xs
+
+slots_items_are : (slot : ℕ) (xs : List NavItem) → sendings_items (slots_sendings slot xs) ≡ slots_items slot xs
+slots_items_are slot [] = refl
+slots_items_are slot (x ∷ xs) = ap (λ l. items_at (slot_stamp slot) x ++ l) (slots_items_are (slot + 1) xs)
+
+slots_parts_are : (slot : ℕ) (xs : List NavItem) → sendings_parts (slots_sendings slot xs) ≡ slots_parts slot xs
+slots_parts_are slot [] = refl
+slots_parts_are slot (x ∷ xs) = ap (λ l. parts_at (slot_stamp slot) x ++ l) (slots_parts_are (slot + 1) xs)
+
+slots_apart : (slot : ℕ) (xs : List NavItem) → AreApart (slot_stamp slot) (slots_sendings slot xs)
+slots_apart slot [] = tt
+slots_apart slot (x ∷ xs) = (omega arith, apart_weak (slot_stamp slot + 13) (slot_stamp (slot + 1)) (slots_sendings (slot + 1) xs) (omega arith) (slots_apart (slot + 1) xs))
 
 -- ---- what the laws of readers say
 
@@ -231,17 +271,17 @@ sends_append items more subs subs' pages pages' a b = record {
   ];
 }
 
-slots_send : (laws : ReadLaws) (slot : ℕ) (xs : List NavItem) → Sends (slots_items slot xs) (slots_subs slot xs) (slots_pages slot xs)
-slots_send laws slot [] = record {
+sendings_send : (laws : ReadLaws) (xs : List Sending) → Sends (sendings_items xs) (sendings_subs xs) (sendings_pages xs)
+sendings_send laws [] = record {
   cases = λ item i. absurd i;
   sub = λ b i. absurd i;
   even = λ g i. absurd i;
   odd = λ g i. absurd i;
   bytes = λ g i. absurd i;
 }
-slots_send laws slot (x ∷ xs) =
-    sends_append (items_at (slot_stamp slot) x) (slots_items (slot + 1) xs) (subs_at (slot_stamp slot) x) (slots_subs (slot + 1) xs)
-    (pages_at (slot_stamp slot) x) (slots_pages (slot + 1) xs) (sends_at laws (slot_stamp slot) x) (slots_send laws (slot + 1) xs)
+sendings_send laws (x ∷ xs) =
+    sends_append (items_at x.stamp x.item) (sendings_items xs) (subs_at x.stamp x.item) (sendings_subs xs)
+    (pages_at x.stamp x.item) (sendings_pages xs) (sends_at laws x.stamp x.item) (sendings_send laws xs)
 
 -- ---- in the order of their stamps
 
@@ -320,11 +360,17 @@ order_at s m (Gal e) l = (
 )
 order_at s m (Ion e) l = omega (arith, l)
 
+pub sendings_order : (b : ℕ) (xs : List Sending) → AreApart b xs → InOrder b (sendings_items xs)
+sendings_order b [] h = tt
+sendings_order b (x ∷ xs) h =
+    order_weak b x.stamp (items_at x.stamp x.item ++ sendings_items xs) h.0
+    (order_append x.stamp (x.stamp + 13) (items_at x.stamp x.item) (sendings_items xs)
+    (order_at x.stamp (x.stamp + 13) x.item (omega arith)) (sendings_order (x.stamp + 13) xs h.1))
+
 pub slots_order : (slot : ℕ) (xs : List NavItem) → InOrder (slot_stamp slot) (slots_items slot xs)
-slots_order slot [] = tt
-slots_order slot (x ∷ xs) =
-    order_append (slot_stamp slot) (slot_stamp (slot + 1)) (items_at (slot_stamp slot) x) (slots_items (slot + 1) xs)
-    (order_at (slot_stamp slot) (slot_stamp (slot + 1)) x (omega arith)) (slots_order (slot + 1) xs)
+slots_order slot xs =
+    subst (λ (l : List LineItem). InOrder (slot_stamp slot) l) (slots_items_are slot xs)
+    (sendings_order (slot_stamp slot) (slots_sendings slot xs) (slots_apart slot xs))
 
 abbrev PagesTo : ℕ → ℕ → List Page → Type 0
 PagesTo b m [] = b ≤ m
@@ -343,11 +389,12 @@ pages_order_at s m (Gps e) l = omega (arith, l)
 pages_order_at s m (Gal e) l = (omega arith, (omega arith, (omega arith, (omega arith, (omega arith, omega (arith, l))))))
 pages_order_at s m (Ion e) l = omega (arith, l)
 
-slots_pages_order : (slot : ℕ) (xs : List NavItem) → PagesInOrder (slot_stamp slot) (slots_pages slot xs)
-slots_pages_order slot [] = tt
-slots_pages_order slot (x ∷ xs) =
-    pages_append (slot_stamp slot) (slot_stamp (slot + 1)) (pages_at (slot_stamp slot) x) (slots_pages (slot + 1) xs)
-    (pages_order_at (slot_stamp slot) (slot_stamp (slot + 1)) x (omega arith)) (slots_pages_order (slot + 1) xs)
+sendings_pages_order : (b : ℕ) (xs : List Sending) → AreApart b xs → PagesInOrder b (sendings_pages xs)
+sendings_pages_order b [] h = tt
+sendings_pages_order b (x ∷ xs) h =
+    pages_weak b x.stamp (pages_at x.stamp x.item ++ sendings_pages xs) h.0
+    (pages_append x.stamp (x.stamp + 13) (pages_at x.stamp x.item) (sendings_pages xs)
+    (pages_order_at x.stamp (x.stamp + 13) x.item (omega arith)) (sendings_pages_order (x.stamp + 13) xs h.1))
 
 -- ---- what they yield
 
@@ -488,47 +535,60 @@ abbrev pub InSlots : ℕ → ℕ → List NavItem → Type 0
 InSlots r slot [] = Unit {0}
 InSlots r slot (x ∷ xs) = IsSent r x × (slot < 198842) × InSlots r (slot + 1) xs
 
-slots_yielded : (laws : ReadLaws) (r slot : ℕ) (xs : List NavItem) (p : Part) → InSlots r slot xs → In (slots_parts slot xs) p → Yields (slots_subs slot xs) (slots_pages slot xs) p
-slots_yielded laws r slot [] p h i = absurd i
-slots_yielded laws r slot (x ∷ xs) p h i =
-    let s = slot_stamp slot in
-    elim (In-append_cases (parts_at s x) (slots_parts (slot + 1) xs) p i) [
-      | inl j ↦ elim (parts_yielded laws r s x p h.0 j) [
-        | inl b ↦ inl (b.0, In-append_left (subs_at s x) (slots_subs (slot + 1) xs) b.0 b.1, b.2)
-        | inr g ↦ inr (g.0, In-append_left (pages_at s x) (slots_pages (slot + 1) xs) g.0 g.1, g.2)
+-- each item may be sent
+abbrev pub MayBeSent : ℕ → List Sending → Type 0
+MayBeSent r [] = Unit {0}
+MayBeSent r (x ∷ xs) = IsSent r x.item × MayBeSent r xs
+
+slots_sent : (r slot : ℕ) (xs : List NavItem) → InSlots r slot xs → MayBeSent r (slots_sendings slot xs)
+slots_sent r slot [] h = tt
+slots_sent r slot (x ∷ xs) h = (h.0, slots_sent r (slot + 1) xs h.2)
+
+sendings_yielded : (laws : ReadLaws) (r : ℕ) (xs : List Sending) (p : Part) → MayBeSent r xs → In (sendings_parts xs) p → Yields (sendings_subs xs) (sendings_pages xs) p
+sendings_yielded laws r [] p h i = absurd i
+sendings_yielded laws r (x ∷ xs) p h i =
+    elim (In-append_cases (parts_at x.stamp x.item) (sendings_parts xs) p i) [
+      | inl j ↦ elim (parts_yielded laws r x.stamp x.item p h.0 j) [
+        | inl b ↦ inl (b.0, In-append_left (subs_at x.stamp x.item) (sendings_subs xs) b.0 b.1, b.2)
+        | inr g ↦ inr (g.0, In-append_left (pages_at x.stamp x.item) (sendings_pages xs) g.0 g.1, g.2)
       ]
-      | inr j ↦ elim (slots_yielded laws r (slot + 1) xs p h.2 j) [
-        | inl b ↦ inl (b.0, In-append_right (subs_at s x) (slots_subs (slot + 1) xs) b.0 b.1, b.2)
-        | inr g ↦ inr (g.0, In-append_right (pages_at s x) (slots_pages (slot + 1) xs) g.0 g.1, g.2)
+      | inr j ↦ elim (sendings_yielded laws r xs p h.1 j) [
+        | inl b ↦ inl (b.0, In-append_right (subs_at x.stamp x.item) (sendings_subs xs) b.0 b.1, b.2)
+        | inr g ↦ inr (g.0, In-append_right (pages_at x.stamp x.item) (sendings_pages xs) g.0 g.1, g.2)
       ]
     ]
 
-sub_in_slots : (laws : ReadLaws) (r slot : ℕ) (xs : List NavItem) (b : Sub) (p : Part) → InSlots r slot xs → In (slots_subs slot xs) b → SubGives b p → In (slots_parts slot xs) p
-sub_in_slots laws r slot [] b p h i gives = absurd i
-sub_in_slots laws r slot (x ∷ xs) b p h i gives =
-    let s = slot_stamp slot in
-    elim (In-append_cases (subs_at s x) (slots_subs (slot + 1) xs) b i) [
-      | inl j ↦ In-append_left (parts_at s x) (slots_parts (slot + 1) xs) p (sub_back laws r s x b p h.0 j gives)
-      | inr j ↦ In-append_right (parts_at s x) (slots_parts (slot + 1) xs) p (sub_in_slots laws r (slot + 1) xs b p h.2 j gives)
+sub_in_sendings : (laws : ReadLaws) (r : ℕ) (xs : List Sending) (b : Sub) (p : Part) → MayBeSent r xs → In (sendings_subs xs) b → SubGives b p → In (sendings_parts xs) p
+sub_in_sendings laws r [] b p h i gives = absurd i
+sub_in_sendings laws r (x ∷ xs) b p h i gives =
+    elim (In-append_cases (subs_at x.stamp x.item) (sendings_subs xs) b i) [
+      | inl j ↦ In-append_left (parts_at x.stamp x.item) (sendings_parts xs) p (sub_back laws r x.stamp x.item b p h.0 j gives)
+      | inr j ↦ In-append_right (parts_at x.stamp x.item) (sendings_parts xs) p (sub_in_sendings laws r xs b p h.1 j gives)
     ]
 
-page_in_slots : (laws : ReadLaws) (r slot : ℕ) (xs : List NavItem) (g : Page) (p : Part) → InSlots r slot xs → In (slots_pages slot xs) g → PageGives g p → In (slots_parts slot xs) p
-page_in_slots laws r slot [] g p h i gives = absurd i
-page_in_slots laws r slot (x ∷ xs) g p h i gives =
-    let s = slot_stamp slot in
-    elim (In-append_cases (pages_at s x) (slots_pages (slot + 1) xs) g i) [
-      | inl j ↦ In-append_left (parts_at s x) (slots_parts (slot + 1) xs) p (page_back laws r s x g p h.0 j gives)
-      | inr j ↦ In-append_right (parts_at s x) (slots_parts (slot + 1) xs) p (page_in_slots laws r (slot + 1) xs g p h.2 j gives)
+page_in_sendings : (laws : ReadLaws) (r : ℕ) (xs : List Sending) (g : Page) (p : Part) → MayBeSent r xs → In (sendings_pages xs) g → PageGives g p → In (sendings_parts xs) p
+page_in_sendings laws r [] g p h i gives = absurd i
+page_in_sendings laws r (x ∷ xs) g p h i gives =
+    elim (In-append_cases (pages_at x.stamp x.item) (sendings_pages xs) g i) [
+      | inl j ↦ In-append_left (parts_at x.stamp x.item) (sendings_parts xs) p (page_back laws r x.stamp x.item g p h.0 j gives)
+      | inr j ↦ In-append_right (parts_at x.stamp x.item) (sendings_parts xs) p (page_in_sendings laws r xs g p h.1 j gives)
     ]
+
+-- the parts received of what is sent are its parts
+pub sendings_are_heard : (laws : ReadLaws) (pages : PageLaws) (r w b : ℕ) (xs : List Sending) (p : Part) → MayBeSent r xs → AreApart b xs
+    → IsPartHeard w (sendings_items xs) p ↔ In (sendings_parts xs) p
+sendings_are_heard laws pages r w b xs p h apart = (
+  λ heard. elim (heard_is_yielded w b (sendings_items xs) (sendings_subs xs) (sendings_pages xs) p pages (sendings_send laws xs) (sendings_pages_order b xs apart) heard) [
+    | inl b ↦ sub_in_sendings laws r xs b.0 p h b.1 b.2
+    | inr g ↦ page_in_sendings laws r xs g.0 p h g.1 g.2
+  ],
+  λ i. yielded_is_heard w b (sendings_items xs) (sendings_subs xs) (sendings_pages xs) p pages (sendings_send laws xs) (sendings_order b xs apart)
+      (sendings_yielded laws r xs p h i),
+)
 
 -- the parts received from a transmission are those of the slots
 pub slots_are_heard : (laws : ReadLaws) (pages : PageLaws) (r w slot : ℕ) (xs : List NavItem) (p : Part) → InSlots r slot xs
     → IsPartHeard w (slots_items slot xs) p ↔ In (slots_parts slot xs) p
-slots_are_heard laws pages r w slot xs p h = (
-  λ heard. elim (heard_is_yielded w (slot_stamp slot) (slots_items slot xs) (slots_subs slot xs) (slots_pages slot xs) p pages (slots_send laws slot xs) (slots_pages_order slot xs) heard) [
-    | inl b ↦ sub_in_slots laws r slot xs b.0 p h b.1 b.2
-    | inr g ↦ page_in_slots laws r slot xs g.0 p h g.1 g.2
-  ],
-  λ i. yielded_is_heard w (slot_stamp slot) (slots_items slot xs) (slots_subs slot xs) (slots_pages slot xs) p pages (slots_send laws slot xs) (slots_order slot xs)
-      (slots_yielded laws r slot xs p h i),
-)
+slots_are_heard laws pages r w slot xs p h =
+    subst₂ (λ (l : List LineItem) (m : List Part). IsPartHeard w l p ↔ In m p) (slots_items_are slot xs) (slots_parts_are slot xs)
+    (sendings_are_heard laws pages r w (slot_stamp slot) (slots_sendings slot xs) p (slots_sent r slot xs h) (slots_apart slot xs))

@@ -14,6 +14,8 @@ ghost use Rattle.capture_log.specs.Heard.{NoneLate, SameItems};
 ghost use Rattle.capture_log.specs.Log.{line_items_of, parts_of};
 ghost use Rattle.page_send.specs.Sendable.{sendable, sent_lines, sent_text};
 ghost use Rattle.page_send.specs.SentItems.{sent_items};
+ghost use Rattle.nav_laws.specs.SentAgain.{AreRepeats, AreSentAgain, AreTurned, IsHeardAgain};
+ghost use Rattle.nav_laws.specs.SentAgain.{IsSentAgain, SameByType};
 ghost use Rattle.nav_laws.specs.SentCapture.{IsOfLines, IsStillHeard, sent_capture};
 ghost use Rattle.nav_laws.specs.SlotParts.{slots_parts};
 
@@ -26,7 +28,8 @@ pub fn parts_of_slots_come_back()
 
 /// The capture that transmits items begins with a head that names no week and a window of 7,200 s,
 /// its further lines are those of the slots, and exactly the parts of the slots are received from
-/// them.
+/// them. From lines that repeat them, every 30 s for two hours, the same parts are received, at
+/// other seconds of their slots, and no others.
 pub fn what_is_sent_is_heard()
     ensures head { (r : ℕ) (items : List NavItem) → lines_by false (sent_text r items)
         ≡ record { text = plain_head; long = false } ∷ sent_capture r items }
@@ -36,6 +39,10 @@ pub fn what_is_sent_is_heard()
     ensures parts { (r : ℕ) (items : List NavItem) (part : Part) → All IsItem items
         → Contains (parts_of 7200 (sent_capture r items)) part
         ↔ Contains (slots_parts 0 (sendable r 0 items)) part }
+    ensures repeats { (r : ℕ) (items : List NavItem) (lines : List Line) (part : Part)
+        → All IsItem items → AreRepeats lines (sent_capture r items)
+        → Contains (parts_of 7200 lines) part → (sent : Part)
+        × Contains (parts_of 7200 (sent_capture r items)) sent × IsSentAgain part sent }
 {
     nav_io::written_lines_are_given();
     capture_lines::spellings_are_lines();
@@ -63,6 +70,12 @@ pub fn what_is_sent_is_heard()
 /// This holds for a capture whose lines with a stamp are lines of the transmission, late or not, as
 /// long as each part is still received; and for one that has the same lines in another order or
 /// repeated, where none is late.
+///
+/// Nor does it matter which transmission of a part is received: where each part is received at
+/// least once, at whatever second of the first two hours of its slot, the ephemerides are the same
+/// in the same order, and the ionospheres too. An ionosphere comes before the ephemeris of its slot
+/// only if it was received before a word of it. So the transmission may be repeated every 30 s, and
+/// any lines be lost, late or in another order, as long as each part is received.
 pub fn what_is_sent_comes_back()
     ensures itself { (r : ℕ) (items : List NavItem) → All IsItem items
         → items_in (periods_of r 7200 (parts_of 7200 (sent_capture r items)))
@@ -78,6 +91,16 @@ pub fn what_is_sent_comes_back()
         → SameItems (line_items_of lines) (line_items_of (sent_capture r items))
         → NoneLate 7200 (line_items_of lines)
         → items_in (periods_of r 7200 (parts_of 7200 lines)) ≡ sent_items r items }
+    ensures again { (r : ℕ) (items : List NavItem) (lines : List Line) → All IsItem items
+        → AreSentAgain (parts_of 7200 lines) (parts_of 7200 (sent_capture r items))
+        → SameByType (items_in (periods_of r 7200 (parts_of 7200 lines))) (sent_items r items) }
+    ensures in_order { (r : ℕ) (items : List NavItem) (lines : List Line) → All IsItem items
+        → AreSentAgain (parts_of 7200 lines) (parts_of 7200 (sent_capture r items))
+        → (AreTurned (parts_of 7200 lines) → ⊥)
+        → items_in (periods_of r 7200 (parts_of 7200 lines)) ≡ sent_items r items }
+    ensures repeated { (r : ℕ) (items : List NavItem) (lines : List Line) → All IsItem items
+        → AreRepeats lines (sent_capture r items) → IsHeardAgain (sent_capture r items) lines
+        → SameByType (items_in (periods_of r 7200 (parts_of 7200 lines))) (sent_items r items) }
 {
     periods::order_does_not_matter();
     capture_log::parts_of_lines_are_values();

@@ -1,4 +1,5 @@
 use Rattle.std.proofs.Common.{◌≡◌, ◌↔◌, ℕ, List, All, Contains, Some, sym, subst, ap, ◌∙◌}
+use Rattle.std.proofs.lemmas.List.Elements.{All-contains}
 use Rattle.nav_io.specs.Lines.{Line}
 use Rattle.nav_eph.specs.Ranges.{IsItem}
 use Rattle.nav_eph.specs.Values.{IsPartValue}
@@ -13,11 +14,14 @@ use Rattle.capture_log.specs.Heard.{IsPartHeard, NoneLate, SameItems}
 use Rattle.capture_log.specs.Log.{line_items_of, parts_of}
 use Rattle.page_send.specs.Sendable.{sendable, sent_lines, slots_items}
 use Rattle.page_send.specs.SentItems.{sent_items}
+use Rattle.nav_laws.specs.SentAgain.{AreRepeats, AreSentAgain, AreTurned, IsHeardAgain, IsSentAgain, SameByType}
 use Rattle.nav_laws.specs.SentCapture.{IsOfLines, IsStillHeard, sent_capture}
 use Rattle.nav_laws.specs.SlotParts.{slots_parts}
 use Rattle.nav_laws.proofs.Fewer.{heard_to}
 use Rattle.nav_laws.proofs.Heard.{accepted, accepted_in}
 use Rattle.nav_laws.proofs.SentSlots.{slots_order}
+use Rattle.nav_laws.proofs.Sendable.{are_sent, in_slots}
+use Rattle.nav_laws.proofs.Circle.{again_comes_back, in_order_comes_back}
 use Rattle.nav_laws.proofs.laws.what_is_sent_comes_back.Goals as goal
 
 -- what the laws say
@@ -30,6 +34,8 @@ record Laws : Type 0 where
   items : (r : ℕ) (items : List NavItem) → All IsItem items → line_items_of (sent_capture r items) ≡ sent_lines r items
   parts : (r : ℕ) (items : List NavItem) (part : Part) → All IsItem items
       → Contains (parts_of 7200 (sent_capture r items)) part ↔ Contains (slots_parts 0 (sendable r 0 items)) part
+  repeats : (r : ℕ) (items : List NavItem) (lines : List Line) (part : Part) → All IsItem items → AreRepeats lines (sent_capture r items)
+      → Contains (parts_of 7200 lines) part → (sent : Part) × Contains (parts_of 7200 (sent_capture r items)) sent × IsSentAgain part sent
 
 by_parts : (laws : Laws) (r : ℕ) (items : List NavItem) (lines : List Line) → All IsItem items
     → ((part : Part) → Contains (parts_of 7200 lines) part ↔ Contains (parts_of 7200 (sent_capture r items)) part)
@@ -76,6 +82,38 @@ by_turning laws r items lines all same none =
     (contains_from_In (line_items_of (sent_capture r items)) item (accepted_in 7200 (line_items_of (sent_capture r items)) item h))))
     ((laws.heard 7200 (sent_capture r items) part).0 i)))
 
+-- of the slots
+of_slots : (laws : Laws) (r : ℕ) (items : List NavItem) (lines : List Line) → All IsItem items
+    → AreSentAgain (parts_of 7200 lines) (parts_of 7200 (sent_capture r items)) → AreSentAgain (parts_of 7200 lines) (slots_parts 0 (sendable r 0 items))
+of_slots laws r items lines all again = record {
+  each = λ p i. let f = again.each p i in (f.0, (laws.parts r items f.0 all).0 f.1, f.2);
+  every = λ q i. again.every q ((laws.parts r items q all).1 i);
+}
+
+part_value : (laws : Laws) (lines : List Line) (p : Part) → Contains (parts_of 7200 lines) p → IsPartValue p
+part_value laws lines p i = All-contains IsPartValue (parts_of 7200 lines) p (laws.values 7200 lines) i
+
+by_again : (laws : Laws) (r : ℕ) (items : List NavItem) (lines : List Line) → All IsItem items
+    → AreSentAgain (parts_of 7200 lines) (parts_of 7200 (sent_capture r items))
+    → SameByType (items_in (periods_of r 7200 (parts_of 7200 lines))) (sent_items r items)
+unfolding sent_items
+by_again laws r items lines all again =
+    let xs = sendable r 0 items in
+    again_comes_back r xs (parts_of 7200 lines) (part_value laws lines) (are_sent r 0 xs (in_slots r 0 items all)) (of_slots laws r items lines all again)
+
+by_order : (laws : Laws) (r : ℕ) (items : List NavItem) (lines : List Line) → All IsItem items
+    → AreSentAgain (parts_of 7200 lines) (parts_of 7200 (sent_capture r items)) → (AreTurned (parts_of 7200 lines) → ⊥)
+    → items_in (periods_of r 7200 (parts_of 7200 lines)) ≡ sent_items r items
+unfolding sent_items
+by_order laws r items lines all again never =
+    let xs = sendable r 0 items in
+    in_order_comes_back r xs (parts_of 7200 lines) (part_value laws lines) (are_sent r 0 xs (in_slots r 0 items all)) (of_slots laws r items lines all again) never
+
+by_repeats : (laws : Laws) (r : ℕ) (items : List NavItem) (lines : List Line) → All IsItem items → AreRepeats lines (sent_capture r items)
+    → IsHeardAgain (sent_capture r items) lines → SameByType (items_in (periods_of r 7200 (parts_of 7200 lines))) (sent_items r items)
+by_repeats laws r items lines all repeats heard =
+    by_again laws r items lines all (record { each = λ p i. laws.repeats r items lines p all repeats i; every = heard })
+
 pub returns : goal.returns
 returns c =
     let laws : Laws = record {
@@ -85,10 +123,14 @@ returns c =
       back = c.parts_of_slots_come_back.ensures;
       items = c.what_is_sent_is_heard.ensures.items;
       parts = c.what_is_sent_is_heard.ensures.parts;
+      repeats = c.what_is_sent_is_heard.ensures.repeats;
     } in
     record {
       itself = λ r items all. by_parts laws r items (sent_capture r items) all (λ part. (λ i. i, λ i. i));
       parts = λ r items lines all same. by_parts laws r items lines all same;
       lost = λ r items lines all of still. by_loss laws r items lines all of still;
       reordered = λ r items lines all same none. by_turning laws r items lines all same none;
+      again = λ r items lines all again. by_again laws r items lines all again;
+      in_order = λ r items lines all again never. by_order laws r items lines all again never;
+      repeated = λ r items lines all repeats heard. by_repeats laws r items lines all repeats heard;
     }

@@ -4,19 +4,23 @@ use Rattle.nav_eph.specs.Ranges.{IsItem}
 use Rattle.nav_eph.specs.declared.part.Part.{Part}
 use Rattle.nav_eph.specs.declared.items.NavItem.{NavItem}
 use Rattle.capture_lines.specs.Heads.{head_of, plain_head}
+use Rattle.capture_lines.specs.Late.{IsAccepted}
 use Rattle.capture_lines.specs.declared.item.LineItem.{LineItem}
 use Rattle.inav_word.specs.Writing.{word1_bytes, word2_bytes, word3_bytes, word4_bytes, word5_bytes}
-use Rattle.periods.proofs.Surface.{In-from_contains, contains_from_In}
+use Rattle.periods.proofs.Surface.{In, In-from_contains, contains_from_In}
 use Rattle.capture_log.specs.Heard.{IsPartHeard}
 use Rattle.capture_log.specs.Log.{line_items_of, parts_of}
 use Rattle.page_send.specs.Slots.{text_of_items}
-use Rattle.page_send.specs.Sendable.{sendable, sent_lines, sent_text}
+use Rattle.page_send.specs.Sendable.{sendable, sent_lines, sent_text, slots_items}
+use Rattle.nav_laws.specs.SentAgain.{AreRepeats, IsSentAgain}
 use Rattle.nav_laws.specs.SentCapture.{sent_capture}
 use Rattle.nav_laws.specs.SlotParts.{slots_parts}
 use Rattle.nav_laws.proofs.SentTexts.{LineLaws, sent_lines_are}
-use Rattle.nav_laws.proofs.Heard.{PageLaws}
-use Rattle.nav_laws.proofs.SentSlots.{ReadLaws, slots_are_heard}
+use Rattle.nav_laws.proofs.Heard.{PageLaws, accepted, accepted_in}
+use Rattle.nav_laws.proofs.SentSlots.{ReadLaws, sendings_are_heard, sendings_items, sendings_order, slots_are_heard}
 use Rattle.nav_laws.proofs.Sendable.{in_slots, slots_spelt}
+use Rattle.nav_laws.proofs.Fewer.{heard_to}
+use Rattle.nav_laws.proofs.Repeats.{all_apart, all_frames, all_sent, repeated_part, repeats_in}
 use Rattle.nav_laws.proofs.laws.what_is_sent_is_heard.Goals as goal
 
 head_is : (laws : LineLaws) (r : ℕ) (items : List NavItem) → lines_by false (sent_text r items) ≡ record { text = plain_head; long = false } ∷ sent_capture r items
@@ -45,6 +49,33 @@ parts_are lines reads pages heard r items part all =
       λ i. (heard 7200 (sent_capture r items) part).1
           (subst (λ (l : List LineItem). IsPartHeard 7200 l part) (sym same) (slots.1 (In-from_contains (slots_parts 0 xs) part i))),
     )
+
+-- a line of a repeat is accepted among all repeats
+accepted_repeat : (r : ℕ) (items : List NavItem) (lines : List Line) (item : LineItem) → line_items_of (sent_capture r items) ≡ sent_lines r items
+    → AreRepeats lines (sent_capture r items) → IsAccepted 7200 (line_items_of lines) item
+    → IsAccepted 7200 (sendings_items (all_frames 240 0 (sendable r 0 items))) item
+accepted_repeat r items lines item same repeats h =
+    let xs = sendable r 0 items in
+    let all = all_frames 240 0 xs in
+    let f = repeats item h.stamp h.stamp_is (contains_from_In (line_items_of lines) item (accepted_in 7200 (line_items_of lines) item h)) in
+    let there : Contains (slots_items 0 xs) f.0 = subst (λ (l : List LineItem). Contains l f.0) same f.1 in
+    let here = repeats_in 240 f.2.number 0 xs f.0 f.2.few (In-from_contains (slots_items 0 xs) f.0 there) in
+    let i : In (sendings_items all) item = subst (λ (z : LineItem). In (sendings_items all) z) (sym f.2.is) here in
+    accepted 7200 0 h.stamp (sendings_items all) item (sendings_order 0 all (all_apart 240 0 xs (omega arith))) i h.stamp_is
+
+repeats_are : (reads : ReadLaws) (pages : PageLaws)
+    → ((window : ℕ) (lines : List Line) (part : Part) → Contains (parts_of window lines) part ↔ IsPartHeard window (line_items_of lines) part)
+    → (r : ℕ) (items : List NavItem) (lines : List Line) (part : Part) → All IsItem items → line_items_of (sent_capture r items) ≡ sent_lines r items
+    → ((q : Part) → Contains (slots_parts 0 (sendable r 0 items)) q → Contains (parts_of 7200 (sent_capture r items)) q)
+    → AreRepeats lines (sent_capture r items) → Contains (parts_of 7200 lines) part
+    → (sent : Part) × Contains (parts_of 7200 (sent_capture r items)) sent × IsSentAgain part sent
+repeats_are reads pages heard r items lines part all same back repeats i =
+    let xs = sendable r 0 items in
+    let frames = all_frames 240 0 xs in
+    let there = heard_to 7200 (line_items_of lines) (sendings_items frames) part (λ item h. accepted_repeat r items lines item same repeats h) ((heard 7200 lines part).0 i) in
+    let p = (sendings_are_heard reads pages r 7200 0 frames part (all_sent r 240 0 xs (in_slots r 0 items all)) (all_apart 240 0 xs (omega arith))).0 there in
+    let q = repeated_part 240 xs part (omega arith) p in
+    (q.0, back q.0 (contains_from_In (slots_parts 0 xs) q.0 q.1), q.2)
 
 pub returns : goal.returns
 returns c =
@@ -84,4 +115,7 @@ returns c =
       window = window_is;
       items = λ r items all. items_are lines reads r items all;
       parts = λ r items part all. parts_are lines reads pages c.lines_yield_what_is_heard.ensures.parts r items part all;
+      repeats = λ r items lines_of part all repeats i. repeats_are reads pages c.lines_yield_what_is_heard.ensures.parts r items lines_of part all
+          (items_are lines reads r items all)
+          (λ q j. (parts_are lines reads pages c.lines_yield_what_is_heard.ensures.parts r items q all).1 j) repeats i;
     }
