@@ -70,7 +70,7 @@ module _ (laws : HalfLaws) (w : ℕ) where
   nothing_heard : (half : StampedHalf) → IsHalfHeard w [] half → ⊥
   nothing_heard half h = in_middle h.accepted.before h.accepted.after [] _ h.accepted.place
 
-  knows_nothing : Knows w [] nothing_known
+  pub knows_nothing : Knows w [] nothing_known
   knows_nothing = record {
     greatest = refl;
     halves_to = λ half h. absurd (in_from_contains [] half h);

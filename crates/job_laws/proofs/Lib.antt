@@ -12,6 +12,7 @@ mod Conversions
 mod SameTexts
 mod Headers
 mod Jobs
+mod Refusals
 mod SaidRanges
 mod LogTexts
 mod LogBegins

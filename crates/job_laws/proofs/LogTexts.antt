@@ -1,7 +1,5 @@
 -- The lines of a log's subframes and pages are the texts of their items.
-use Rattle.std.proofs.Common.{◌≡◌, ℕ, ◌-◌, ◌*◌}
-use Rattle.std.proofs.Common.{List, [], ◌∷◌, ◌++◌, length, refl, sym, ap, ◌∙◌}
-use Rattle.std.proofs.Common.{append-nil, append_assoc}
+use Rattle.std.proofs.Common.{◌≡◌, ℕ, ◌-◌, ◌*◌, List, [], ◌∷◌, ◌++◌, refl, sym, ap, ◌∙◌, append-nil, append_assoc}
 use Rattle.std.specs.Prelude.{Option, Some, None}
 use Rattle.nav_eph.specs.Satellite.{Satellite}
 use Rattle.nav_eph.specs.declared.signal.Signal.{Signal}
@@ -14,8 +12,7 @@ use Rattle.receiver_messages.specs.declared.said.Reason.{Reason}
 use Rattle.receiver_log.specs.declared.reception.Reception.{Reception}
 use Rattle.receiver_log.specs.declared.state.LogState.{LogState}
 use Rattle.receiver_log.specs.Capture.{given, lines_from}
-use Rattle.receiver_log.specs.Log.{LinesGiven, given_at, page_in, reason_in}
-use Rattle.receiver_log.specs.Log.{subframe_in, week_of}
+use Rattle.receiver_log.specs.Log.{LinesGiven, given_at, page_in, reason_in, subframe_in, week_of}
 use Rattle.job_laws.specs.LogItems.{items_at, items_of_log}
 
 -- ---- lists

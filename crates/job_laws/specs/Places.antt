@@ -1,8 +1,14 @@
--- Which lines are late or malformed, stated by each item and those before it.
-use Rattle.std.specs.Prelude.{◌≡◌, ℕ, ◌+◌, List, ◌∷◌, ◌++◌, length, Some}
+-- Which lines are late, malformed or refused, stated by each item and those before it.
+use Rattle.std.specs.Prelude.{◌≡◌, ◌≤◌, ◌⊎◌, ℕ, ◌+◌, List, [], ◌∷◌, ◌++◌, length, Contains, Some}
+use Rattle.inav_page.specs.Heard.{IsHeard}
 use Rattle.capture_lines.specs.Late.{stamp_of, IsLate}
 use Rattle.capture_lines.specs.declared.item.LineItem.{LineItem}
 use Rattle.capture_lines.specs.declared.item.LineItem.TheVariants.{Malformed}
+use Rattle.capture_log.specs.Heard.{IsHalfHeard}
+use Rattle.capture_log.specs.Log.{Noted}
+use Rattle.capture_log.specs.declared.event.Event.TheVariants.{Refused}
+use Rattle.capture_log.specs.declared.event.Refusal.{Refusal}
+use Rattle.job_laws.specs.Counted.{Pair, own_events, pair_events}
 
 -- the item with this number, where the first item has the number `first`
 pub record IsAt (first : ℕ) (items : List LineItem) (number : ℕ) (item : LineItem) : Type 0 where
@@ -22,3 +28,20 @@ pub record IsLateLine (window first : ℕ) (items : List LineItem) (number : ℕ
 -- the item with this number is malformed
 abbrev pub IsMalformedLine : ℕ → List LineItem → ℕ → Type 0
 IsMalformedLine first items number = IsAt first items number Malformed
+
+-- the item completes the word of two page parts: both are received with it, and not both without it
+pub record IsCompletedBy (window : ℕ) (before : List LineItem) (item : LineItem) (word : Pair) : Type 0 where
+  pub with_it : IsHeard (IsHalfHeard window (before ++ item ∷ [])) word.even word.odd
+  pub not_before : IsHeard (IsHalfHeard window before) word.even word.odd → ⊥
+
+-- The item with this number is refused for this reason: its own subframe or frame is, as it is not late, or a word that it completes.
+pub record IsRefusedLine (window first : ℕ) (items : List LineItem) (number : ℕ) (reason : Refusal) : Type 0 where
+  pub item : LineItem
+  pub at : IsAt first items number item
+  pub refused : Contains (own_events window at.before item) (Refused reason)
+      ⊎ ((word : Pair) × IsCompletedBy window at.before item word × Contains (pair_events word) (Refused reason))
+
+-- the events are in the order of their lines, the first of which has at least this number
+abbrev pub InLineOrder : ℕ → List Noted → Type 0
+InLineOrder first [] = Unit {0}
+InLineOrder first (x ∷ xs) = (first ≤ x.line) × InLineOrder x.line xs

@@ -6,8 +6,9 @@ ghost use Rattle.capture_lines.specs.declared.item.LineItem.{LineItem};
 ghost use Rattle.capture_log.specs.Events.{nothing_known};
 ghost use Rattle.capture_log.specs.Log.{log_from};
 ghost use Rattle.capture_log.specs.declared.event.Event.{Event};
-ghost use Rattle.capture_log.specs.declared.event.Event.TheVariants.{Late, Malformed};
-ghost use Rattle.job_laws.specs.Places.{IsLateLine, IsMalformedLine};
+ghost use Rattle.capture_log.specs.declared.event.Event.TheVariants.{Late, Malformed, Refused};
+ghost use Rattle.capture_log.specs.declared.event.Refusal.{Refusal};
+ghost use Rattle.job_laws.specs.Places.{InLineOrder, IsLateLine, IsMalformedLine, IsRefusedLine};
 ghost use Rattle.job_laws.specs.Counted.{ArePairsHeard, Pair};
 ghost use Rattle.job_laws.specs.Counted.{own_weight, pairs_weight, weight_in};
 
@@ -51,4 +52,19 @@ pub fn events_are_counted()
     inav_page::words_are_the_function();
     capture_lines::late_is_behind_the_greatest_stamp();
     pairs_are_counted_once();
+}
+
+/// The log has a line as refused for a reason exactly where its own subframe or frame is refused for
+/// it, or a word that its page part completes; and the log is in the order of the lines.
+pub fn refused_lines_are_told()
+    ensures refused { (window first : ℕ) (items : List LineItem) (number : ℕ) (reason : Refusal)
+        → Contains (log_from window nothing_known first items)
+        (record { line = number; event = Refused reason })
+        ↔ IsRefusedLine window first items number reason }
+    ensures order { (window first : ℕ) (items : List LineItem)
+        → InLineOrder first (log_from window nothing_known first items) }
+{
+    inav_page::halves_are_decided();
+    inav_page::words_are_the_function();
+    capture_lines::late_is_behind_the_greatest_stamp();
 }

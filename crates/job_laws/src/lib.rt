@@ -15,7 +15,9 @@
 //!   by more than the window;
 //! - [`events_are_counted`]: a count is the sum over each line alone and over each word received,
 //!   once;
-//! - [`pairs_are_counted_once`]: the order in which the words received are listed does not matter.
+//! - [`pairs_are_counted_once`]: the order in which the words received are listed does not matter;
+//! - [`refused_lines_are_told`]: a line is refused for a reason exactly where its subframe or frame
+//!   is, or a word that it completes; and the log is in the order of the lines.
 //!
 //! Of a conversion of a capture:
 //!
@@ -39,7 +41,9 @@ mod forms;
 mod laws;
 mod logs;
 
-pub use crate::counted::{events_are_counted, late_lines_are_told, pairs_are_counted_once};
+pub use crate::counted::{
+    events_are_counted, late_lines_are_told, pairs_are_counted_once, refused_lines_are_told,
+};
 pub use crate::forms::accepted_bytes_tell_their_form;
 pub use crate::laws::{
     converted_captures_come_back, counts_are_of_lines_and_words, order_of_lines_changes_no_text,
