@@ -59,3 +59,8 @@ pub record IsFramed (c : Capture) (text : List ℕ) : Type 0 where
   pub text_is : text ≡ flat_map rtcm_item (items_in periods)
   pub frames_are : frames text ≡ map rtcm_item (ephemerides (items_in periods))
   pub messages : AreSent (items_in periods)
+
+-- the RINEX text of the items reads back as them, and the RTCM message of each ephemeris as it
+pub record ComeBack (header : HeaderWords) (items : List NavItem) : Type 0 where
+  pub back : rinex_list (rinex_text header items) ≡ items
+  pub messages : AreSent items

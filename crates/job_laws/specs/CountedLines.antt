@@ -1,9 +1,12 @@
--- The counts of a capture, stated by all of its lines and each I/NAV word received.
+-- The counts of a capture, stated by all of its lines and each I/NAV word received, and by the periods of the parts received.
 use Rattle.std.specs.Prelude.{◌≡◌, ℕ, ◌+◌, List, [], length}
+use Rattle.periods.specs.PeriodLists.{items_in}
+use Rattle.periods.specs.declared.closed.Closed.{Closed}
+use Rattle.outlets.specs.Times.{times_of}
 use Rattle.capture_log.specs.Log.{line_items_of}
 use Rattle.capture_log.specs.declared.event.Event.{Event}
 use Rattle.job_laws.specs.Counted.{Pair, own_weight, pairs_weight}
-use Rattle.captures.specs.Captures.{Capture}
+use Rattle.captures.specs.Captures.{Capture, is_again, is_contradicted, is_nohealth, is_partial, is_whole, verdicts}
 use Rattle.captures.specs.Reports.{is_late, is_malformed, is_refused_event, is_unused}
 use Rattle.captures.specs.declared.counts.CaptureCounts.{CaptureCounts}
 
@@ -18,3 +21,12 @@ pub record CountLines (c : Capture) (pairs : List Pair) (counts : CaptureCounts)
   pub late : counts.late ≡ of_kind is_late c pairs
   pub refused : counts.refused ≡ of_kind is_refused_event c pairs
   pub unused : counts.unused ≡ of_kind is_unused c pairs
+
+-- each count is the number of periods with its verdict; the times are those of the items of the whole ones
+pub record CountPeriods (periods : List Closed) (counts : CaptureCounts) : Type 0 where
+  pub whole : counts.whole ≡ verdicts is_whole periods
+  pub partial : counts.partial ≡ verdicts is_partial periods
+  pub contradicted : counts.contradicted ≡ verdicts is_contradicted periods
+  pub nohealth : counts.nohealth ≡ verdicts is_nohealth periods
+  pub again : counts.again ≡ verdicts is_again periods
+  pub times : counts.times ≡ times_of (items_in periods)

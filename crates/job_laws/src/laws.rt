@@ -2,19 +2,24 @@
 
 ghost use Rattle.std.specs.Prelude.{◌≡◌, ◌↔◌, ℕ, List, Contains, Option, Some, IfSome};
 ghost use Rattle.nav_io.specs.Lines.{Line};
+ghost use Rattle.capture_lines.specs.declared.item.LineItem.{LineItem};
+ghost use Rattle.periods.specs.PeriodLists.{ArePeriods, items_in};
+ghost use Rattle.periods.specs.declared.closed.Closed.{Closed};
 ghost use Rattle.gnss_week.specs.Weeks.{IsReference};
 ghost use Rattle.rinex_write.specs.Texts.{IsHeader};
 ghost use Rattle.rinex_write.specs.declared.words.HeaderWords.{HeaderWords};
 ghost use Rattle.outlets.specs.declared.target.Target.TheVariants as targets;
-ghost use Rattle.capture_log.specs.Heard.{SameItems};
+ghost use Rattle.capture_log.specs.Heard.{IsPartHeard, SameItems};
 ghost use Rattle.capture_log.specs.Log.{line_items_of};
 ghost use Rattle.job_laws.specs.Counted.{ArePairsHeard, Pair};
 ghost use Rattle.captures.specs.Captures.{Capture, capture_meaning, capture_of, counts_of};
 ghost use Rattle.captures.specs.Captures.{output_of};
 ghost use Rattle.captures.specs.declared.target.CaptureTo.{CaptureTo};
 ghost use Rattle.captures.specs.declared.target.CaptureTo.TheVariants.{Rinex, Rinex3, Rtcm};
-ghost use Rattle.job_laws.specs.Converted.{IsConverted, IsConverted3, IsFramed};
-ghost use Rattle.job_laws.specs.CountedLines.{CountLines};
+ghost use Rattle.bridge_engine.specs.CaptureBytes.{IsCapture, StandFor};
+ghost use Rattle.job_laws.specs.Converted.{ArePeriodsHeard, ComeBack, IsConverted, IsConverted3};
+ghost use Rattle.job_laws.specs.Converted.{IsFramed};
+ghost use Rattle.job_laws.specs.CountedLines.{CountLines, CountPeriods};
 ghost use Rattle.job_laws.specs.SayTheSame.{IsOfPeriods, SayTheSame};
 ghost use Rattle.job_laws.specs.Written.{ConvertCapture, IsWritten};
 
@@ -47,6 +52,15 @@ pub fn counts_are_of_lines_and_words()
         → CountLines c pairs (counts_of c) }
 {
     crate::counted::events_are_counted();
+}
+
+/// Each other count is the number of periods with its verdict, in the list of exactly the periods
+/// of the parts received.
+pub fn counts_are_of_periods()
+    ensures { (c : Capture) (periods : List Closed) → ArePeriodsHeard c periods
+        → CountPeriods periods (counts_of c) }
+{
+    capture_log::lines_yield_what_is_heard();
 }
 
 /// The output for a capture is the text of the items of the periods of the parts received, and
@@ -89,5 +103,22 @@ pub fn what_is_converted_comes_back()
         → capture_of week bytes ≡ Some c → IsWritten words bytes text → IsFramed c text }
 {
     bridge_engine::words_give_one_job();
+    converted_captures_come_back();
+}
+
+/// The same of what the clause `headline` of `bridge` speaks of, stated by its relations: whatever
+/// the capture, the items of its lines and the list of the periods of the parts received in them,
+/// the RINEX text of the items of these periods reads back as these items, and the message of each
+/// ephemeris as it.
+pub fn what_the_main_theorem_states_comes_back()
+    ensures { (words : List (List ℕ)) (week : Option ℕ) (header : HeaderWords) (bytes : List ℕ)
+        (capture : Capture) (items : List LineItem) (periods : List Closed)
+        → ConvertCapture words (Rinex header) week
+        → IsCapture week bytes capture → StandFor capture.lines items
+        → ArePeriods capture.week capture.window (IsPartHeard capture.window items) periods
+        → ComeBack header (items_in periods) }
+{
+    bridge_engine::captures_are_told();
+    capture_log::lines_yield_what_is_heard();
     converted_captures_come_back();
 }

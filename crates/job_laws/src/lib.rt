@@ -23,10 +23,11 @@
 //!
 //! - [`converted_captures_come_back`]: the text is that of the items of the periods of the parts
 //!   received, and reads back as these items; [`what_is_converted_comes_back`] says so of the words
-//!   of a command line;
+//!   of a command line, and [`what_the_main_theorem_states_comes_back`] of the relations in the
+//!   contract of `bridge`;
 //! - [`order_of_lines_changes_no_text`]: the same lines in another order give the same output;
-//! - [`counts_are_of_lines_and_words`]: each count is a number of events of lines and words
-//!   received.
+//! - [`counts_are_of_lines_and_words`] and [`counts_are_of_periods`]: each count is a number of
+//!   events of lines and words received, or of periods of the parts received.
 //!
 //! Of the log of a receiver (`receiver_log`) and its capture:
 //!
@@ -46,8 +47,9 @@ pub use crate::counted::{
 };
 pub use crate::forms::accepted_bytes_tell_their_form;
 pub use crate::laws::{
-    converted_captures_come_back, counts_are_of_lines_and_words, order_of_lines_changes_no_text,
-    what_is_converted_comes_back,
+    converted_captures_come_back, counts_are_of_lines_and_words, counts_are_of_periods,
+    order_of_lines_changes_no_text, what_is_converted_comes_back,
+    what_the_main_theorem_states_comes_back,
 };
 pub use crate::logs::{
     a_heard_log_is_a_capture, a_log_is_converted_through_its_capture,
