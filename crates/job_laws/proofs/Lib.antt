@@ -13,6 +13,7 @@ mod SameTexts
 mod Headers
 mod Jobs
 mod Refusals
+mod RoundTrips
 mod SaidRanges
 mod LogTexts
 mod LogBegins

@@ -4,6 +4,7 @@ pub mod Converted
 pub mod SayTheSame
 pub mod CountedLines
 pub mod Written
+pub mod RoundTrip
 pub mod LogItems
 pub mod LogHeard
 pub mod LogTaken

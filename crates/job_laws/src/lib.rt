@@ -29,6 +29,11 @@
 //! - [`counts_are_of_lines_and_words`] and [`counts_are_of_periods`]: each count is a number of
 //!   events of lines and words received, or of periods of the parts received.
 //!
+//! Of a navigation file that is written as a capture:
+//!
+//! - [`a_sent_file_comes_back`]: what is received of the capture is converted back to the text of
+//!   the items that were sent.
+//!
 //! Of the log of a receiver (`receiver_log`) and its capture:
 //!
 //! - [`a_log_is_heard_through_its_capture`]: the parts received from the capture are those that the
@@ -41,6 +46,7 @@ mod counted;
 mod forms;
 mod laws;
 mod logs;
+mod round_trip;
 
 pub use crate::counted::{
     events_are_counted, late_lines_are_told, pairs_are_counted_once, refused_lines_are_told,
@@ -55,3 +61,4 @@ pub use crate::logs::{
     a_heard_log_is_a_capture, a_log_is_converted_through_its_capture,
     a_log_is_heard_through_its_capture,
 };
+pub use crate::round_trip::a_sent_file_comes_back;
