@@ -326,11 +326,13 @@ def statuses(_):
     """Of each man page the list of exit statuses; the numbers must be those of the sources."""
     engine = set(re.findall(r"Status::\w+ => (\d+),", read(holder(r"Status::Done => 0,"))))
     front = set(re.findall(r" => (\d+),", found_in(holder(r"pub fn status\(&self\) -> u8"), r"(pub fn status\(.*?\n    \}\n)")))
+    # of files that are only checked
+    checked = set(re.findall(r"if self\.count\.get\(\) > 0 \{ (\d) \} else \{ (\d) \}", read("crates/navconvert/src/rejections.rt"))[0])
     pages = {
         "navbridge": ("docs/navbridge.1", engine),
         # a log has no first line that could be rejected, and an argument is compared as bytes
         "navlog": ("docs/navlog.1", engine - {"5", "9"}),
-        "navconvert": ("docs/navconvert.1", front | {"0"}),
+        "navconvert": ("docs/navconvert.1", front | checked),
         "merge_archive": ("docs/merge_archive.1", help_numbers("examples/merge_archive.py", r"\nExit status: (.*?)\n\"")),
         "navreport": ("docs/navreport.1", help_numbers("examples/report/command.py", r"\nExit status: (.*?)\n\"")),
         "navbridge-station": ("examples/station/navbridge-station.1", help_numbers("examples/station/navbridge-station", r"# Exit status of run: (.*?)\. Of record")),

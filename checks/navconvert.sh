@@ -91,7 +91,7 @@ rm in/STAT00CCC_R_20233650200_01H_MN.rnx
 input=station.navcap run "a long name for standard input" 0 "in/STAT00CCC_R_20233650200_01H_MN.rnx: 2 ephemerides" "${date[@]}" --long-name STAT00CCC -o in -
 is_same "a long name for standard input" in/STAT00CCC_R_20233650200_01H_MN.rnx "$examples/station.rnx"
 rm in/STAT00CCC_R_20233650200_01H_MN.rnx
-run "a long name on standard output" 2 "--long-name names" --long-name STAT00CCC -o - station.navcap
+run "a long name on standard output" 2 "--long-name needs" --long-name STAT00CCC -o - station.navcap
 run "what would be done" 0 - -n "${date[@]}" -o d.rnx log.ubx
 grep -qF "navlog --from ubx < 'log.ubx' | navbridge '--from=capture' '--to=rinex'" out || differs "what would be done" "$(cat out)"
 is_gone "what would be done" d.rnx
@@ -125,7 +125,7 @@ run "a report of several files" 0 "kept.list" -t list --overwrite --report r.sev
 { echo "file station.navcap"; cat "$examples/station.report"; echo "file kept.navcap"; cat "$examples/station.report"; } > r.expected
 is_same "a report of several files" r.several r.expected
 rm kept.list station.list
-run "a report that is the input" 4 "kept.navcap is an input itself" -t list --overwrite --report kept.navcap kept.navcap
+run "a report that is the input" 4 "kept.navcap is an input; name the output with -o" -t list --overwrite --report kept.navcap kept.navcap
 is_same "a report that is the input" kept.navcap station.navcap
 run "a report that is the output" 4 "both.rnx is the report" --report both.rnx -o both.rnx station.navcap
 is_gone "a report that is the output" both.rnx
@@ -138,12 +138,70 @@ is_gone "a report that is the output in a folder" out.d/kept.list
 echo old > both.rnx
 run "a report that is the output, and there" 4 "both.rnx is the report" --overwrite --report both.rnx -o ./both.rnx station.navcap
 [ "$(cat both.rnx)" = old ] || differs "a report that is the output, and there" "it was changed"
-run "a report to standard output" 4 "- is no file" -t list --report - kept.navcap
+run "a report to standard output" 4 "- is not a regular file" -t list --report - kept.navcap
 is_gone "a report to standard output" ./-
 run "help" 0 - --help
 grep -q -- --overwrite out || differs "help" "no option"
 run "version" 0 - --version
 run "forms" 0 - --list-forms
+cat > formats.py << 'END'
+# Whether the help, the completion, the man page and the README have the formats and conversions of --list-forms.
+import re, sys
+top, listed, help_text = sys.argv[1], open("out").read(), open("help").read()
+of = {line.split()[0]: set(line[47:].split(", ")) for line in listed.splitlines()}
+made = set().union(*of.values())
+page = lambda name: open(f"{top}/{name}").read()
+man, completion, readme = page("docs/navconvert.1"), page("packaging/navconvert.bash"), page("README.md")
+values = [it.split(", ") for it in re.findall(r"possible values: ([^]]*)", help_text)]
+columns = re.search(r"^\|From, to\|(.*)\|$", readme, re.M)[1].replace("`", "").split("|")
+rows = {"u-blox or Septentrio log": ("ubx", "sbf"), "RTCM 3 stream": ("stream",), "RINEX 4": ("rinex",), "RINEX 3.02 to 3.05": ("rinex3",), "capture": ("capture",)}
+for what, found, wanted in [
+    ("--help, --from", set(values[0]), {"auto", *of}),
+    ("--help, --to", set(values[1]), made),
+    ("completion, --from", set(re.search(r"--from\) words='([^']*)", completion)[1].split()), {"auto", *of}),
+    ("completion, --to", set(re.search(r"--to\) words='([^']*)", completion)[1].split()), made),
+    ("man page, --from", set(re.search(r"Fl f , -from.*?\n\.Cm ([^\n]*) ,\n", man, re.S)[1].split(" , ")), set(of)),
+    ("man page, --to", set(re.findall(r"^\.It Cm (\w+)$", re.search(r"Fl t , -to.*?\n\.El", man, re.S)[0], re.M)), made),
+    *((f"README, {label}", {to for to, mark in zip(columns, re.search(rf"^\|{label}\|(.*)\|$", readme, re.M)[1].split("|")) if mark},
+       # navbridge merges RINEX 4 alone
+       of[name] - ({"merged", "cover"} if name == "rinex3" else set())) for label, names in rows.items() for name in names),
+]:
+    if found != wanted:
+        print(f"{what}: {' '.join(sorted(found))}; --list-forms: {' '.join(sorted(wanted))}")
+END
+"$navconvert" --help > help
+tried=$((tried + 1))
+python3 formats.py "$top" > said
+[ ! -s said ] || differs "the list of formats" "pages have others"
+
+# ---- what is checked, and printed as JSON
+sed -n 's/^\(line [0-9]*\) \([a-z].*\)/station.navcap: \1: \2/p' "$examples/station.report" > check.expected
+run "a check" 1 "station.navcap: 2 ephemerides, 2 ionosphere records; 2 lines rejected, 1 line malformed, 1 line late" --check station.navcap
+is_same "a check" out check.expected
+run "a check, in quiet" 1 - --check -q station.navcap
+[ ! -s out ] || differs "a check, in quiet" "it prints something"
+run "a check of a correct log" 0 "log.ubx: 2 ephemerides, 1 ionosphere record; nothing rejected" --check log.ubx
+run "a check of several files" 1 "log.ubx: 2 ephem" --check -o checked.rnx station.navcap log.ubx
+is_gone "a check" checked.rnx
+cat > objects.py << 'END'
+import json, sys
+lines = [json.loads(line, object_pairs_hook=lambda pairs: [*map(dict, [pairs]), 1 / (len(pairs) == len(dict(pairs)))][0]) for line in open(sys.argv[1], encoding="utf-8")]
+print(json.dumps(lines if len(sys.argv) < 3 else [[it.get(key) for key in sys.argv[2].split(",")] for it in lines], ensure_ascii=True))
+END
+# What it is, the file, the keys, their values
+has() {
+  tried=$((tried + 1))
+  python3 objects.py "$2" "$3" > found 2>&1
+  [ "$(cat found)" = "$4" ] || { cp found said; differs "$1" "not $4"; }
+}
+quoted=$(printf 'q"\\\t\377\001\303\274.navcap')
+run "objects of a check" 1 - --check --json station.navcap log.ubx none.navcap "$quoted"
+has "objects of a check" out file,status,error,output,made,malformed '[["station.navcap", 1, null, null, 4, 1], ["log.ubx", 0, null, null, 3, 0], ["none.navcap", 3, "there is no such file", null, null, null], ["q\"\\\t\ufffd\u0001\u00fc.navcap", 9, "its name is not UTF-8; navconvert -o OUT - < FILE reads it", null, null, null]]'
+has "rejections" out rejections '[[[{"unit": "line", "number": 48, "reason": "parity 3"}, {"unit": "line", "number": 159, "reason": "parity 3"}, {"unit": "line", "number": 403, "reason": "malformed"}, {"unit": "line", "number": 1122, "reason": "late"}]], [[]], [[]], [[]]]'
+run "objects of conversions" 0 - --json "${date[@]}" -o json.rnx station.navcap
+has "objects of conversions" out file,status,format,output,ephemerides,ionospheres,rejected,late,skipped,clock_week,rejections '[["station.navcap", 0, "capture", "json.rnx", 2, 2, 2, 1, 0, null, null]]'
+run "an object beside an output" 0 '"format":"capture","output":null,' --json -t list -o - station.navcap
+is_same "an object beside an output" out "$examples/station.list"
 
 # ---- what is skipped
 cp "$examples/rtklib_style.nav" .
@@ -222,7 +280,7 @@ run "a name with control characters" 3 'a\x1b[31m\x0ab.navcap: there is no such 
 cp station.navcap "$esc"
 run "a name with control characters, which is there" 0 'a\x1b[31m\x0ab.list: made of' -t list "$esc"
 run "a word with control characters" 2 '--a\x1b[31m' "$(printf -- '--a\033[31m')"
-run "an empty name" 3 "navconvert: '': the name of a file is empty" ""
+run "an empty name" 3 "navconvert: '': the file name is empty" ""
 tried=$((tried + 1)) got=0
 "$navconvert" -t list - <&- > out 2> said || got=$?
 [ "$got" = 3 ] || differs "standard input that is closed" "status $got, not 3"
@@ -246,8 +304,8 @@ run "precise orbits" 2 "it is a file of SP3, of precise orbits; it has no orbits
 
 # ---- what is refused
 run "no such file" 3 "none.navcap: there is no such file" none.navcap
-run "a folder" 3 "in: it is a folder" in
-input=in run "a read that fails" 3 "reading it failed after 0 bytes: it is a folder" -t list -o broken.list -
+run "a folder" 3 "in: it is a directory" in
+input=in run "a read that fails" 3 "reading it failed after 0 bytes: it is a directory" -t list -o broken.list -
 is_gone "a read that fails" broken.list.navconvert.part
 cat > hang_up.py << 'END'
 import os, pty, subprocess, sys, tty
@@ -266,22 +324,22 @@ is_gone "a terminal that hangs up" broken.list
 if [ "$(id -u)" != 0 ]; then
   cp station.navcap hidden.navcap
   chmod 0 hidden.navcap
-  run "a file without leave" 3 "the system does not allow it" hidden.navcap
+  run "a file without leave" 3 "the system denies permission" hidden.navcap
   mkdir closed
   chmod 500 closed
-  run "a folder without leave" 4 "the system does not allow it" -o closed station.navcap
+  run "a folder without leave" 4 "the system denies permission" -o closed station.navcap
 fi
 echo old > there.rnx
-run "an output that is there" 4 "there.rnx is there already" -o there.rnx station.navcap
+run "an output that is there" 4 "there.rnx exists; --overwrite replaces it" -o there.rnx station.navcap
 [ "$(cat there.rnx)" = old ] || differs "an output that is there" "it was changed"
 run "an output that is replaced" 0 "there.rnx" "${date[@]}" --overwrite -o there.rnx station.navcap
 is_same "an output that is replaced" there.rnx "$examples/station.rnx"
-run "a device" 4 "/dev/null is no file" --overwrite -o /dev/null station.navcap
+run "a device" 4 "/dev/null is not a regular file" --overwrite -o /dev/null station.navcap
 run "a name that is too long" 4 "the name is too long" -o "$(printf 'x%.0s' {1..256})" station.navcap
 mkdir other same.d
 cp "$examples/three.navcap" other/station.navcap
 for it in "" --overwrite; do
-  run "two files of one name${it:+, with leave}" 4 "same.d/station.rnx was made of another file" ${it:+"$it"} "${date[@]}" -o same.d station.navcap other/station.navcap
+  run "two files of one name${it:+, with leave}" 4 "same.d/station.rnx is the output for another input" ${it:+"$it"} "${date[@]}" -o same.d station.navcap other/station.navcap
   is_same "two files of one name${it:+, with leave}" same.d/station.rnx "$examples/station.rnx"
   rm same.d/station.rnx
 done
@@ -293,38 +351,38 @@ is_gone "a part that no run holds" part.rnx.navconvert.part
 [ "$(cat part.rnx.part)" = half ] || differs "a file of another program" "it was changed"
 rm part.rnx
 mkdir part.rnx.navconvert.part
-run "a folder in the place of a part" 4 "part.rnx.navconvert.part is there" -o part.rnx station.navcap
+run "a folder in the place of a part" 4 "part.rnx.navconvert.part exists" -o part.rnx station.navcap
 rmdir part.rnx.navconvert.part
-run "the input as output" 4 "station.navcap is an input itself" --overwrite -o station.navcap station.navcap
+run "the input as output" 4 "station.navcap is an input; name the output with -o" --overwrite -o station.navcap station.navcap
 is_same "the input as output" station.navcap "$examples/station.navcap"
 ln station.navcap twin.navcap
-run "the input as output, by a link" 4 "is an input itself" --overwrite -o twin.navcap station.navcap
+run "the input as output, by a link" 4 "is an input; name the output with -o" --overwrite -o twin.navcap station.navcap
 cp station.navcap fed
-input=fed run "standard input as output" 4 "fed is an input itself" --overwrite -t list -o fed -
+input=fed run "standard input as output" 4 "fed is an input; name the output with -o" --overwrite -t list -o fed -
 is_same "standard input as output" fed station.navcap
-input=fed run "a report that is standard input" 4 "fed is an input itself" --overwrite -t list -o - --report fed -
+input=fed run "a report that is standard input" 4 "fed is an input; name the output with -o" --overwrite -t list -o - --report fed -
 is_same "a report that is standard input" fed station.navcap
 cp station.navcap later.navcap
 cp version3.nav later.rnx
-run "another input as output" 4 "later.rnx is an input itself" --overwrite later.navcap later.rnx
+run "another input as output" 4 "later.rnx is an input; name the output with -o" --overwrite later.navcap later.rnx
 is_same "another input as output" later.rnx version3.nav
-run "the command where an input is the output" 4 "later.rnx is an input itself" -n --overwrite -o later.rnx later.rnx
+run "the command where an input is the output" 4 "later.rnx is an input; name the output with -o" -n --overwrite -o later.rnx later.rnx
 for it in none.d/none kept.navcap; do
   ln -sf "$it" link
-  run "an output that is a link" 4 "link is no file" -o link station.navcap
-  run "an output that is a link, with leave" 4 "link is no file" --overwrite -o link station.navcap
+  run "an output that is a link" 4 "link is not a regular file" -o link station.navcap
+  run "an output that is a link, with leave" 4 "link is not a regular file" --overwrite -o link station.navcap
   [ -L link ] || differs "an output that is a link" "it is none now"
 done
 is_same "an output that is a link" kept.navcap station.navcap
 tried=$((tried + 1))
 "$navconvert" --overwrite --report ./shared -t list -o - station.navcap > shared 2> said && differs "a report that is standard output" "status 0"
 grep -qF "shared is the report" said || differs "a report that is standard output" "$(cat said)"
-run "a report that is a folder" 4 "it is a folder" --report in -o r.rnx station.navcap
+run "a report that is a folder" 4 "it is a directory" --report in -o r.rnx station.navcap
 run "no conversion" 2 "that converts to" -t frames station.navcap
 : > empty
 run "an empty file" 2 "an empty file" empty
 echo text > text
-run "no form" 2 "name its form by --from" text
+run "no form" 2 "name its format with --from" text
 gzip -c station.navcap > station.navcap.gz
 run "packed" 2 "gzip -dc" station.navcap.gz
 run "a wrong date" 2 "write it as" --date 2024-01-01 -o d.rnx station.navcap
@@ -332,8 +390,8 @@ run "a wrong week" 2 "1024" --week 5 -o d.rnx station.navcap
 run "another week" 5 "another week" --week 2294 -o d.rnx station.navcap
 run "a misspelt option" 2 "--overwrite" --overwrit station.navcap
 run "a misspelt form" 2 "rinex" -t rinx station.navcap
-run "no file" 2 "no file is named" -q
-run "several files to one" 2 "name a folder" -o one.rnx station.navcap log.ubx
+run "no file" 2 "no input file" -q
+run "several files to one" 2 "name an existing directory" -o one.rnx station.navcap log.ubx
 is_gone "what was refused" d.rnx
 run "several, of which one is missing" 3 "none: there is no such file" -t list -o out.d station.navcap none log.ubx
 is_same "several, of which one is missing" out.d/log.list "$examples/log.list"
@@ -385,7 +443,7 @@ job=$!
 exec 9> slow
 head -c 1000 station.navcap >&9
 for ((i = 0; i < 100; i++)); do [ ! -e c.list.navconvert.part ] || break; sleep 0.1; done
-run "a run beside it" 4 "c.list.navconvert.part is there: another run is writing it" -t list -o c.list station.navcap
+run "a run beside it" 4 "c.list.navconvert.part exists: another run is writing it" -t list -o c.list station.navcap
 run "a run beside it, with leave" 4 "another run is writing it" --overwrite -t list -o c.list station.navcap
 kill -TERM "$job"
 exec 9>&-

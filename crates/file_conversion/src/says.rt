@@ -135,8 +135,8 @@ pub fn kind_text(kind: Kind) -> &'static str
         Kind::Rinex3 => "a navigation file of RINEX 3",
         Kind::Rinex2 => "a navigation file of RINEX 2",
         Kind::Observations => "an observation file of RINEX",
-        Kind::Hatanaka => "an observation file in Hatanaka's compact form",
-        Kind::OtherRinex => "a file of RINEX, and no navigation file of version 3 or 4",
+        Kind::Hatanaka => "an observation file in Hatanaka's compact format",
+        Kind::OtherRinex => "a RINEX file, but no navigation file of version 3 or 4",
         Kind::Stream => "an RTCM 3 stream",
         Kind::Ubx => "a receiver's log of UBX messages",
         Kind::Sbf => "a receiver's log of SBF blocks",
@@ -145,7 +145,7 @@ pub fn kind_text(kind: Kind) -> &'static str
         Kind::Compress => "packed by compress",
         Kind::Zip => "an archive of zip",
         Kind::Marked => "a text with a byte order mark in front",
-        Kind::Unknown => "of no form that is known",
+        Kind::Unknown => "of no known format",
     }
 }
 
@@ -154,12 +154,12 @@ fn advice_of(kind: Kind) -> &'static str {
     match kind {
         Kind::Rinex2 => "only versions 3 and 4 are read",
         Kind::Observations | Kind::Hatanaka | Kind::OtherRinex => "it has no orbits to convert",
-        Kind::Nmea => "name the form by --from where it has UBX messages or SBF blocks too",
+        Kind::Nmea => "if it has UBX messages or SBF blocks too, name the format with --from",
         Kind::Gzip | Kind::Compress => "unpack it: gzip -dc FILE | navconvert -o OUT -",
         Kind::Zip => "unpack it: unzip -p FILE | navconvert -o OUT -",
-        Kind::Marked => "take its first three bytes away: tail -c +4 FILE | navconvert -o OUT -",
+        Kind::Marked => "remove its first three bytes: tail -c +4 FILE | navconvert -o OUT -",
         Kind::Empty => "there is nothing to convert",
-        Kind::Unknown => "name its form by --from, as --list-forms has it",
+        Kind::Unknown => "name its format with --from; --list-forms lists them",
         _ => "",
     }
 }
@@ -168,27 +168,27 @@ fn advice_of(kind: Kind) -> &'static str {
 fn fault_text(fault: FileFault) -> &'static str {
     match fault {
         FileFault::NotFound => "there is no such file",
-        FileFault::AlreadyThere => "there is a file of this name",
-        FileFault::NotAllowed => "the system does not allow it",
-        FileFault::IsFolder => "it is a folder; name the files in it",
-        FileFault::NoFolder => "a part of the path is no folder",
+        FileFault::AlreadyThere => "a file of this name exists",
+        FileFault::NotAllowed => "the system denies permission",
+        FileFault::IsFolder => "it is a directory; name the files in it",
+        FileFault::NoFolder => "a part of the path is not a directory",
         FileFault::DiskFull => "the disk is full",
-        FileFault::QuotaFull => "the quota is used up",
+        FileFault::QuotaFull => "the disk quota is exceeded",
         FileFault::TooLarge => "the file would be too large for its file system",
         FileFault::NameTooLong => "the name is too long for its file system",
-        FileFault::ReadOnly => "the file system can only be read",
-        FileFault::ReaderGone => "its reader has gone",
-        FileFault::NoMemory => "there was no memory",
-        FileFault::Other => "the system gives no reason that is known here",
+        FileFault::ReadOnly => "the file system is read-only",
+        FileFault::ReaderGone => "its reader exited",
+        FileFault::NoMemory => "out of memory",
+        FileFault::Other => "the system gives an unknown reason",
     }
 }
 
 // What is said of a file of this form whose first line or header is not accepted.
 fn header_text(kind: Kind) -> &'static str {
     match kind {
-        Kind::Capture1 => "its first line names no week; name it by --week",
+        Kind::Capture1 => "its first line names no week; name one with --week",
         Kind::Capture2 => "its first line names another week than --week",
-        Kind::Ubx | Kind::Sbf => "nothing in it has a time, or it is of another week than --week",
+        Kind::Ubx | Kind::Sbf => "no message in it has a time, or its week is another than --week",
         _ => "its header is not accepted",
     }
 }
@@ -203,35 +203,35 @@ impl Refusal<'_> {
             Refusal::Date(_) => "--date {}: write it as \"20240101 000000 UTC\"",
             Refusal::Week(_) => "--week {}: 1024 to 8191, in digits alone",
             Refusal::Leap(_) => "--leap {}: 0 to 99, in digits alone",
-            Refusal::NoName => "it has no name of a file; name the output by -o",
-            Refusal::NoFiles => "no file is named; - is standard input, --help says more",
-            Refusal::SeveralFiles(_) => "{} is one file; for several name a folder that is there",
+            Refusal::NoName => "it has no file name; name the output with -o",
+            Refusal::NoFiles => "no input file; - is standard input; see --help",
+            Refusal::SeveralFiles(_) => "{} is one file; for several inputs name an existing directory",
             Refusal::AmongFiles => "it can be read only once; name a file",
             Refusal::Site(_) => {
                 "--long-name {}: four capital letters or digits, two digits and a country, as BRDC00XXX"
             }
             Refusal::NoLongName => {
-                "--long-name names navigation files made of files, beside them or in a folder that is there"
+                "--long-name needs a navigation file as output, next to its input or in an existing directory"
             }
-            Refusal::NoTimes => "it has no ephemeris, by whose time it would be named",
+            Refusal::NoTimes => "it has no ephemeris, whose time a long name needs",
             Refusal::NotOpened(_) | Refusal::NotAccepted(_) => "",
             Refusal::Closed => "standard input is closed",
-            Refusal::EmptyName => "the name of a file is empty",
+            Refusal::EmptyName => "the file name is empty",
             Refusal::Rinex3From(_) => "line {} begins RINEX 3 in a file of RINEX 4; split it there",
             Refusal::Rinex4From(_) => "line {} begins RINEX 4 in a file of RINEX 3; split it there",
             Refusal::ReadFault(_, _) => "reading it failed after {} bytes: ",
-            Refusal::OutputThere(_) => "{} is there already; --overwrite replaces it",
-            Refusal::NoFile(_) => "{} is no file; -o - writes to standard output",
-            Refusal::MadeBefore(_) => "{} was made of another file just now; name the output by -o",
+            Refusal::OutputThere(_) => "{} exists; --overwrite replaces it",
+            Refusal::NoFile(_) => "{} is not a regular file; -o - writes to standard output",
+            Refusal::MadeBefore(_) => "{} is the output for another input; name the output with -o",
             Refusal::PartThere(_) => {
-                "{} is there: another run is writing it, or it is no file of navconvert"
+                "{} exists: another run is writing it, or it is not a file of navconvert"
             }
-            Refusal::SameFile(_) => "{} is an input itself; name the output by -o",
-            Refusal::SameReport(_) => "{} is the report; name the output by -o",
+            Refusal::SameFile(_) => "{} is an input; name the output with -o",
+            Refusal::SameReport(_) => "{} is the report; name the output with -o",
             Refusal::WriteFault(_, _) => "writing {} failed: ",
-            Refusal::NoMemory => "there was no memory",
+            Refusal::NoMemory => "out of memory",
             Refusal::ReportFault => "the report was not written",
-            Refusal::TooLong => "it has more than 4,294,967,295 bytes; cut it in parts",
+            Refusal::TooLong => "it has more than 4,294,967,295 bytes; split it",
             Refusal::Word(_) => "{} is not UTF-8, and cannot be the value of an option",
             Refusal::NotUtf8 => "its name is not UTF-8; navconvert -o OUT - < FILE reads it",
         }
@@ -274,8 +274,8 @@ impl Refusal<'_> {
     fn reason(&self) -> &'static str {
         match *self {
             Refusal::NoSuchConversion(kind) => advice_of(kind),
-            Refusal::WriteFault(_, FileFault::NotFound) => "its folder is not there",
-            Refusal::WriteFault(_, FileFault::IsFolder) => "it is a folder",
+            Refusal::WriteFault(_, FileFault::NotFound) => "its directory does not exist",
+            Refusal::WriteFault(_, FileFault::IsFolder) => "it is a directory",
             Refusal::NotOpened(fault)
             | Refusal::ReadFault(_, fault)
             | Refusal::WriteFault(_, fault) => fault_text(fault),
@@ -290,7 +290,7 @@ impl Refusal<'_> {
         match self {
             Refusal::WriteFault(_, FileFault::NotFound) => "",
             Refusal::WriteFault(name, _) if *name == STANDARD_OUTPUT => "",
-            Refusal::WriteFault(_, _) => "; it is as it was",
+            Refusal::WriteFault(_, _) => "; it is unchanged",
             _ => "",
         }
     }

@@ -58,6 +58,8 @@ option_rules forms targets =
     ∷ flag_rule (codes "overwrite") None
     ∷ flag_rule (codes "quiet") (Some 113)
     ∷ flag_rule (codes "dry-run") (Some 110)
+    ∷ flag_rule (codes "check") None
+    ∷ flag_rule (codes "json") None
     ∷ flag_rule (codes "list-forms") None
     ∷ []
 

@@ -2,7 +2,9 @@
 
 use crate::command::Asked;
 use crate::files::{Settings, are_joined, convert_file, convert_joined};
+use crate::forms::FormatList;
 use crate::outputs::{Output, output_of};
+use crate::rejections::Rejections;
 use crate::reports::{is_headed, report_of};
 use crate::staged::{Before, staged_of};
 use crate::taken::Known;
@@ -10,22 +12,15 @@ use crate::telling::{tell_file, tell_program};
 use crate::values::plan_of;
 use crate::words::is_broken;
 use file_conversion::{Plan, Refusal};
+use std::cell::Cell;
 use std::fs::File;
 use std::io::IsTerminal;
 use whole_file::Kind;
 
-// The forms, as they are listed.
-const FORMS: &str = "capture   what navlog makes: a line for each subframe, page part or frame
-stream    frames of RTCM 3
-rinex     a navigation file of RINEX 4
-rinex3    a navigation file of RINEX 3
-ubx       a log of a u-blox receiver
-sbf       a log of a Septentrio receiver";
-
 /// Does what is asked; the status.
 pub(crate) fn do_asked(rt: &HostRuntime, asked: &Asked) -> u8 {
     if asked.has("list-forms") {
-        return match println!(rt; "{FORMS}") {
+        return match print!(rt; "{FormatList}") {
             Ok(()) => 0,
             Err(_) => 4,
         };
@@ -42,7 +37,16 @@ pub(crate) fn do_asked(rt: &HostRuntime, asked: &Asked) -> u8 {
 // Does what is asked by this plan; the status.
 fn do_plan(rt: &HostRuntime, asked: &Asked, plan: Plan) -> u8 {
     match report_of(rt, asked) {
-        Ok(report) => convert_asked(rt, asked, plan, report.as_ref()),
+        Ok(report) => {
+            let rejections = Rejections {
+                rt,
+                is_check: asked.has("check"),
+                is_json: asked.has("json"),
+                is_quiet: asked.has("quiet"),
+                count: Cell::new(0),
+            };
+            convert_asked(rt, asked, plan, report.as_ref(), &rejections)
+        }
         Err(refusal) => tell_program(rt, &refusal),
     }
 }
@@ -53,7 +57,7 @@ fn refused<'a>(rt: &HostRuntime, asked: &Asked<'a>) -> Option<Refusal<'a>> {
         return Some(Refusal::NoFiles);
     };
     if let (Output::File(name), true) = (output_of(rt, asked), files.len() > 1) {
-        if !are_joined(asked.to(), files) {
+        if !asked.has("check") && !are_joined(asked.to(), files) {
             return Some(Refusal::SeveralFiles(name));
         }
     }
@@ -70,6 +74,7 @@ fn convert_asked<'x, 'a>(
     asked: &'x Asked<'a>,
     plan: Plan,
     report: Option<&'x File>,
+    rejections: &'x Rejections<'x>,
 ) -> u8 {
     let settings = Settings {
         rt,
@@ -78,10 +83,11 @@ fn convert_asked<'x, 'a>(
         before: Before::new(),
         output: output_of(rt, asked),
         report,
+        rejections,
         report_name: asked.value("report"),
         site: asked.value("long-name"),
         overwrites: asked.has("overwrite"),
-        quiet: asked.has("quiet"),
+        quiet: asked.has("quiet") && !asked.has("json"),
         dry: asked.has("dry-run"),
         metered: rt.stderr().is_terminal(),
     };
@@ -125,10 +131,11 @@ fn convert_files<'a>(settings: &Settings<'a>, files: &'a [&'a str]) -> u8 {
     }
     let mut status = 0;
     for file in files {
+        settings.rejections.count.set(0);
         let ended = if is_headed(settings, file, files) {
             convert_file(settings, file, &mut known)
         } else {
-            tell_file(settings.rt, file, &Refusal::ReportFault)
+            tell_file(settings, file, &Refusal::ReportFault)
         };
         if status == 0 {
             status = ended;

@@ -32,7 +32,7 @@ impl<'a> Asked<'a> {
         self.matches.get_strs("files")
     }
 
-    /// The form that `--from` names; `None` where each file tells its own.
+    /// The format that `--from` names; `None` if each file tells its own.
     pub(crate) fn from(&self) -> Option<Kind>
         ensures { result ≡ option_and_then kind_named (value_in self.now (codes "from")) }
     {
@@ -110,15 +110,15 @@ struct Row {
     help: &'static str,
 }
 
-static OPTIONS: [Row; 12] = [
+static OPTIONS: [Row; 14] = [
     Row {
         name: "from",
         short: Some('f'),
         action: ArgAction::Set,
         parser: ValueParser::Names(&["auto", "capture", "stream", "rinex", "rinex3", "ubx", "sbf"]),
         defaults: &["auto"],
-        values: &["FORM"],
-        help: "The form of the files; auto looks at what is in them",
+        values: &["FORMAT"],
+        help: "The format of the files; auto recognises it by their content",
     },
     Row {
         name: "to",
@@ -128,8 +128,8 @@ static OPTIONS: [Row; 12] = [
             "rinex", "rinex3", "rtcm", "list", "count", "frames", "merged", "cover", "capture",
         ]),
         defaults: &["rinex"],
-        values: &["FORM"],
-        help: "What is made of them",
+        values: &["FORMAT"],
+        help: "The format of the outputs",
     },
     Row {
         name: "output",
@@ -138,7 +138,7 @@ static OPTIONS: [Row; 12] = [
         parser: ValueParser::String,
         defaults: &[],
         values: &["OUT"],
-        help: "The output: a file, a folder, or - for standard output",
+        help: "The output: a file, a directory, or - for standard output",
     },
     Row {
         name: "week",
@@ -147,7 +147,7 @@ static OPTIONS: [Row; 12] = [
         parser: ValueParser::Signed(1024, 8191),
         defaults: &[],
         values: &["WEEK"],
-        help: "A GPS week near which a file is read; else that of today",
+        help: "A GPS week near the data; by default that of the clock",
     },
     Row {
         name: "leap",
@@ -174,7 +174,7 @@ static OPTIONS: [Row; 12] = [
         parser: ValueParser::String,
         defaults: &[],
         values: &["SITE"],
-        help: "Name outputs by the convention of RINEX 3, with the times in the data, as BRDC00XXX",
+        help: "Name outputs by the convention of RINEX 3, with this site and the times in the data",
     },
     Row {
         name: "report",
@@ -183,7 +183,7 @@ static OPTIONS: [Row; 12] = [
         parser: ValueParser::String,
         defaults: &[],
         values: &["FILE"],
-        help: "A file for the reports of navbridge: what was refused, and counts",
+        help: "A new file for reports: each rejection, and counts",
     },
     Row {
         name: "overwrite",
@@ -192,7 +192,7 @@ static OPTIONS: [Row; 12] = [
         parser: ValueParser::Bool,
         defaults: &[],
         values: &[],
-        help: "Replace a file that has the name of the output",
+        help: "Replace existing files",
     },
     Row {
         name: "quiet",
@@ -201,7 +201,7 @@ static OPTIONS: [Row; 12] = [
         parser: ValueParser::Bool,
         defaults: &[],
         values: &[],
-        help: "Say nothing of what was done",
+        help: "Print errors only",
     },
     Row {
         name: "dry-run",
@@ -210,7 +210,25 @@ static OPTIONS: [Row; 12] = [
         parser: ValueParser::Bool,
         defaults: &[],
         values: &[],
-        help: "Print the words of navbridge, and do nothing",
+        help: "Print the command of navbridge that does the same, and do nothing",
+    },
+    Row {
+        name: "check",
+        short: None,
+        action: ArgAction::SetTrue,
+        parser: ValueParser::Bool,
+        defaults: &[],
+        values: &[],
+        help: "Only check the files: print each rejection, and write no output",
+    },
+    Row {
+        name: "json",
+        short: None,
+        action: ArgAction::SetTrue,
+        parser: ValueParser::Bool,
+        defaults: &[],
+        values: &[],
+        help: "Print one JSON object for each file",
     },
     Row {
         name: "list-forms",
@@ -219,7 +237,7 @@ static OPTIONS: [Row; 12] = [
         parser: ValueParser::Bool,
         defaults: &[],
         values: &[],
-        help: "List the forms, and do nothing",
+        help: "List the formats, and do nothing",
     },
 ];
 
@@ -237,7 +255,7 @@ fn files_of<'a>(alloc: Global) -> Arg<'a>
 {
     Arg::new(alloc, "files")
         .value_name("FILE")
-        .help("Files that are converted, each to one of its own; - is standard input")
+        .help("Input files; - is standard input")
         .num_args(1..)
 }
 

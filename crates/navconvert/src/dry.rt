@@ -1,7 +1,7 @@
 //! The commands of `navbridge` that do the same.
 
 use crate::files::Settings;
-use crate::forms::input_kind;
+use crate::forms::{format_word, input_kind};
 use crate::inputs::{Inputs, opened};
 use crate::staged::{is_three, plan_before};
 use crate::telling::{tell_file, tell_refusal};
@@ -30,7 +30,7 @@ pub(crate) fn show_files(
     };
     match input_kind(settings, settings.plan.form, opened(settings.rt, inputs)) {
         Ok(kind) => show_kind(settings, first, files, name, kind),
-        Err(refusal) => tell_file(settings.rt, first, &refusal),
+        Err(refusal) => tell_file(settings, first, &refusal),
     }
 }
 
@@ -95,13 +95,11 @@ pub(crate) fn week_in(job: &Job) -> Option<RefWeek> {
     }
 }
 
-// The `--from` word for a file that is read under this form.
+// The `--from` word of navbridge for a file that is read under this form.
 fn from_word(kind: Kind) -> &'static str {
     match kind {
-        Kind::Stream => "stream",
-        Kind::Rinex4 => "rinex",
-        Kind::Rinex3 => "rinex3",
-        _ => "capture",
+        Kind::Ubx | Kind::Sbf => "capture",
+        _ => format_word(kind),
     }
 }
 

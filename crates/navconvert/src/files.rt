@@ -7,6 +7,7 @@ use crate::long_names::convert_named;
 use crate::outputs::{Output, name_of, owned, placed};
 use crate::parts::part_name;
 use crate::place::Goal;
+use crate::rejections::Rejections;
 use crate::staged::Before;
 use crate::steps::{Goes, made_by};
 use crate::taken::{Known, is_closed, is_read_once, is_same_file, taken};
@@ -33,6 +34,8 @@ pub(crate) struct Settings<'a> {
     pub output: Output<'a>,
     /// Where reports go.
     pub report: Option<&'a File>,
+    /// The rejections of the file that is read.
+    pub rejections: &'a Rejections<'a>,
     /// The name of the file for reports, where one is named.
     pub report_name: Option<&'a str>,
     /// The site of names by the convention of RINEX, where they are wanted.
@@ -54,7 +57,7 @@ pub(crate) fn convert_file<'a>(
     known: &mut Known,
 ) -> u8 {
     if let Some(refusal) = unread(settings, file) {
-        return tell_file(settings.rt, file, &refusal);
+        return tell_file(settings, file, &refusal);
     }
     let inputs = Inputs {
         names: from_ref(file),
@@ -111,13 +114,13 @@ pub(crate) fn convert_joined<'a>(
 // The status, where a file is of no form that can be joined: by its bytes, whatever form is named.
 fn refused_form<'a>(settings: &Settings<'a>, file: &'a str) -> Option<u8> {
     if file == "-" || is_read_once(settings.rt, file) {
-        return Some(tell_file(settings.rt, file, &Refusal::AmongFiles));
+        return Some(tell_file(settings, file, &Refusal::AmongFiles));
     }
     if let Some(refusal) = unread(settings, file) {
-        return Some(tell_file(settings.rt, file, &refusal));
+        return Some(tell_file(settings, file, &refusal));
     }
     match file_kind(settings, None, file) {
-        Err(refusal) => Some(tell_file(settings.rt, file, &refusal)),
+        Err(refusal) => Some(tell_file(settings, file, &refusal)),
         Ok(kind) if is_converted(kind, settings.plan.target) => None,
         Ok(kind) => Some(tell_refusal(settings, file, &Refusal::NoSuchConversion(kind))),
     }
@@ -130,6 +133,9 @@ fn convert<'a>(
     inputs: Inputs<'a>,
     known: &mut Known,
 ) -> u8 {
+    if settings.rejections.is_check && !settings.dry {
+        return put_known(settings, first, inputs, Goal::Nowhere, first).0;
+    }
     if let Some(site) = settings.site {
         return convert_named(settings, first, inputs, site, known);
     }
@@ -138,7 +144,7 @@ fn convert<'a>(
         Output::Beside if first == "-" => convert_unnamed(settings, first, inputs),
         _ => match named(settings, first) {
             Ok(name) => put_free(settings, first, inputs, name.as_str(), known),
-            Err(refusal) => tell_file(settings.rt, first, &refusal),
+            Err(refusal) => tell_file(settings, first, &refusal),
         },
     }
 }
@@ -180,7 +186,7 @@ fn put_free<'a>(
     known: &mut Known,
 ) -> u8 {
     if is_report(settings, name) {
-        return tell_file(settings.rt, first, &Refusal::SameReport(name));
+        return tell_file(settings, first, &Refusal::SameReport(name));
     }
     if let Some(refusal) = taken(settings.rt, name, known, settings.overwrites) {
         return tell_taken(settings, first, &refusal);
@@ -190,7 +196,7 @@ fn put_free<'a>(
     }
     let (status, made) = put_known(settings, first, inputs, Goal::File, name);
     if made.is_some() && known.add(settings.rt, name).is_err() {
-        return tell_file(settings.rt, first, &Refusal::NoMemory);
+        return tell_file(settings, first, &Refusal::NoMemory);
     }
     status
 }
@@ -205,14 +211,14 @@ fn put_known<'a>(
 ) -> (u8, Option<String>) {
     let alloc = settings.rt.alloc();
     let (Ok(own), Ok(part)) = (owned(alloc, name), part_name(alloc, name)) else {
-        return (tell_file(settings.rt, first, &Refusal::NoMemory), None);
+        return (tell_file(settings, first, &Refusal::NoMemory), None);
     };
     if part.as_str() == name {
         let refusal = Refusal::WriteFault(name, FileFault::NameTooLong);
-        return (tell_file(settings.rt, first, &refusal), None);
+        return (tell_file(settings, first, &refusal), None);
     }
     let shown = match goal {
-        Goal::Standard => Some(first),
+        Goal::Standard | Goal::Nowhere => Some(first),
         _ => None,
     };
     let goes = Goes {
@@ -227,7 +233,7 @@ fn put_known<'a>(
 // Says why an output may not have its name; or that the file has no conversion, where that is so.
 fn tell_taken(settings: &Settings, file: &str, refusal: &Refusal) -> u8 {
     match unconverted(settings, file) {
-        None => tell_file(settings.rt, file, refusal),
+        None => tell_file(settings, file, refusal),
         Some(kind) => tell_refusal(settings, file, &Refusal::NoSuchConversion(kind)),
     }
 }

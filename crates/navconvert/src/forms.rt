@@ -1,12 +1,89 @@
-//! The forms of files.
+//! The formats of files.
 
 use crate::files::Settings;
 use crate::inputs::{Input, opened_one};
-use file_conversion::Refusal;
+use file_conversion::{Refusal, Target, is_converted, kind_named, to_word};
+use std::fmt;
 use std::io::ErrorKind;
 use whole_file::{FileFault, Kind, PeekFault, Peeked, fault_of, look};
 
-/// The form under which a file is read, where this one is named.
+// A format that is read: the word of `--from`, the suffix of a file, and how one is recognised.
+struct Format {
+    name: &'static str,
+    suffix: &'static str,
+    mark: &'static str,
+}
+
+static FORMATS: [Format; 6] = [
+    Format {
+        name: "capture",
+        suffix: ".navcap",
+        mark: "first line NAVCAP",
+    },
+    Format {
+        name: "stream",
+        suffix: ".rtcm3",
+        mark: "complete RTCM 3 frame",
+    },
+    Format {
+        name: "rinex",
+        suffix: ".rnx",
+        mark: "header of RINEX 4 navigation",
+    },
+    Format {
+        name: "rinex3",
+        suffix: ".rnx",
+        mark: "header of RINEX 3 navigation",
+    },
+    Format {
+        name: "ubx",
+        suffix: ".ubx",
+        mark: "complete UBX message",
+    },
+    Format {
+        name: "sbf",
+        suffix: ".sbf",
+        mark: "complete SBF block",
+    },
+];
+
+/// The list of formats: of each its word, the suffix of its files, how they are recognised and what
+/// they are converted to.
+#[derive(Clone, Copy)]
+pub(crate) struct FormatList;
+
+impl fmt::Display for FormatList {
+    fn fmt<W: fmt::Write>(&self, f: &mut fmt::Formatter<W>) -> fmt::Result {
+        for format in &FORMATS {
+            let Format { name, suffix, mark } = format;
+            write!(f, "{name:8} {suffix:8} {mark:29}")?;
+            let mut before = "";
+            for target in Target::ALL {
+                if kind_named(name).is_some_and(|kind| is_converted(kind, target)) {
+                    f.write_str(before)?;
+                    f.write_str(to_word(target))?;
+                    before = ", ";
+                }
+            }
+            f.write_str("\n")?;
+        }
+        Ok(())
+    }
+}
+
+/// The word of a format that is read.
+pub(crate) fn format_word(kind: Kind) -> &'static str {
+    match kind {
+        Kind::Stream => "stream",
+        Kind::Rinex4 => "rinex",
+        Kind::Rinex3 => "rinex3",
+        Kind::Ubx => "ubx",
+        Kind::Sbf => "sbf",
+        _ => "capture",
+    }
+}
+
+/// The format under which a file is read, if this one is named.
 pub(crate) fn file_kind(
     settings: &Settings,
     named: Option<Kind>,

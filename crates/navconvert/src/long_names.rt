@@ -29,7 +29,7 @@ pub(crate) fn convert_named<'a>(
 ) -> u8 {
     let (status, name) = match part_for(settings, first, site) {
         Ok(part) => made(settings, first, inputs, site, known, part.as_str()),
-        Err(refusal) => return tell_file(settings.rt, first, &refusal),
+        Err(refusal) => return tell_file(settings, first, &refusal),
     };
     let Some(name) = name else {
         return status;
@@ -38,7 +38,7 @@ pub(crate) fn convert_named<'a>(
         return show_files(settings, first, inputs.names, Some(name.as_str()));
     }
     if known.add(settings.rt, name.as_str()).is_err() {
-        return tell_file(settings.rt, first, &Refusal::NoMemory);
+        return tell_file(settings, first, &Refusal::NoMemory);
     }
     status
 }
@@ -145,7 +145,7 @@ impl<'x, 'a> LongName<'x, 'a> {
                 None => Ok(name),
                 Some(status) => Err(status),
             },
-            Err(refusal) => Err(tell_file(self.settings.rt, self.first, &refusal)),
+            Err(refusal) => Err(tell_file(self.settings, self.first, &refusal)),
         }
     }
 
@@ -163,13 +163,12 @@ impl<'x, 'a> LongName<'x, 'a> {
 
     // The status, where the output may not have this name, which was said.
     fn refused(&self, name: &str) -> Option<u8> {
-        let rt = self.settings.rt;
         if is_report(self.settings, name) {
-            return Some(tell_file(rt, self.first, &Refusal::SameReport(name)));
+            return Some(tell_file(self.settings, self.first, &Refusal::SameReport(name)));
         }
-        match taken(rt, name, self.known, self.settings.overwrites) {
+        match taken(self.settings.rt, name, self.known, self.settings.overwrites) {
             None => None,
-            Some(refusal) => Some(tell_file(rt, self.first, &refusal)),
+            Some(refusal) => Some(tell_file(self.settings, self.first, &refusal)),
         }
     }
 }

@@ -1,22 +1,21 @@
 //! What the report says of a log while it is read: the messages that are refused, as `navlog` has
 //! them.
 
-use crate::tally::is_put;
+use crate::tally::Reported;
 use nav_io::Failed;
 use receiver_log::{Refused, refusal};
 use receiver_messages::Reason;
-use std::fs::File;
 
 /// Who writes the messages of a log that are refused to the report.
 #[derive(Drop)]
 pub(crate) struct Notes<'a> {
-    file: Option<&'a File>,
+    to: Reported<'a>,
 }
 
 impl<'a> Notes<'a> {
-    /// To this file, or nowhere.
-    pub(crate) fn new(file: Option<&'a File>) -> Notes<'a> {
-        Notes { file }
+    /// To the report that goes there.
+    pub(crate) fn new(to: Reported<'a>) -> Notes<'a> {
+        Notes { to }
     }
 }
 
@@ -29,7 +28,7 @@ impl Refused for Notes<'_> {
 
     // Where a line cannot be written, the report of the job or the counts will fail.
     fn refused(&mut self, number: u64, reason: Reason) -> Result<(), Failed> {
-        let _ = is_put(self.file, refusal(number, reason).as_slice());
+        let _ = self.to.is_put(refusal(number, reason).as_slice());
         Ok(())
     }
 }

@@ -42,7 +42,7 @@ impl Before {
     // Adds what was counted of one, and seen of it.
     fn add(&mut self, done: &Option<Done>, seen: &Seen) {
         let counted = counted(done);
-        self.rejected = self.rejected.saturating_add(counted.rejected);
+        self.rejected = self.rejected.saturating_add(counted.amiss[0]);
         self.passed = self.passed.saturating_add(counted.skipped);
         self.skips.join(&seen.skips);
     }
@@ -66,7 +66,7 @@ pub(crate) fn staged_of<'a>(
             None
         };
         if all.push(staged).is_err() {
-            return Err(tell_file(settings.rt, file, &Refusal::NoMemory));
+            return Err(tell_file(settings, file, &Refusal::NoMemory));
         }
     }
     Ok((all, before))
@@ -103,12 +103,12 @@ fn converted_bytes<'a>(
     before: &mut Before,
 ) -> Result<Vec<u8>, u8> {
     if !is_headed(settings, file) {
-        return Err(tell_file(settings.rt, file, &Refusal::ReportFault));
+        return Err(tell_file(settings, file, &Refusal::ReportFault));
     }
     let alloc = settings.rt.alloc();
     match (String::from_str(alloc, file), part_name(alloc, file)) {
         (Ok(name), Ok(part)) => convert_by(settings, file, Given::new(name), part.as_str(), before),
-        _ => Err(tell_file(settings.rt, file, &Refusal::NoMemory)),
+        _ => Err(tell_file(settings, file, &Refusal::NoMemory)),
     }
 }
 
@@ -134,7 +134,6 @@ fn convert_by<'a>(
     let outcome = converted(
         &first,
         &mut place,
-        settings.report,
         meter,
         file,
         part,
@@ -156,7 +155,7 @@ fn convert_by<'a>(
             before.add(&made.done, &place.seen(kind));
             match place.bytes {
                 Some(bytes) => Ok(bytes),
-                None => Err(tell_file(settings.rt, file, &Refusal::NoMemory)),
+                None => Err(tell_file(settings, file, &Refusal::NoMemory)),
             }
         }
     }

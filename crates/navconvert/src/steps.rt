@@ -6,11 +6,10 @@ use crate::meter::Meter;
 use crate::notes::Notes;
 use crate::outputs::size_of;
 use crate::place::{Goal, Place};
-use crate::tally::ReportFile;
+use crate::tally::{ReportFile, Reported};
 use crate::telling::{Saying, tell_file};
 use bridge_engine::Done;
 use file_conversion::{Observers, Outcome, Refusal, Stop, convert_one, finish};
-use std::fs::File;
 use whole_file::Namer;
 
 /// Where what is made of files goes.
@@ -41,7 +40,6 @@ pub(crate) fn made_by<'x, 'a, A: Namer<Option<Done>>>(
     let outcome = converted(
         settings,
         &mut place,
-        settings.report,
         meter,
         first,
         goes.part,
@@ -49,7 +47,7 @@ pub(crate) fn made_by<'x, 'a, A: Namer<Option<Done>>>(
     );
     let is_stopped = matches!(outcome.done, Err(Stop::Run(_, _, _, _, _) | Stop::Look(_)));
     if let (true, Some(refusal)) = (is_stopped, place.other()) {
-        return (tell_file(settings.rt, first, &refusal), None);
+        return (tell_file(settings, first, &refusal), None);
     }
     if let Err(Stop::Unnamed) = outcome.done {
         return (Refusal::NoTimes.status(), None);
@@ -63,24 +61,28 @@ pub(crate) fn made_by<'x, 'a, A: Namer<Option<Done>>>(
     };
     let status = finish(&outcome, goes.name, goes.part, &mut teller);
     match outcome.done {
-        Ok(made) => (status, Some(made.name)),
+        Ok(made) => (status.max(settings.rejections.status()), Some(made.name)),
         Err(_) => (status, None),
     }
 }
 
-/// Converts files, the first of which has this name, with what is reported of them to this file.
+/// Converts files, the first of which has this name, with what is reported of them where that is asked.
 pub(crate) fn converted<'a, A: Namer<Option<Done>>>(
     settings: &Settings<'a>,
     place: &mut Place<'a>,
-    report: Option<&'a File>,
     progress: Meter<'a>,
-    first: &str,
+    first: &'a str,
     part: &str,
     names: &mut A,
 ) -> Outcome<ReportFile<'a>> {
+    let to = Reported {
+        report: settings.report,
+        rejections: settings.rejections,
+        file: first,
+    };
     let observers = Observers {
-        report: ReportFile::new(report),
-        refusals: Notes::new(report),
+        report: ReportFile::new(to),
+        refusals: Notes::new(to),
         progress,
     };
     convert_one(

@@ -1,7 +1,9 @@
-//! The line that says what became of a file.
+//! What became of a file: as a line, or as the members of an object of JSON.
 
 use crate::dry::week_in;
 use crate::files::Settings;
+use crate::forms::format_word;
+use crate::json::Quoted;
 use crate::place::Seen;
 use crate::systems::{COUNT, SYSTEMS, Skips};
 use bridge_engine::{CaptureCounts, Done, RinexCounts};
@@ -15,12 +17,10 @@ use whole_file::Kind;
 pub(crate) struct JobCounts {
     /// The ephemerides and ionosphere records that were made; none, where they are not counted.
     pub items: Option<u64>,
-    /// The lines, records or frames that were rejected.
-    pub rejected: u64,
+    /// What was rejected, and what else is amiss, in the order of [`AMISS`].
+    pub amiss: [u64; KINDS],
     /// The records or messages that were skipped.
     pub skipped: u64,
-    // what else is amiss, in the order of [`AMISS`]
-    amiss: [u64; KINDS],
 }
 
 /// What is counted of what a job has done.
@@ -30,10 +30,13 @@ pub(crate) fn counted(done: &Option<Done>) -> JobCounts {
         Some(Done::Capture(counts)) => of_capture(counts),
         Some(Done::Stream(counts)) => of_items(Some(counts.items), counts.refused, counts.unused),
         Some(Done::File(counts) | Done::Sent(counts) | Done::Covered(counts)) => of_file(counts),
-        Some(Done::Merged(counts)) => JobCounts {
-            amiss: [0, 0, 0, 0, 0, counts.items.saturating_sub(counts.kept)],
-            ..of_items(Some(counts.kept), counts.refused, counts.passed)
-        },
+        Some(Done::Merged(counts)) => {
+            let again = counts.items.saturating_sub(counts.kept);
+            JobCounts {
+                amiss: [counts.refused, 0, 0, 0, 0, 0, again, 0],
+                ..of_items(Some(counts.kept), 0, counts.passed)
+            }
+        }
     }
 }
 
@@ -41,9 +44,8 @@ pub(crate) fn counted(done: &Option<Done>) -> JobCounts {
 fn of_items(items: Option<u64>, rejected: u64, skipped: u64) -> JobCounts {
     JobCounts {
         items,
-        rejected,
+        amiss: [rejected, 0, 0, 0, 0, 0, 0, 0],
         skipped,
-        amiss: [0; KINDS],
     }
 }
 
@@ -56,26 +58,30 @@ fn of_file(counts: &RinexCounts) -> JobCounts {
 fn of_capture(counts: &CaptureCounts) -> JobCounts {
     JobCounts {
         amiss: [
+            counts.refused,
             counts.malformed,
             counts.late,
             counts.partial,
             counts.contradicted,
             counts.nohealth,
             counts.again,
+            0,
         ],
-        ..of_items(Some(counts.whole), counts.refused, 0)
+        ..of_items(Some(counts.whole), 0, 0)
     }
 }
 
 /// What became of a file: of what its output is made, what was rejected and skipped of it, and the
-/// week of the clock where it was read by that.
+/// week of the clock if it was read by that.
 #[derive(Clone, Copy)]
 pub(crate) struct Summary<'x, 'a> {
     /// What is asked for all files.
     pub settings: &'x Settings<'a>,
-    /// The name of the output.
+    /// What the line begins with: the name of the output, or of the input if there is none.
     pub name: &'x str,
-    /// The form under which its input was read.
+    /// The name of the output, if there is one.
+    pub output: Option<&'x str>,
+    /// The format under which its input was read.
     pub kind: Option<Kind>,
     /// What was counted.
     pub counted: JobCounts,
@@ -87,6 +93,9 @@ pub(crate) struct Summary<'x, 'a> {
 
 impl fmt::Display for Summary<'_, '_> {
     fn fmt<W: fmt::Write>(&self, f: &mut fmt::Formatter<W>) -> fmt::Result {
+        if self.settings.rejections.is_json {
+            return self.write_members(f);
+        }
         Shown(self.name).fmt(f)?;
         self.write_made(f)?;
         let amiss = self.write_amiss(f)?;
@@ -97,108 +106,171 @@ impl fmt::Display for Summary<'_, '_> {
                 f.write_str(", nothing skipped")?;
             }
         }
-        write_week(f, self.settings, self.kind)
+        match self.clock_week() {
+            None => Ok(()),
+            Some(week) => write!(f, "; read near week {week} of the clock"),
+        }
     }
 }
 
 impl Summary<'_, '_> {
-    // Writes what was made.
-    fn write_made<W: fmt::Write>(&self, f: &mut fmt::Formatter<W>) -> fmt::Result {
-        let made = self.seen.made;
+    // What was made: ephemerides and ionosphere records, where they are told apart.
+    fn parts(&self) -> Option<(u64, u64)> {
         match (self.settings.plan.target, self.counted.items) {
             (Target::Rinex | Target::Merged, Some(_)) => {
-                write_count(f, ": ", made.ephemerides, EPHEMERIDES)?;
-                if made.ionospheres == 0 {
-                    return Ok(());
-                }
-                write_count(f, ", ", made.ionospheres, IONOSPHERES)
+                Some((self.seen.made.ephemerides, self.seen.made.ionospheres))
             }
-            (_, Some(items)) => write_count(f, ": made of ", items, ITEMS),
-            (_, None) => match &self.log {
-                None => f.write_str(": written"),
-                Some(counts) => {
-                    write_count(f, ": ", counts.capture.subframes, ("subframe", "subframes"))?;
-                    write_count(f, ", ", counts.capture.pages, ("page", "pages"))
-                }
-            },
+            _ => None,
         }
     }
 
-    // Writes each count of what is amiss that is not 0, with those of the inputs that were converted
-    // before; whether one is.
-    fn write_amiss<W: fmt::Write>(&self, f: &mut fmt::Formatter<W>) -> Result<bool, fmt::Error> {
-        let rejected = self
-            .counted
-            .rejected
-            .saturating_add(self.settings.before.rejected);
-        let mut any = write_some(f, false, rejected, rejected_of(self.kind))?;
-        for place in 0..KINDS {
-            any = write_some(f, any, self.counted.amiss[place], AMISS[place])?;
+    // What was rejected, and what else is amiss, of the inputs that were converted before too.
+    fn amiss(&self, place: usize) -> u64 {
+        let counted = self.counted.amiss.get(place).copied().unwrap_or(0);
+        match (place, &self.log) {
+            (0, _) => counted.saturating_add(self.settings.before.rejected),
+            (MESSAGES, Some(counts)) => counts.capture.refused,
+            _ => counted,
         }
-        let messages = match &self.log {
-            None => 0,
-            Some(counts) => counts.capture.refused,
-        };
-        write_some(f, any, messages, ("message rejected", "messages rejected"))
     }
 
-    // How many records or messages are skipped.
-    fn all_skipped(&self) -> u64 {
-        match &self.log {
+    // How many records or messages are skipped, and how many of them of each system.
+    fn skipped(&self) -> (u64, Skips) {
+        let all = match &self.log {
             Some(counts) => counts.log.other,
-            None => self
-                .counted
-                .skipped
-                .saturating_add(self.settings.before.passed),
-        }
-    }
-
-    // Writes what is skipped, where something is; whether that is so.
-    fn write_skipped<W: fmt::Write>(&self, f: &mut fmt::Formatter<W>) -> Result<bool, fmt::Error> {
-        let all = self.all_skipped();
-        if all == 0 {
-            return Ok(false);
-        }
+            None => self.counted.skipped.saturating_add(self.settings.before.passed),
+        };
         let mut skips = self.seen.skips;
         skips.join(&self.settings.before.skips);
-        f.write_str("; skipped: ")?;
         if skips.sum() > all {
             skips = Skips::new();
         }
-        let other = all - skips.sum().min(all);
-        let mut any = false;
-        for system in 0..COUNT {
-            any = write_system(f, any, skips.of(system), SYSTEMS[system])?;
+        (all, skips)
+    }
+
+    // The week of the clock, if the file was read by it: its job has a week, and none is named.
+    fn clock_week(&self) -> Option<u32> {
+        let plan = &self.settings.plan;
+        match task_for(plan, self.kind?) {
+            Some(Task::Does(job)) if plan.week.is_none() => match week_in(&job) {
+                None => None,
+                Some(_) => Some(plan.clock_week.value()),
+            },
+            _ => None,
         }
-        let is_mixed = any;
-        write_system(f, any, other, if is_mixed { "other" } else { "" })?;
-        let (one, many) = skipped_of(self.kind);
-        f.write_str(if other == 0 || is_mixed { " " } else { "" })?;
-        f.write_str(if all == 1 { one } else { many })?;
+    }
+
+    // Writes what was made.
+    fn write_made<W: fmt::Write>(&self, f: &mut fmt::Formatter<W>) -> fmt::Result {
+        match (self.parts(), self.counted.items, &self.log) {
+            (Some((ephemerides, ionospheres)), _, _) => {
+                write_count(f, ": ", ephemerides, ("ephemeris", "ephemerides"))?;
+                if ionospheres == 0 {
+                    return Ok(());
+                }
+                write_count(f, ", ", ionospheres, ("ionosphere record", "ionosphere records"))
+            }
+            (None, Some(items), _) => write_count(f, ": made of ", items, ITEMS),
+            (None, None, None) => f.write_str(": written"),
+            (None, None, Some(counts)) => {
+                write_count(f, ": ", counts.capture.subframes, ("subframe", "subframes"))?;
+                write_count(f, ", ", counts.capture.pages, ("page", "pages"))
+            }
+        }
+    }
+
+    // Writes each count of what is amiss that is not 0; whether there is one.
+    fn write_amiss<W: fmt::Write>(&self, f: &mut fmt::Formatter<W>) -> Result<bool, fmt::Error> {
+        let mut before = "; ";
+        for place in 0..KINDS {
+            let count = self.amiss(place);
+            if count > 0 {
+                let (_, one, many) = AMISS[place];
+                let names = if place == 0 { rejected_of(self.kind) } else { (one, many) };
+                write_count(f, before, count, names)?;
+                before = ", ";
+            }
+        }
+        Ok(before == ", ")
+    }
+
+    // Writes what is skipped, if something is; whether that is so.
+    fn write_skipped<W: fmt::Write>(&self, f: &mut fmt::Formatter<W>) -> Result<bool, fmt::Error> {
+        let (all, skips) = self.skipped();
+        if all == 0 {
+            return Ok(false);
+        }
+        let mut before = "; skipped: ";
+        for system in 0..COUNT {
+            let count = skips.of(system);
+            if count > 0 {
+                let name = SYSTEMS[system];
+                write!(f, "{before}{count} {name}")?;
+                before = ", ";
+            }
+        }
+        let other = all - skips.sum().min(all);
+        if other > 0 {
+            write!(f, "{before}{other}")?;
+            f.write_str(if before == ", " { " other" } else { "" })?;
+        }
+        f.write_str(skipped_of(self.kind, all))?;
         Ok(true)
+    }
+
+    // Writes the members of the object of JSON.
+    fn write_members<W: fmt::Write>(&self, f: &mut fmt::Formatter<W>) -> fmt::Result {
+        let format = self.kind.map_or("", format_word);
+        write!(f, ",\"error\":null,\"format\":\"{format}\",\"output\":")?;
+        match self.output.map(Quoted) {
+            None => f.write_str("null")?,
+            Some(name) => write!(f, "{name}")?,
+        }
+        let (ephemerides, ionospheres) = match self.parts() {
+            None => (None, None),
+            Some((ephemerides, ionospheres)) => (Some(ephemerides), Some(ionospheres)),
+        };
+        write_member(f, ",", "made", self.counted.items)?;
+        write_member(f, ",", "ephemerides", ephemerides)?;
+        write_member(f, ",", "ionospheres", ionospheres)?;
+        for place in 0..KINDS {
+            write_member(f, ",", AMISS[place].0, Some(self.amiss(place)))?;
+        }
+        let (all, skips) = self.skipped();
+        write_member(f, ",", "skipped", Some(all))?;
+        let mut before = ",\"skipped_systems\":{";
+        for system in 0..COUNT {
+            write_member(f, before, SYSTEMS[system], Some(skips.of(system)))?;
+            before = ",";
+        }
+        let week = match self.clock_week() {
+            None => None,
+            Some(week) => Some(u64::from(week)),
+        };
+        write_member(f, "},", "clock_week", week)
     }
 }
 
-// What is made.
-const EPHEMERIDES: (&str, &str) = ("ephemeris", "ephemerides");
-
-const IONOSPHERES: (&str, &str) = ("ionosphere record", "ionosphere records");
-
+// What is made, one and many.
 const ITEMS: (&str, &str) = (
     "ephemeris or ionosphere record",
     "ephemerides and ionosphere records",
 );
 
-// What is amiss besides what is rejected: what is said of one and of many.
-const KINDS: usize = 6;
+// What is amiss: its key, and what is said of one and of many; of what is rejected by the format.
+const KINDS: usize = 8;
 
-const AMISS: [(&str, &str); KINDS] = [
-    ("line malformed", "lines malformed"),
-    ("line late", "lines late"),
-    ("issue partial", "issues partial"),
-    ("issue contradicted", "issues contradicted"),
-    ("issue without health", "issues without health"),
-    ("repeated", "repeated"),
+const MESSAGES: usize = 7;
+
+const AMISS: [(&str, &str, &str); KINDS] = [
+    ("rejected", "", ""),
+    ("malformed", "line malformed", "lines malformed"),
+    ("late", "line late", "lines late"),
+    ("partial", "issue partial", "issues partial"),
+    ("contradicted", "issue contradicted", "issues contradicted"),
+    ("nohealth", "issue without health", "issues without health"),
+    ("again", "repeated", "repeated"),
+    ("rejected_messages", "message rejected", "messages rejected"),
 ];
 
 // Writes a count, of one thing or of many, behind a text.
@@ -212,53 +284,20 @@ fn write_count<W: fmt::Write>(
     write!(f, "{before}{count} {name}")
 }
 
-// Writes a count that is not 0, behind others where there are any; whether there are now.
-fn write_some<W: fmt::Write>(
+// Writes a member of an object of JSON behind a text; `null` if there is no such count.
+fn write_member<W: fmt::Write>(
     f: &mut fmt::Formatter<W>,
-    any: bool,
-    count: u64,
-    names: (&str, &str),
-) -> Result<bool, fmt::Error> {
-    if count == 0 {
-        return Ok(any);
-    }
-    write_count(f, if any { ", " } else { "; " }, count, names)?;
-    Ok(true)
-}
-
-// Writes how many there are of a system, where there are any, behind others; whether there are now.
-fn write_system<W: fmt::Write>(
-    f: &mut fmt::Formatter<W>,
-    any: bool,
-    count: u64,
-    name: &str,
-) -> Result<bool, fmt::Error> {
-    if count == 0 {
-        return Ok(any);
-    }
-    if any {
-        f.write_str(", ")?;
-    }
-    write!(f, "{count} {name}")?;
-    Ok(true)
-}
-
-// Writes the week of the clock, where a file of this form was read by it.
-fn write_week<W: fmt::Write>(
-    f: &mut fmt::Formatter<W>,
-    settings: &Settings,
-    kind: Option<Kind>,
+    before: &str,
+    key: &str,
+    count: Option<u64>,
 ) -> fmt::Result {
-    match kind {
-        Some(kind) if takes_clock(settings, kind) => {
-            let week = settings.plan.clock_week.value();
-            write!(f, "; read near week {week} of the clock")
-        }
-        _ => Ok(()),
+    match count {
+        None => write!(f, "{before}\"{key}\":null"),
+        Some(count) => write!(f, "{before}\"{key}\":{count}"),
     }
 }
 
-// What is rejected of a file that is read under this form, one and many.
+// What is rejected of a file that is read under this format, one and many.
 fn rejected_of(kind: Option<Kind>) -> (&'static str, &'static str) {
     match kind {
         Some(Kind::Stream) => ("frame rejected", "frames rejected"),
@@ -267,24 +306,17 @@ fn rejected_of(kind: Option<Kind>) -> (&'static str, &'static str) {
     }
 }
 
-// What is skipped of a file that is read under this form, one and many.
-fn skipped_of(kind: Option<Kind>) -> (&'static str, &'static str) {
-    match kind {
-        Some(Kind::Rinex4 | Kind::Rinex3) => ("record", "records"),
-        _ => ("message", "messages"),
+// So many that are skipped of a file that is read under this format.
+fn skipped_of(kind: Option<Kind>, count: u64) -> &'static str {
+    match (kind, count) {
+        (Some(Kind::Rinex4 | Kind::Rinex3), 1) => " record",
+        (Some(Kind::Rinex4 | Kind::Rinex3), _) => " records",
+        (_, 1) => " message",
+        _ => " messages",
     }
 }
 
 // Whether a file is a capture, of which no message is told from those that hold no ephemeris.
 fn is_capture(kind: Option<Kind>) -> bool {
     matches!(kind, Some(Kind::Capture1 | Kind::Capture2))
-}
-
-// Whether a file of this form is read by the week of the clock: its job has a week, and none is
-// named.
-fn takes_clock(settings: &Settings, kind: Kind) -> bool {
-    match task_for(&settings.plan, kind) {
-        Some(Task::Does(job)) if settings.plan.week.is_none() => week_in(&job).is_some(),
-        _ => false,
-    }
 }

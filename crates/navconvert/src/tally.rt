@@ -1,22 +1,43 @@
-//! The report of a job, which is written where a file is named for it.
+//! The report of a job, which is written where a file is named for it, and whose rejections are
+//! printed where files are only checked.
 
 ghost use Rattle.std.specs.Prelude.{◌≡◌};
 
+use crate::rejections::Rejections;
 use nav_io::{Failed, Sink};
 use std::fs::File;
 use std::io::Write;
 
-/// A sink for a report, which is written to a file where one is there.
+/// Where the report of a file goes.
+#[derive(Clone, Copy)]
+pub(crate) struct Reported<'a> {
+    /// The file for reports, where one is named.
+    pub report: Option<&'a File>,
+    /// The rejections that are printed.
+    pub rejections: &'a Rejections<'a>,
+    /// The name of the file that is read.
+    pub file: &'a str,
+}
+
+impl Reported<'_> {
+    /// Writes a line of a report; whether that was done.
+    pub(crate) fn is_put(&self, line: &[u8]) -> bool {
+        self.rejections.see(self.file, line);
+        is_put(self.report, line)
+    }
+}
+
+/// A sink for a report.
 #[derive(Drop)]
 pub(crate) struct ReportFile<'a> {
-    file: Option<&'a File>,
+    to: Reported<'a>,
     faults: u64,
 }
 
 impl<'a> ReportFile<'a> {
-    /// To this file, or nowhere.
-    pub(crate) fn new(file: Option<&'a File>) -> ReportFile<'a> {
-        ReportFile { file, faults: 0 }
+    /// One that goes there.
+    pub(crate) fn new(to: Reported<'a>) -> ReportFile<'a> {
+        ReportFile { to, faults: 0 }
     }
 }
 
@@ -29,7 +50,7 @@ impl Sink for ReportFile<'_> {
 
     /// Writes the piece. An `Err` of the file counts one fault.
     fn write(&mut self, piece: &[u8]) -> Result<(), Failed> {
-        if is_put(self.file, piece) {
+        if self.to.is_put(piece) {
             return Ok(());
         }
         self.faults = self.faults.saturating_add(1);

@@ -4,13 +4,16 @@ ghost use Rattle.std.specs.Prelude.{◌≡◌};
 ghost use Rattle.file_conversion.specs.Says.{status_of};
 
 use crate::files::Settings;
+use crate::json::Quoted;
+use crate::outputs::Output;
 use crate::place::Seen;
 use crate::summary::{Summary, counted};
 use crate::tally::{ReportFile, is_put};
 use file_conversion::{Outcome, Refusal, Shown, Teller};
 use nav_io::Failed;
 use receiver_log::counts_text;
-use std::fs;
+use std::{fmt, fs};
+use std::alloc::AllocError;
 use std::io::{IsTerminal, Read};
 use std::path::Path;
 use whole_file::{FileFault, Kind};
@@ -27,12 +30,16 @@ pub(crate) fn tell_program(rt: &HostRuntime, refusal: &Refusal) -> u8
 }
 
 /// Says why a file is not converted; the status.
-pub(crate) fn tell_file(rt: &HostRuntime, file: &str, refusal: &Refusal) -> u8
+pub(crate) fn tell_file(settings: &Settings, file: &str, refusal: &Refusal) -> u8
     ensures { result ≡ status_of refusal.now }
 {
-    clear(rt);
-    let shown = Shown(file);
-    let _ = eprintln!(rt; "navconvert: {shown}: {refusal}");
+    clear(settings.rt);
+    if settings.rejections.is_json {
+        print_object(settings, file, refusal.status(), &Failure(*refusal, settings.rt));
+    } else {
+        let shown = Shown(file);
+        let _ = eprintln!(settings.rt; "navconvert: {shown}: {refusal}");
+    }
     refusal.status()
 }
 
@@ -41,9 +48,9 @@ pub(crate) fn tell_file(rt: &HostRuntime, file: &str, refusal: &Refusal) -> u8
 pub(crate) fn tell_refusal(settings: &Settings, file: &str, refusal: &Refusal) -> u8 {
     match refusal {
         Refusal::NoSuchConversion(kind) => {
-            tell_file(settings.rt, file, &form_refusal(settings, file, *kind))
+            tell_file(settings, file, &form_refusal(settings, file, *kind))
         }
-        _ => tell_file(settings.rt, file, refusal),
+        _ => tell_file(settings, file, refusal),
     }
 }
 
@@ -129,7 +136,7 @@ impl<'a> Teller<ReportFile<'a>> for Saying<'_, 'a> {
             return Err(Failed);
         }
         if !self.settings.quiet {
-            tell_done(self.settings, self.name, outcome, self.seen);
+            tell_done(self.settings, self.file, self.name, outcome, self.seen);
         }
         Ok(())
     }
@@ -147,20 +154,66 @@ fn is_counted(settings: &Settings, outcome: &Outcome<ReportFile>) -> bool {
 }
 
 // Says what became of a file, as one line that is written at once.
-fn tell_done(settings: &Settings, name: Option<&str>, outcome: &Outcome<ReportFile>, seen: Seen) {
+fn tell_done(
+    settings: &Settings,
+    file: &str,
+    name: Option<&str>,
+    outcome: &Outcome<ReportFile>,
+    seen: Seen,
+) {
     let Ok(made) = &outcome.done else {
         return;
     };
     clear(settings.rt);
-    let done = Summary {
+    let summary = Summary {
         settings,
         name: name.unwrap_or(made.name.as_str()),
+        output: match name {
+            None => Some(made.name.as_str()),
+            Some(_) => None,
+        },
         kind: outcome.kind,
         counted: counted(&made.done),
         log: outcome.counts,
         seen,
     };
-    let _ = eprintln!(settings.rt; "{done}");
+    if settings.rejections.is_json {
+        print_object(settings, file, settings.rejections.status(), &summary);
+    } else {
+        let _ = eprintln!(settings.rt; "{summary}");
+    }
+}
+
+// Why a file was not converted, as a member of an object of JSON.
+#[derive(Clone, Copy)]
+struct Failure<'x>(Refusal<'x>, &'x HostRuntime);
+
+impl fmt::Display for Failure<'_> {
+    fn fmt<W: fmt::Write>(&self, f: &mut fmt::Formatter<W>) -> fmt::Result {
+        let Failure(refusal, rt) = *self;
+        f.write_str(",\"error\":")?;
+        match format!(in rt.alloc(); "{refusal}") {
+            Ok(text) => Quoted(text.as_str()).fmt(f),
+            Err(AllocError) => f.write_str("\"\""),
+        }
+    }
+}
+
+// Prints the object of a file, with these members: on standard error if standard output has what is
+// made.
+fn print_object<D: fmt::Display>(settings: &Settings, file: &str, status: u8, members: &D) {
+    let head = settings.rejections.head();
+    let name = Quoted(file);
+    let is_taken = match settings.output {
+        Output::Standard => true,
+        Output::Beside => file == "-",
+        Output::File(_) | Output::Folder(_) => false,
+    };
+    let _ = if is_taken && !settings.rejections.is_check {
+        eprintln!(settings.rt; "{head}\"file\":{name},\"status\":{status}{members}}}")
+    } else {
+        println!(settings.rt; "{head}\"file\":{name},\"status\":{status}{members}}}")
+    };
 }
 
 // Takes the line of a meter away, where there is a terminal.
