@@ -132,7 +132,7 @@ fn convert_files<'a>(settings: &Settings<'a>, files: &'a [&'a str]) -> u8 {
     let mut status = 0;
     for file in files {
         settings.rejections.count.set(0);
-        let ended = if is_headed(settings, file, files) {
+        let ended = if files.len() == 1 || is_headed(settings, file) {
             convert_file(settings, file, &mut known)
         } else {
             tell_file(settings, file, &Refusal::ReportFault)

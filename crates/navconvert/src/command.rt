@@ -110,134 +110,116 @@ struct Row {
     help: &'static str,
 }
 
+// An option with a text as its value.
+const OPTION: Row = Row {
+    name: "",
+    short: None,
+    action: ArgAction::Set,
+    parser: ValueParser::String,
+    defaults: &[],
+    values: &[],
+    help: "",
+};
+
+// An option without a value.
+const FLAG: Row = Row {
+    action: ArgAction::SetTrue,
+    parser: ValueParser::Bool,
+    ..OPTION
+};
+
 static OPTIONS: [Row; 14] = [
     Row {
         name: "from",
         short: Some('f'),
-        action: ArgAction::Set,
         parser: ValueParser::Names(&["auto", "capture", "stream", "rinex", "rinex3", "ubx", "sbf"]),
         defaults: &["auto"],
         values: &["FORMAT"],
         help: "The format of the files; auto recognises it by their content",
+        ..OPTION
     },
     Row {
         name: "to",
         short: Some('t'),
-        action: ArgAction::Set,
         parser: ValueParser::Names(&[
             "rinex", "rinex3", "rtcm", "list", "count", "frames", "merged", "cover", "capture",
         ]),
         defaults: &["rinex"],
         values: &["FORMAT"],
         help: "The format of the outputs",
+        ..OPTION
     },
     Row {
         name: "output",
         short: Some('o'),
-        action: ArgAction::Set,
-        parser: ValueParser::String,
-        defaults: &[],
         values: &["OUT"],
         help: "The output: a file, a directory, or - for standard output",
+        ..OPTION
     },
     Row {
         name: "week",
-        short: None,
-        action: ArgAction::Set,
         parser: ValueParser::Signed(1024, 8191),
-        defaults: &[],
         values: &["WEEK"],
         help: "A GPS week near the data; by default that of the clock",
+        ..OPTION
     },
     Row {
         name: "leap",
-        short: None,
-        action: ArgAction::Set,
         parser: ValueParser::Signed(0, 99),
         defaults: &["18"],
         values: &["SECONDS"],
         help: "The leap seconds of a header",
+        ..OPTION
     },
     Row {
         name: "date",
-        short: None,
-        action: ArgAction::Set,
-        parser: ValueParser::String,
-        defaults: &[],
         values: &["DATE"],
         help: "The date of a header, as \"20240101 000000 UTC\"",
+        ..OPTION
     },
     Row {
         name: "long-name",
-        short: None,
-        action: ArgAction::Set,
-        parser: ValueParser::String,
-        defaults: &[],
         values: &["SITE"],
         help: "Name outputs by the convention of RINEX 3, with this site and the times in the data",
+        ..OPTION
     },
     Row {
         name: "report",
-        short: None,
-        action: ArgAction::Set,
-        parser: ValueParser::String,
-        defaults: &[],
         values: &["FILE"],
         help: "A new file for reports: each rejection, and counts",
+        ..OPTION
     },
     Row {
         name: "overwrite",
-        short: None,
-        action: ArgAction::SetTrue,
-        parser: ValueParser::Bool,
-        defaults: &[],
-        values: &[],
         help: "Replace existing files",
+        ..FLAG
     },
     Row {
         name: "quiet",
         short: Some('q'),
-        action: ArgAction::SetTrue,
-        parser: ValueParser::Bool,
-        defaults: &[],
-        values: &[],
         help: "Print errors only",
+        ..FLAG
     },
     Row {
         name: "dry-run",
         short: Some('n'),
-        action: ArgAction::SetTrue,
-        parser: ValueParser::Bool,
-        defaults: &[],
-        values: &[],
         help: "Print the command of navbridge that does the same, and do nothing",
+        ..FLAG
     },
     Row {
         name: "check",
-        short: None,
-        action: ArgAction::SetTrue,
-        parser: ValueParser::Bool,
-        defaults: &[],
-        values: &[],
         help: "Only check the files: print each rejection, and write no output",
+        ..FLAG
     },
     Row {
         name: "json",
-        short: None,
-        action: ArgAction::SetTrue,
-        parser: ValueParser::Bool,
-        defaults: &[],
-        values: &[],
         help: "Print one JSON object for each file",
+        ..FLAG
     },
     Row {
         name: "list-forms",
-        short: None,
-        action: ArgAction::SetTrue,
-        parser: ValueParser::Bool,
-        defaults: &[],
-        values: &[],
         help: "List the formats, and do nothing",
+        ..FLAG
     },
 ];
 

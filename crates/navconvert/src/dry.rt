@@ -4,7 +4,7 @@ use crate::files::Settings;
 use crate::forms::{format_word, input_kind};
 use crate::inputs::{Inputs, opened};
 use crate::staged::{is_three, plan_before};
-use crate::telling::{tell_file, tell_refusal};
+use crate::telling::tell_file;
 use bridge_engine::Job;
 use file_conversion::{Plan, Refusal, Target, Task, task_for, to_word};
 use gnss_week::RefWeek;
@@ -62,7 +62,7 @@ fn show_kind(
     kind: Kind,
 ) -> u8 {
     let is_copied = match task_for(&settings.plan, kind) {
-        None => return tell_refusal(settings, first, &Refusal::NoSuchConversion(kind)),
+        None => return tell_file(settings, first, &Refusal::NoSuchConversion(kind)),
         Some(Task::Copied) => true,
         Some(Task::Does(_)) => false,
     };

@@ -11,7 +11,7 @@ use crate::rejections::Rejections;
 use crate::staged::Before;
 use crate::steps::{Goes, made_by};
 use crate::taken::{Known, is_closed, is_read_once, is_same_file, taken};
-use crate::telling::{tell_file, tell_refusal};
+use crate::telling::tell_file;
 use crate::words::is_broken;
 use file_conversion::{Plan, Refusal, STANDARD_OUTPUT, Target, ending_of, is_converted};
 use std::fs::File;
@@ -122,7 +122,7 @@ fn refused_form<'a>(settings: &Settings<'a>, file: &'a str) -> Option<u8> {
     match file_kind(settings, None, file) {
         Err(refusal) => Some(tell_file(settings, file, &refusal)),
         Ok(kind) if is_converted(kind, settings.plan.target) => None,
-        Ok(kind) => Some(tell_refusal(settings, file, &Refusal::NoSuchConversion(kind))),
+        Ok(kind) => Some(tell_file(settings, file, &Refusal::NoSuchConversion(kind))),
     }
 }
 
@@ -234,13 +234,13 @@ fn put_known<'a>(
 fn tell_taken(settings: &Settings, file: &str, refusal: &Refusal) -> u8 {
     match unconverted(settings, file) {
         None => tell_file(settings, file, refusal),
-        Some(kind) => tell_refusal(settings, file, &Refusal::NoSuchConversion(kind)),
+        Some(kind) => tell_file(settings, file, &Refusal::NoSuchConversion(kind)),
     }
 }
 
 // The form of a file that can be read again, where it has no conversion.
 fn unconverted(settings: &Settings, file: &str) -> Option<Kind> {
-    if !Path::new(file).is_file(settings.rt) {
+    if file == "-" || !Path::new(file).is_file(settings.rt) {
         return None;
     }
     let target = settings.plan.target;

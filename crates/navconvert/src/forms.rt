@@ -1,10 +1,11 @@
 //! The formats of files.
 
 use crate::files::Settings;
-use crate::inputs::{Input, opened_one};
+use crate::inputs::{Input, Inputs, opened};
 use file_conversion::{Refusal, Target, is_converted, kind_named, to_word};
 use std::fmt;
 use std::io::ErrorKind;
+use std::slice::from_ref;
 use whole_file::{FileFault, Kind, PeekFault, Peeked, fault_of, look};
 
 // A format that is read: the word of `--from`, the suffix of a file, and how one is recognised.
@@ -89,7 +90,11 @@ pub(crate) fn file_kind(
     named: Option<Kind>,
     file: &str,
 ) -> Result<Kind, Refusal<'static>> {
-    input_kind(settings, named, opened_one(settings.rt, file))
+    let inputs = Inputs {
+        names: from_ref(&file),
+        staged: &[],
+    };
+    input_kind(settings, named, opened(settings.rt, inputs))
 }
 
 /// The form under which an input that was opened is read, where this one is named.

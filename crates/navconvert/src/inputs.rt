@@ -132,21 +132,3 @@ pub(crate) fn opened<'a>(rt: &'a HostRuntime, inputs: Inputs<'a>) -> Result<Inpu
         Err(error) => Err(fault_of(error.kind())),
     }
 }
-
-/// Opens one file.
-pub(crate) fn opened_one<'a>(rt: &'a HostRuntime, file: &str) -> Result<Input<'a>, FileFault>
-    ensures { IfOk result (λ input. ⟦<ReadSource<Bytes<'a>> as Source>⟧.faults input ≡ 0) }
-{
-    match fs::open(rt, file) {
-        Ok(open) => Ok(ReadSource::new(Bytes::Files(Files {
-            rt,
-            open: Open::File(open),
-            inputs: Inputs {
-                names: &[],
-                staged: &[],
-            },
-            place: 0,
-        }))),
-        Err(error) => Err(fault_of(error.kind())),
-    }
-}

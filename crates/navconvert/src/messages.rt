@@ -1,6 +1,6 @@
 //! What a stream or a log has of other systems: its messages, by their headers.
 
-use crate::systems::{Skips, System, system_of_block, system_of_number, system_of_signal};
+use crate::systems::{RTCM, SBF, Skips, System, UBX, system_in};
 use arrayvec::ArrayVec;
 use memchr::memchr;
 use whole_file::Kind;
@@ -219,69 +219,37 @@ fn first_of(format: Format) -> u8 {
     }
 }
 
-// What a header says.
-fn header_of(format: Format, header: &[u8]) -> Header {
-    match format {
-        Format::Rtcm => rtcm_header(header),
-        Format::Ubx => ubx_header(header),
-        Format::Sbf => sbf_header(header),
-    }
-}
-
 // A number of two bytes.
-fn two(high: u8, low: u8) -> usize {
-    usize::from(high) * 256 + usize::from(low)
+fn two(high: u8, low: u8) -> u16 {
+    u16::from(high) * 256 + u16::from(low)
 }
 
-// The header of a frame of RTCM 3: six bits of 0, ten of the length, and twelve of the number.
-fn rtcm_header(header: &[u8]) -> Header {
-    match header {
-        [_, high, ..] if *high > 3 => Header::Wrong,
-        [_, high, low, first, second] => {
-            let number = u16::from(*first) * 16 + u16::from(*second / 16);
-            let size = two(*high, *low);
-            let system = if size < 2 {
-                None
-            } else {
-                system_of_number(number)
-            };
-            Header::Message(size.saturating_add(6), system)
+// What a header says: of a frame of RTCM 3 six bits of 0, ten of the length, and twelve of the
+// number; of a UBX message, which has at most 8,192 bytes, with the first bytes of its payload, where
+// it is RXM-SFRBX (02 13); of an SBF block its CRC, its number in 13 bits, and its length.
+fn header_of(format: Format, header: &[u8]) -> Header {
+    match (format, header) {
+        (Format::Rtcm, [_, high, ..]) if *high > 3 => Header::Wrong,
+        (Format::Ubx, [_, second, ..]) if *second != b'b' => Header::Wrong,
+        (Format::Sbf, [_, second, ..]) if *second != b'@' => Header::Wrong,
+        (Format::Ubx, [_, _, _, _, low, high, ..]) if two(*high, *low) > 8184 => Header::Wrong,
+        (Format::Rtcm, [_, 0, 0, _, _]) => Header::Message(6, None),
+        (Format::Rtcm, [_, 0, 1, _, _]) => Header::Message(7, None),
+        (Format::Rtcm, [_, high, low, first, second]) => {
+            let number = two(*first, *second) / 16;
+            let size = usize::from(two(*high, *low));
+            Header::Message(size + 6, system_in(&RTCM, number))
         }
-        _ => Header::More,
-    }
-}
-
-// The header of a UBX message, with the first bytes of its payload: RXM-SFRBX is 02 13.
-fn ubx_header(header: &[u8]) -> Header {
-    match header {
-        [_, second, ..] if *second != b'b' => Header::Wrong,
-        [_, _, class, id, low, high] if *class != 2 || *id != 0x13 => {
-            sized(two(*high, *low).saturating_add(8), None)
+        (Format::Ubx, [_, _, class, id, low, high]) if *class != 2 || *id != 0x13 => {
+            Header::Message(usize::from(two(*high, *low)) + 8, None)
         }
-        [_, _, _, _, low, high, system, _, signal] => {
-            let system = system_of_signal(*system, *signal);
-            sized(two(*high, *low).saturating_add(8), system)
+        (Format::Ubx, [_, _, _, _, low, high, system, _, signal]) => {
+            let system = system_in(&UBX, two(*system, *signal));
+            Header::Message(usize::from(two(*high, *low)) + 8, system)
         }
-        _ => Header::More,
-    }
-}
-
-// The header of a UBX message of so many bytes: more than 8,192 are none.
-fn sized(size: usize, system: Option<System>) -> Header {
-    if size > 8192 {
-        Header::Wrong
-    } else {
-        Header::Message(size, system)
-    }
-}
-
-// The header of an SBF block: its CRC, its number in 13 bits, and its length.
-fn sbf_header(header: &[u8]) -> Header {
-    match header {
-        [_, second, ..] if *second != b'@' => Header::Wrong,
-        [_, _, _, _, low, high, size_low, size_high] => {
-            let number = u16::from(*high % 32) * 256 + u16::from(*low);
-            Header::Message(two(*size_high, *size_low), system_of_block(number))
+        (Format::Sbf, [_, _, _, _, low, high, size_low, size_high]) => {
+            let system = system_in(&SBF, two(*high % 32, *low));
+            Header::Message(usize::from(two(*size_high, *size_low)), system)
         }
         _ => Header::More,
     }

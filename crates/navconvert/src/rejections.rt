@@ -32,8 +32,14 @@ impl Rejections<'_> {
         let before = self.count.get();
         self.count.set(before.saturating_add(1));
         if self.is_json {
-            let mark = if before == 0 { "{\"rejections\":[" } else { "," };
-            let _ = print!(self.rt; "{mark}{{\"unit\":\"{unit}\",\"number\":{number},\"reason\":\"{reason}\"}}");
+            let mark = if before == 0 {
+                "{\"rejections\":["
+            } else {
+                ","
+            };
+            let _ = print!(self.rt;
+                "{mark}{{\"unit\":\"{unit}\",\"number\":{number},\"reason\":\"{reason}\"}}"
+            );
         } else if !self.is_quiet {
             let file = Shown(file);
             let _ = println!(self.rt; "{file}: {unit} {number}: {reason}");

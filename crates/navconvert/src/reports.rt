@@ -105,11 +105,9 @@ fn created(rt: &HostRuntime, name: &str, overwrites: bool) -> io::Result<File> {
     }
 }
 
-/// Writes the name of a file before what is reported of it, where it is one of several; whether
-/// that was done.
-pub(crate) fn is_headed(settings: &Settings, file: &str, files: &[&str]) -> bool {
-    files.len() == 1
-        || is_put(settings.report, b"file ")
-            && is_put(settings.report, file.as_bytes())
-            && is_put(settings.report, b"\n")
+/// Writes the name of a file before what is reported of it; whether that was done.
+pub(crate) fn is_headed(settings: &Settings, file: &str) -> bool {
+    is_put(settings.report, b"file ")
+        && is_put(settings.report, file.as_bytes())
+        && is_put(settings.report, b"\n")
 }

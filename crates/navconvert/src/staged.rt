@@ -7,12 +7,12 @@ use crate::inputs::{Inputs, Staged};
 use crate::meter::Meter;
 use crate::parts::part_name;
 use crate::place::{Goal, Place, Seen};
+use crate::reports::is_headed;
 use crate::steps::converted;
 use crate::summary::counted;
 use crate::systems::Skips;
 use crate::taken::is_read_once;
-use crate::tally::is_put;
-use crate::telling::{tell_file, tell_refusal};
+use crate::telling::tell_file;
 use bridge_engine::Done;
 use file_conversion::{Outcome, Plan, Refusal, Target, refusal_of};
 use std::slice::from_ref;
@@ -89,13 +89,6 @@ pub(crate) fn plan_before(settings: &Settings) -> Plan {
     }
 }
 
-// Writes the name of a file before what is reported of it; whether that was done.
-fn is_headed(settings: &Settings, name: &str) -> bool {
-    is_put(settings.report, b"file ")
-        && is_put(settings.report, name.as_bytes())
-        && is_put(settings.report, b"\n")
-}
-
 // What is made of a file of RINEX 3; the status, where it is not converted.
 fn converted_bytes<'a>(
     settings: &Settings<'a>,
@@ -131,14 +124,7 @@ fn convert_by<'a>(
     let mut place = Place::new(&first, inputs, Goal::Memory);
     let mut name = name;
     let meter = Meter::off(settings.rt);
-    let outcome = converted(
-        &first,
-        &mut place,
-        meter,
-        file,
-        part,
-        &mut name,
-    );
+    let outcome = converted(&first, &mut place, meter, file, part, &mut name);
     let Outcome {
         done,
         report: _,
@@ -149,7 +135,7 @@ fn convert_by<'a>(
     match done {
         Err(stop) => {
             let refusal = place.other().unwrap_or(refusal_of(stop, file, file));
-            Err(tell_refusal(settings, file, &refusal))
+            Err(tell_file(settings, file, &refusal))
         }
         Ok(made) => {
             before.add(&made.done, &place.seen(kind));

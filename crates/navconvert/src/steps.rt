@@ -37,14 +37,7 @@ pub(crate) fn made_by<'x, 'a, A: Namer<Option<Done>>>(
 ) -> (u8, Option<String>) {
     let mut place = Place::new(settings, inputs, goes.goal);
     let meter = meter_of(settings, first, inputs.names, goes.goal);
-    let outcome = converted(
-        settings,
-        &mut place,
-        meter,
-        first,
-        goes.part,
-        names,
-    );
+    let outcome = converted(settings, &mut place, meter, first, goes.part, names);
     let is_stopped = matches!(outcome.done, Err(Stop::Run(_, _, _, _, _) | Stop::Look(_)));
     if let (true, Some(refusal)) = (is_stopped, place.other()) {
         return (tell_file(settings, first, &refusal), None);

@@ -6,7 +6,7 @@ use crate::forms::format_word;
 use crate::json::Quoted;
 use crate::place::Seen;
 use crate::systems::{COUNT, SYSTEMS, Skips};
-use bridge_engine::{CaptureCounts, Done, RinexCounts};
+use bridge_engine::{CaptureCounts, Done};
 use file_conversion::{Shown, Target, Task, task_for};
 use receiver_log::LogCounts;
 use std::fmt;
@@ -23,52 +23,40 @@ pub(crate) struct JobCounts {
     pub skipped: u64,
 }
 
-/// What is counted of what a job has done.
+/// What is counted of what a job has done. Of a capture the messages that are not used are not told
+/// apart.
 pub(crate) fn counted(done: &Option<Done>) -> JobCounts {
-    match done {
-        None | Some(Done::Frames(_) | Done::Generated(_)) => of_items(None, 0, 0),
-        Some(Done::Capture(counts)) => of_capture(counts),
-        Some(Done::Stream(counts)) => of_items(Some(counts.items), counts.refused, counts.unused),
-        Some(Done::File(counts) | Done::Sent(counts) | Done::Covered(counts)) => of_file(counts),
-        Some(Done::Merged(counts)) => {
-            let again = counts.items.saturating_sub(counts.kept);
-            JobCounts {
-                amiss: [counts.refused, 0, 0, 0, 0, 0, again, 0],
-                ..of_items(Some(counts.kept), 0, counts.passed)
-            }
+    let (items, amiss, skipped) = match done {
+        None | Some(Done::Frames(_) | Done::Generated(_)) => (None, [0; KINDS], 0),
+        Some(Done::Capture(c)) => (Some(c.whole), of_capture(c), 0),
+        Some(Done::Stream(c)) => (Some(c.items), [c.refused, 0, 0, 0, 0, 0, 0, 0], c.unused),
+        Some(Done::File(c) | Done::Sent(c) | Done::Covered(c)) => {
+            (Some(c.items), [c.refused, 0, 0, 0, 0, 0, 0, 0], c.passed)
         }
-    }
-}
-
-// These counts, and nothing else amiss.
-fn of_items(items: Option<u64>, rejected: u64, skipped: u64) -> JobCounts {
+        Some(Done::Merged(c)) => {
+            let again = c.items.saturating_sub(c.kept);
+            (Some(c.kept), [c.refused, 0, 0, 0, 0, 0, again, 0], c.passed)
+        }
+    };
     JobCounts {
         items,
-        amiss: [rejected, 0, 0, 0, 0, 0, 0, 0],
+        amiss,
         skipped,
     }
 }
 
-// What is counted of a navigation file.
-fn of_file(counts: &RinexCounts) -> JobCounts {
-    of_items(Some(counts.items), counts.refused, counts.passed)
-}
-
-// What is counted of a capture, of which the messages that are not used are not told apart.
-fn of_capture(counts: &CaptureCounts) -> JobCounts {
-    JobCounts {
-        amiss: [
-            counts.refused,
-            counts.malformed,
-            counts.late,
-            counts.partial,
-            counts.contradicted,
-            counts.nohealth,
-            counts.again,
-            0,
-        ],
-        ..of_items(Some(counts.whole), 0, 0)
-    }
+// What is amiss in a capture.
+fn of_capture(c: &CaptureCounts) -> [u64; KINDS] {
+    [
+        c.refused,
+        c.malformed,
+        c.late,
+        c.partial,
+        c.contradicted,
+        c.nohealth,
+        c.again,
+        0,
+    ]
 }
 
 /// What became of a file: of what its output is made, what was rejected and skipped of it, and the
@@ -138,7 +126,10 @@ impl Summary<'_, '_> {
     fn skipped(&self) -> (u64, Skips) {
         let all = match &self.log {
             Some(counts) => counts.log.other,
-            None => self.counted.skipped.saturating_add(self.settings.before.passed),
+            None => self
+                .counted
+                .skipped
+                .saturating_add(self.settings.before.passed),
         };
         let mut skips = self.seen.skips;
         skips.join(&self.settings.before.skips);
@@ -168,7 +159,12 @@ impl Summary<'_, '_> {
                 if ionospheres == 0 {
                     return Ok(());
                 }
-                write_count(f, ", ", ionospheres, ("ionosphere record", "ionosphere records"))
+                write_count(
+                    f,
+                    ", ",
+                    ionospheres,
+                    ("ionosphere record", "ionosphere records"),
+                )
             }
             (None, Some(items), _) => write_count(f, ": made of ", items, ITEMS),
             (None, None, None) => f.write_str(": written"),
@@ -185,9 +181,14 @@ impl Summary<'_, '_> {
         for place in 0..KINDS {
             let count = self.amiss(place);
             if count > 0 {
-                let (_, one, many) = AMISS[place];
-                let names = if place == 0 { rejected_of(self.kind) } else { (one, many) };
-                write_count(f, before, count, names)?;
+                let (_, unit, what) = AMISS[place];
+                let unit = if place == 0 {
+                    units_of(self.kind).0
+                } else {
+                    unit
+                };
+                let s = if unit.is_empty() { "" } else { plural(count) };
+                write!(f, "{before}{count} {unit}{s}{what}")?;
                 before = ", ";
             }
         }
@@ -214,7 +215,9 @@ impl Summary<'_, '_> {
             write!(f, "{before}{other}")?;
             f.write_str(if before == ", " { " other" } else { "" })?;
         }
-        f.write_str(skipped_of(self.kind, all))?;
+        let (_, unit) = units_of(self.kind);
+        let s = plural(all);
+        write!(f, " {unit}{s}")?;
         Ok(true)
     }
 
@@ -257,20 +260,20 @@ const ITEMS: (&str, &str) = (
     "ephemerides and ionosphere records",
 );
 
-// What is amiss: its key, and what is said of one and of many; of what is rejected by the format.
+// What is amiss: its key, its unit, which of what is rejected is that of the format, and the rest.
 const KINDS: usize = 8;
 
 const MESSAGES: usize = 7;
 
 const AMISS: [(&str, &str, &str); KINDS] = [
-    ("rejected", "", ""),
-    ("malformed", "line malformed", "lines malformed"),
-    ("late", "line late", "lines late"),
-    ("partial", "issue partial", "issues partial"),
-    ("contradicted", "issue contradicted", "issues contradicted"),
-    ("nohealth", "issue without health", "issues without health"),
-    ("again", "repeated", "repeated"),
-    ("rejected_messages", "message rejected", "messages rejected"),
+    ("rejected", "", " rejected"),
+    ("malformed", "line", " malformed"),
+    ("late", "line", " late"),
+    ("partial", "issue", " partial"),
+    ("contradicted", "issue", " contradicted"),
+    ("nohealth", "issue", " without health"),
+    ("again", "", "repeated"),
+    ("rejected_messages", "message", " rejected"),
 ];
 
 // Writes a count, of one thing or of many, behind a text.
@@ -297,23 +300,18 @@ fn write_member<W: fmt::Write>(
     }
 }
 
-// What is rejected of a file that is read under this format, one and many.
-fn rejected_of(kind: Option<Kind>) -> (&'static str, &'static str) {
+// What is rejected and what is skipped of a file that is read under this format.
+fn units_of(kind: Option<Kind>) -> (&'static str, &'static str) {
     match kind {
-        Some(Kind::Stream) => ("frame rejected", "frames rejected"),
-        Some(Kind::Rinex4 | Kind::Rinex3) => ("record rejected", "records rejected"),
-        _ => ("line rejected", "lines rejected"),
+        Some(Kind::Stream) => ("frame", "message"),
+        Some(Kind::Rinex4 | Kind::Rinex3) => ("record", "record"),
+        _ => ("line", "message"),
     }
 }
 
-// So many that are skipped of a file that is read under this format.
-fn skipped_of(kind: Option<Kind>, count: u64) -> &'static str {
-    match (kind, count) {
-        (Some(Kind::Rinex4 | Kind::Rinex3), 1) => " record",
-        (Some(Kind::Rinex4 | Kind::Rinex3), _) => " records",
-        (_, 1) => " message",
-        _ => " messages",
-    }
+// The end of the name of so many.
+fn plural(count: u64) -> &'static str {
+    if count == 1 { "" } else { "s" }
 }
 
 // Whether a file is a capture, of which no message is told from those that hold no ephemeris.

@@ -14,23 +14,59 @@ pub(crate) const SYSTEMS: [&str; COUNT] = [
 /// How many they are.
 pub(crate) const COUNT: usize = 7;
 
-/// One of them.
+/// One of them, by its place.
 pub(crate) type System = usize;
-
-const GLONASS: System = 0;
-
-const BEIDOU: System = 1;
-
-const QZSS: System = 2;
-
-const NAVIC: System = 3;
-
-const SBAS: System = 4;
 
 const CNAV: System = 5;
 
 /// That of Galileo F/NAV.
 pub(crate) const FNAV: System = 6;
+
+/// Numbers from the first to the last, of which each is that of a system.
+pub(crate) type Numbers = (u16, u16, System);
+
+// The letters of satellites in RINEX.
+static LETTERS: [Numbers; 5] = [
+    (0x52, 0x52, 0),
+    (0x43, 0x43, 1),
+    (0x4a, 0x4a, 2),
+    (0x49, 0x49, 3),
+    (0x53, 0x53, 4),
+];
+
+/// Those of RTCM messages (RTCM 10403.3, table 3.5-1); 63 was BeiDou's before it had one.
+pub(crate) static RTCM: [Numbers; 7] = [
+    (1020, 1020, 0),
+    (63, 63, 1),
+    (1042, 1042, 1),
+    (1044, 1044, 2),
+    (1041, 1041, 3),
+    (1043, 1043, 4),
+    (1045, 1045, FNAV),
+];
+
+/// Those of UBX-RXM-SFRBX: its gnssId, and its sigId in the low byte.
+pub(crate) static UBX: [Numbers; 8] = [
+    (0x600, 0x6ff, 0),
+    (0x300, 0x3ff, 1),
+    (0x500, 0x5ff, 2),
+    (0x700, 0x7ff, 3),
+    (0x100, 0x1ff, 4),
+    (0x003, 0x004, CNAV),
+    (0x006, 0x007, CNAV),
+    (0x203, 0x203, FNAV),
+];
+
+/// Those of SBF blocks.
+pub(crate) static SBF: [Numbers; 7] = [
+    (4026, 4026, 0),
+    (4047, 4047, 1),
+    (4066, 4066, 2),
+    (4093, 4093, 3),
+    (4020, 4020, 4),
+    (4018, 4019, CNAV),
+    (4022, 4022, FNAV),
+];
 
 /// How many records or messages there are of each.
 #[derive(Clone, Copy)]
@@ -76,16 +112,19 @@ impl Skips {
     }
 }
 
+/// The system of a number.
+pub(crate) fn system_in(numbers: &[Numbers], number: u16) -> Option<System> {
+    for (first, last, system) in numbers {
+        if *first <= number && number <= *last {
+            return Some(*system);
+        }
+    }
+    None
+}
+
 /// The system of a record of RINEX, by the letter of its satellite.
 pub(crate) fn system_of_letter(letter: u8) -> Option<System> {
-    match letter {
-        b'R' => Some(GLONASS),
-        b'C' => Some(BEIDOU),
-        b'J' => Some(QZSS),
-        b'I' => Some(NAVIC),
-        b'S' => Some(SBAS),
-        _ => None,
-    }
+    system_in(&LETTERS, u16::from(letter))
 }
 
 /// That of a record of RINEX 4, by its title: `> EPH R05 FDMA`.
@@ -97,48 +136,6 @@ pub(crate) fn system_of_title(title: &[u8]) -> Option<System> {
         (Some(b'G'), Some([b'C', b'N', ..])) => Some(CNAV),
         (Some(b'E'), Some([b'F', ..])) => Some(FNAV),
         (Some(letter), _) => system_of_letter(*letter),
-        _ => None,
-    }
-}
-
-/// That of an RTCM message (RTCM 10403.3, table 3.5-1), by its number; 63 was BeiDou's before it
-/// had one.
-pub(crate) fn system_of_number(number: u16) -> Option<System> {
-    match number {
-        1020 => Some(GLONASS),
-        63 | 1042 => Some(BEIDOU),
-        1044 => Some(QZSS),
-        1041 => Some(NAVIC),
-        1043 => Some(SBAS),
-        1045 => Some(FNAV),
-        _ => None,
-    }
-}
-
-/// That of UBX-RXM-SFRBX, by its gnssId and sigId.
-pub(crate) fn system_of_signal(system: u8, signal: u8) -> Option<System> {
-    match (system, signal) {
-        (6, _) => Some(GLONASS),
-        (3, _) => Some(BEIDOU),
-        (5, _) => Some(QZSS),
-        (7, _) => Some(NAVIC),
-        (1, _) => Some(SBAS),
-        (0, 3 | 4 | 6 | 7) => Some(CNAV),
-        (2, 3) => Some(FNAV),
-        _ => None,
-    }
-}
-
-/// That of an SBF block, by its number.
-pub(crate) fn system_of_block(number: u16) -> Option<System> {
-    match number {
-        4026 => Some(GLONASS),
-        4047 => Some(BEIDOU),
-        4066 => Some(QZSS),
-        4093 => Some(NAVIC),
-        4020 => Some(SBAS),
-        4018 | 4019 => Some(CNAV),
-        4022 => Some(FNAV),
         _ => None,
     }
 }

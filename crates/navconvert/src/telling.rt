@@ -12,10 +12,10 @@ use crate::tally::{ReportFile, is_put};
 use file_conversion::{Outcome, Refusal, Shown, Teller};
 use nav_io::Failed;
 use receiver_log::counts_text;
-use std::{fmt, fs};
 use std::alloc::AllocError;
 use std::io::{IsTerminal, Read};
 use std::path::Path;
+use std::{fmt, fs};
 use whole_file::{FileFault, Kind};
 
 // What takes the line of a meter away: to its end, however long it is.
@@ -29,29 +29,22 @@ pub(crate) fn tell_program(rt: &HostRuntime, refusal: &Refusal) -> u8
     refusal.status()
 }
 
-/// Says why a file is not converted; the status.
+/// Says why a file is not converted, with the command that unpacks it if it is packed; the status.
 pub(crate) fn tell_file(settings: &Settings, file: &str, refusal: &Refusal) -> u8
     ensures { result ≡ status_of refusal.now }
 {
+    let told = match *refusal {
+        Refusal::NoSuchConversion(kind) => form_refusal(settings, file, kind),
+        refusal => refusal,
+    };
     clear(settings.rt);
     if settings.rejections.is_json {
-        print_object(settings, file, refusal.status(), &Failure(*refusal, settings.rt));
+        print_object(settings, file, told.status(), &Failure(told, settings.rt));
     } else {
         let shown = Shown(file);
-        let _ = eprintln!(settings.rt; "navconvert: {shown}: {refusal}");
+        let _ = eprintln!(settings.rt; "navconvert: {shown}: {told}");
     }
     refusal.status()
-}
-
-/// Says why a file is not converted to what is asked, with the command that unpacks it where it is
-/// packed; the status.
-pub(crate) fn tell_refusal(settings: &Settings, file: &str, refusal: &Refusal) -> u8 {
-    match refusal {
-        Refusal::NoSuchConversion(kind) => {
-            tell_file(settings, file, &form_refusal(settings, file, *kind))
-        }
-        _ => tell_file(settings, file, refusal),
-    }
 }
 
 // Why a file of this form is not converted to what is asked.
@@ -127,7 +120,7 @@ impl<'a> Teller<ReportFile<'a>> for Saying<'_, 'a> {
         if let Refusal::WriteFault(_, FileFault::ReaderGone) = refusal {
             return;
         }
-        let _ = tell_refusal(self.settings, self.file, refusal);
+        let _ = tell_file(self.settings, self.file, refusal);
     }
 
     fn done(&mut self, outcome: &Outcome<ReportFile<'a>>) -> Result<(), Failed> {

@@ -8,6 +8,7 @@ use bridge_engine::is_date;
 use file_conversion::{Plan, Refusal, is_site};
 use gnss_week::{Moment, RefWeek};
 use rinex_write::HeaderWords;
+use std::alloc::{AllocError, Global};
 
 /// What is asked of each file, by the clock where a value is not named.
 pub(crate) fn plan_of<'a>(rt: &HostRuntime, asked: &Asked<'a>) -> Result<Plan, Refusal<'a>> {
@@ -23,7 +24,7 @@ pub(crate) fn plan_of<'a>(rt: &HostRuntime, asked: &Asked<'a>) -> Result<Plan, R
         return Err(refusal);
     }
     let moment = now(rt);
-    let date = match date_at(moment, asked.value("date")) {
+    let date = match date_at(rt.alloc(), moment, asked.value("date")) {
         Ok(date) => date,
         Err(refusal) => return Err(refusal),
     };
@@ -69,29 +70,32 @@ fn refused_site(text: Option<&str>) -> Option<Refusal> {
 }
 
 // The date that a text names, or that of a moment.
-fn date_at(moment: Moment, text: Option<&str>) -> Result<[u8; 19], Refusal> {
-    let Some(text) = text else {
-        return Ok(date_of(moment));
-    };
+fn date_at<'a>(
+    alloc: Global,
+    moment: Moment,
+    text: Option<&'a str>,
+) -> Result<[u8; 19], Refusal<'a>> {
+    match text {
+        Some(text) => parsed_date(text).ok_or(Refusal::Date(text)),
+        None => match date_of(alloc, moment) {
+            Ok(text) => parsed_date(text.as_str()).ok_or(Refusal::Date("of the clock")),
+            Err(AllocError) => Err(Refusal::NoMemory),
+        },
+    }
+}
+
+// A date.
+fn parsed_date(text: &str) -> Option<[u8; 19]> {
     match <[u8; 19]>::try_from(text.as_bytes()) {
-        Ok(date) if is_date(text.as_bytes()) => Ok(date),
-        _ => Err(Refusal::Date(text)),
+        Ok(date) if is_date(text.as_bytes()) => Some(date),
+        _ => None,
     }
 }
 
 // The number that is written in digits alone, as `navbridge` reads it: in ten, at most.
 fn number_of(text: &str) -> Option<u32> {
-    if text.is_empty() || text.len() > 10 {
+    if text.starts_with('+') || text.len() > 10 {
         return None;
     }
-    let mut number = 0u32;
-    for byte in text.as_bytes() {
-        if !byte.is_ascii_digit() {
-            return None;
-        }
-        number = number
-            .saturating_mul(10)
-            .saturating_add(u32::from(*byte - b'0'));
-    }
-    Some(number)
+    text.parse().ok()
 }

@@ -46,27 +46,10 @@ fn text_of(alloc: Global, bytes: &[u8]) -> Result<String, AllocError> {
     for chunk in bytes.utf8_chunks() {
         text.push_str(chunk.valid())?;
         for byte in chunk.invalid() {
-            push_byte(&mut text, *byte)?;
+            text.push_str(format!(in alloc; "\0{byte:02x}")?.as_str())?;
         }
     }
     Ok(text)
-}
-
-// Appends a byte that is no text.
-fn push_byte(text: &mut String, byte: u8) -> Result<(), AllocError> {
-    text.push('\0')?;
-    text.push(digit(byte / 16))?;
-    text.push(digit(byte % 16))
-}
-
-// A hexadecimal digit.
-fn digit(value: u8) -> char {
-    let value = value % 16;
-    if value < 10 {
-        char::from(b'0' + value)
-    } else {
-        char::from(b'a' + (value - 10))
-    }
 }
 
 /// Whether a word had bytes that are no text.
