@@ -8,9 +8,9 @@ use Rattle.bridge_engine.specs.declared.job.Job.{Job}
 use Rattle.bridge_engine.specs.declared.job.Job.TheVariants as jobs
 use Rattle.whole_file.specs.declared.kinds.Kind.{Kind}
 use Rattle.whole_file.specs.declared.kinds.Kind.TheVariants as kinds
-use Rattle.file_conversion.specs.Makes.{AcceptsBy, CanConvert, ReadsUnder, kind_under, read_under}
+use Rattle.file_conversion.specs.Makes.{AcceptsBy, CanConvert, ReadsUnder, kind_under, read_under, task_under}
 use Rattle.file_conversion.specs.Logs.{read_as}
-use Rattle.file_conversion.specs.Steps.{IsBegun, IsLack, IsReady, IsStopped, Made}
+use Rattle.file_conversion.specs.Steps.{IsBegun, IsLack, IsReady, IsStopped, IsUnconverted, Made}
 use Rattle.file_conversion.specs.Table.{capture_task, capture_to, file_to, stream_to, file3_task, file4_task, log_task, stream_task, task_for}
 use Rattle.file_conversion.specs.Tasks.{reads_input}
 use Rattle.file_conversion.specs.declared.ready.Ready.{Ready}
@@ -130,5 +130,7 @@ begun_of plan ready source whole left read same keeps is there =
     begun_from plan ready source left read (subst (λ (o : Option (List ℕ)). Keeps o left) same keeps) is there
 
 pub stopped_of : (plan : Plan) (source : Option (List ℕ)) (reads reads_new : ℕ) (done : Result Made Stop) (stop : Stop) → done ≡ Err stop
-    → IfSome source (λ bytes. CanConvert plan bytes → (Rose reads reads_new → ⊥) → IsLack stop) → IsStopped plan source reads reads_new done
-stopped_of plan source reads reads_new done stop is why = rw is (record { never = tt; lack = why })
+    → IfSome source (λ bytes. CanConvert plan bytes → (Rose reads reads_new → ⊥) → IsLack stop)
+    → IfSome source (λ bytes. task_under plan bytes ≡ None → (Rose reads reads_new → ⊥) → IsUnconverted (kind_under plan bytes) (Err stop))
+    → IsStopped plan source reads reads_new done
+stopped_of plan source reads reads_new done stop is why none = rw is (record { never = tt; lack = why; none = none })

@@ -9,12 +9,13 @@ use Rattle.bridge_engine.specs.declared.done.Done.{Done}
 use Rattle.whole_file.specs.declared.kinds.Kind.{Kind}
 use Rattle.whole_file.specs.Files.{Opens, Stays}
 use Rattle.whole_file.specs.Steps.{BrokeOff, Lacks, bytes_of}
+use Rattle.whole_file.specs.declared.faults.FileFault.{FileFault}
 use Rattle.whole_file.specs.declared.step.StepFault.{StepFault}
 use Rattle.whole_file.specs.declared.step.StepFault.TheVariants.{Begin, Run, Unnamed, Publish}
 use Rattle.receiver_log.specs.Capture.{too_many}
-use Rattle.file_conversion.specs.Makes.{AcceptsBy, CanConvert, ConvertsAs, CountsAs, CountsBy, Makes, MakesBy, PutsAs, ReadsUnder, read_under}
+use Rattle.file_conversion.specs.Makes.{AcceptsBy, CanConvert, ConvertsAs, CountsAs, CountsBy, Makes, MakesBy, PutsAs, ReadsUnder, kind_under, read_under, task_under}
 use Rattle.file_conversion.specs.Stops.{stopped_by}
-use Rattle.file_conversion.specs.Steps.{EndsSo, IsBegun, IsLack, IsStopped, LacksMore, Made, TellsForm}
+use Rattle.file_conversion.specs.Steps.{EndsSo, IsBegun, IsLack, IsMissing, IsStopped, IsUnconverted, LacksMore, Made, TellsForm, told_by}
 use Rattle.file_conversion.specs.Tasks.{accepts, counts_by, makes_by}
 use Rattle.file_conversion.specs.declared.stops.Stop.{Stop}
 use Rattle.file_conversion.specs.declared.table.Plan.{Plan}
@@ -251,3 +252,38 @@ closed plan files from source R N reads reads_new faults faults_open faults_mid 
 pub not_opened : (left : Option (List ℕ)) (Can : List ℕ → Type 0) (A B C : Type 0) (files files_new : ℕ) → Rose files files_new
     → IfSome left (λ bytes. Can bytes → A → B → (Rose files files_new → ⊥) → C)
 not_opened left Can A B C files files_new rose = always left _ (λ bytes can a b none. absurd (none rose))
+
+-- ---- a cause that the bytes or the names decide
+
+-- a conversion that was begun has a task
+pub none_begun : (plan : Plan) (source left : Option (List ℕ)) (task : Task) (A : Type 0) (P : List ℕ → Type 0) → IsBegun plan source left task
+    → IfSome source (λ bytes. task_under plan bytes ≡ None → A → P bytes)
+none_begun plan None left task A P is = tt
+none_begun plan (Some bytes) left task A P (reads, asks) = λ none a. absurd (let no : Some task ≡ None = sym asks ∙ none in cc)
+
+unconverted_told : (kind : Kind) (done : Result Made Stop) (read : Option FileFault) → IsUnconverted kind done → IsUnconverted kind (told_by done read)
+unconverted_told kind (Ok made) read never = absurd never
+unconverted_told kind (Err stop) read (inl is) = subst (λ (s : Stop). IsUnconverted kind (told_by (Err s) read)) (sym is) (inl refl)
+unconverted_told kind (Err stop) read (inr is) = subst (λ (s : Stop). IsUnconverted kind (told_by (Err s) read)) (sym is) (inr refl)
+
+-- what is so of the bytes of the source is so of those of the file, and a read that failed fails the close
+pub closed_none : (plan : Plan) (files : Folders) (from : List ℕ) (source : Option (List ℕ)) (reads reads_new : ℕ)
+    (faults faults_open faults_mid faults_new : ℕ) (done result : Result Made Stop) (read : Option FileFault)
+    → Opens files from source → result ≡ told_by done read → reads ≡ 0 → faults_open ≡ faults → faults_open ≤ faults_mid
+    → (Rose 0 reads_new → Rose faults_mid faults_new)
+    → IfSome source (λ bytes. task_under plan bytes ≡ None → (Rose reads reads_new → ⊥) → IsUnconverted (kind_under plan bytes) done)
+    → IfSome (bytes_of files from) (λ bytes. task_under plan bytes ≡ None → (Rose faults faults_new → ⊥)
+    → IsUnconverted (kind_under plan bytes) result)
+closed_none plan files from source reads reads_new faults faults_open faults_mid faults_new done result read opens is zero same before told each =
+    of_file files from source _ opens (mapped source _ _ (λ bytes why none no_fault.
+    subst (IsUnconverted (kind_under plan bytes)) (sym is) (unconverted_told (kind_under plan bytes) done read (why none
+    (λ rose. no_fault (rose_before faults faults_open faults_mid faults_new (sym same) before (told (rose_same reads 0 reads_new reads_new zero refl rose))))))) each)
+
+pub not_opened_none : (left : Option (List ℕ)) (Can C : List ℕ → Type 0) (files files_new : ℕ) → Rose files files_new
+    → IfSome left (λ bytes. Can bytes → (Rose files files_new → ⊥) → C bytes)
+not_opened_none left Can C files files_new rose = always left _ (λ bytes can none. absurd (none rose))
+
+-- what was opened is there
+pub not_missing : (files : Folders) (from : List ℕ) (source : Option (List ℕ)) (A : Type 0) → Opens files from source → IsMissing files from → A
+not_missing None from source A opens never = absurd never
+not_missing (Some files) from source A (bytes, there, has) none = absurd (let no : Some bytes ≡ None = sym there ∙ none in cc)

@@ -1,5 +1,5 @@
 -- How a conversion begins and ends.
-use Rattle.std.specs.Prelude.{◌≡◌, ◌⊎◌, ◌≤◌, ℕ, List, Option, Some, Result, Ok, Err, IfErr, IfSome, IsSome, OnOk}
+use Rattle.std.specs.Prelude.{◌≡◌, ◌⊎◌, ◌≤◌, ℕ, List, Option, None, Some, Result, Ok, Err, IfErr, IfSome, IsSome, OnOk}
 use Rattle.bridge_engine.specs.declared.done.Done.{Done}
 use Rattle.one_run.specs.declared.fault.BridgeFault.{BridgeFault}
 use Rattle.one_run.specs.declared.fault.BridgeFault.TheVariants.{NoMemory}
@@ -10,7 +10,7 @@ use Rattle.whole_file.specs.declared.faults.FileFault.{FileFault}
 use Rattle.whole_file.specs.declared.step.Named.{Named}
 use Rattle.whole_file.specs.declared.step.StepFault.{StepFault}
 use Rattle.receiver_log.specs.Capture.{too_many}
-use Rattle.file_conversion.specs.Makes.{CanConvert, ReadsUnder, read_under, task_under}
+use Rattle.file_conversion.specs.Makes.{CanConvert, ReadsUnder, kind_under, read_under, task_under}
 use Rattle.file_conversion.specs.declared.ready.Ready.{Ready}
 use Rattle.file_conversion.specs.declared.table.Plan.{Plan}
 use Rattle.file_conversion.specs.declared.table.Task.{Task}
@@ -27,6 +27,21 @@ abbrev pub IsLack : Stop → Type 0
 IsLack (stops.Run kind fault count read put) = (fault ≡ NoMemory) ⊎ (too_many ≤ count)
 IsLack stops.NoMemory = Unit {0}
 IsLack stop = ⊥
+
+-- the bytes are of this format, of which there is no such conversion; or there was no memory to see that
+abbrev pub IsUnconverted : Kind → Result Made Stop → Type 0
+IsUnconverted kind (Ok made) = ⊥
+IsUnconverted kind (Err stop) = (stop ≡ stops.NoConversion kind) ⊎ (stop ≡ stops.NoMemory)
+
+-- no file has this name, where the folder tells its files
+abbrev pub IsMissing : Option (List ℕ → Option (List ℕ)) → List ℕ → Type 0
+IsMissing None name = ⊥
+IsMissing (Some files) name = files name ≡ None
+
+-- the file was not opened
+abbrev pub IsNotOpened : Result Made Stop → Type 0
+IsNotOpened (Err (stops.Open fault)) = Unit {0}
+IsNotOpened done = ⊥
 
 -- the task lacked memory, or broke off and these bytes are too many for a log
 abbrev pub LacksMore : ℕ → StepFault BridgeFault → Type 0
@@ -64,3 +79,4 @@ IsBegun plan source left task =
 pub record IsStopped (plan : Plan) (source : Option (List ℕ)) (reads reads_new : ℕ) (done : Result Made Stop) : Type 0 where
   pub never : OnOk done ⊥
   pub lack : IfSome source (λ bytes. CanConvert plan bytes → ¬ Rose reads reads_new → IfErr done IsLack)
+  pub none : IfSome source (λ bytes. task_under plan bytes ≡ None → ¬ Rose reads reads_new → IsUnconverted (kind_under plan bytes) done)

@@ -1,11 +1,11 @@
 //! A conversion of a source that is begun: the source was looked at, and it is known what is done
 //! with it.
 
-ghost use Rattle.std.specs.Prelude.{◌≡◌, [], IfErr, IfOk, IfSome, MatchResult, OnOk};
+ghost use Rattle.std.specs.Prelude.{◌≡◌, ◌⊎◌, [], IfErr, IfOk, IfSome, MatchResult, OnOk};
 ghost use Rattle.std.specs.Prelude.{None};
 ghost use Rattle.std.specs.Io.KnownBytes.{Keeps};
 ghost use Rattle.nav_io.specs.Causes.{Rose};
-ghost use Rattle.file_conversion.specs.Makes.{CanConvert, ReadsUnder};
+ghost use Rattle.file_conversion.specs.Makes.{CanConvert, ReadsUnder, kind_under, task_under};
 ghost use Rattle.file_conversion.specs.Steps.{IsBegun, IsLack, IsReady, IsStopped};
 
 use crate::ends::{Observers, Outcome, Sourced};
@@ -82,6 +82,10 @@ fn prepare<S: Source>(plan: &Plan, input: &mut Peeked<S>) -> Result<Ready, Stop>
     ensures complete { IfErr result (λ stop. IfSome (S.left input.old.source) (λ bytes.
         CanConvert plan.now bytes
         → ¬ Rose (S.faults input.old.source) (S.faults input.new.source) → IsLack stop)) }
+    ensures none { IfErr result (λ stop. IfSome (S.left input.old.source) (λ bytes.
+        task_under plan.now bytes ≡ None
+        → ¬ Rose (S.faults input.old.source) (S.faults input.new.source)
+        → (stop ≡ Stop.NoConversion (kind_under plan.now bytes)) ⊎ (stop ≡ Stop.NoMemory))) }
 {
     match look(plan.form, input) {
         Ok(kind) => match task_for(plan, kind) {

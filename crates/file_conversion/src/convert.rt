@@ -1,12 +1,14 @@
 //! From the file of one name, or a source, to the file of another.
 
-ghost use Rattle.std.specs.Prelude.{◌≤◌, IfErr, IfOk, IfSome, OnErr};
+ghost use Rattle.std.specs.Prelude.{◌≡◌, ◌≤◌, IfErr, IfOk, IfSome, None, OnErr};
 ghost use Rattle.std.specs.String.{string_bytes};
 ghost use Rattle.nav_io.specs.Causes.{Rose};
 ghost use Rattle.whole_file.specs.Files.{Stays};
 ghost use Rattle.whole_file.specs.Steps.{bytes_of};
 ghost use Rattle.file_conversion.specs.Makes.{CanConvert, ConvertsAs, CountsAs, PutsAs};
-ghost use Rattle.file_conversion.specs.Steps.{IsLack, TellsForm};
+ghost use Rattle.file_conversion.specs.Makes.{kind_under, task_under};
+ghost use Rattle.file_conversion.specs.Steps.{IsLack, IsMissing, IsNotOpened, IsUnconverted};
+ghost use Rattle.file_conversion.specs.Steps.{TellsForm};
 
 use crate::begun::begin;
 use crate::ends::{Observers, Outcome, Sourced, ended};
@@ -44,6 +46,14 @@ pub fn convert_one<F: Folder, U: Sink, N: Refused + Drop, P: Progress, A: Namer<
     ensures stays { OnErr result.done (Stays (F.files folder.old) (F.files folder.new) part.now) }
     ensures form { TellsForm plan.now (bytes_of (F.files folder.old) from.now) result.done
         result.kind }
+
+    // Where no file has the name it is not opened (status 3), and where there is no conversion of
+    // its bytes, and nothing fails, that is the reason (status 2), or there was no memory (6).
+    ensures missing { IsMissing (F.files folder.old) from.now → IsNotOpened result.done }
+    ensures none { IfSome (bytes_of (F.files folder.old) from.now) (λ bytes.
+        task_under plan.now bytes ≡ None
+        → ¬ Rose (F.faults folder.old) (F.faults folder.new)
+        → IsUnconverted (kind_under plan.now bytes) result.done) }
 
     // It is done where the file is there, its bytes are accepted, the output has a name and nothing
     // fails, but for want of memory or of a log's 2^64 - 1 bytes.
@@ -97,6 +107,12 @@ pub fn convert_source<
         (Stays (F.files folder.old) (F.files folder.new) part.now) }
     ensures later { F.faults folder.old ≤ F.faults folder.new }
     ensures form { TellsForm plan.now (S.left source) result.outcome.done result.outcome.kind }
+
+    // Where there is no conversion of the bytes of the source, and no read fails, that is the
+    // reason, or there was no memory.
+    ensures none { IfSome (S.left source) (λ bytes. task_under plan.now bytes ≡ None
+        → ¬ Rose (S.faults source) (S.faults result.source)
+        → IsUnconverted (kind_under plan.now bytes) result.outcome.done) }
 
     // It is done where the bytes of the source are accepted, the output has a name and nothing
     // fails, but for want of memory or of a log's 2^64 - 1 bytes.

@@ -59,11 +59,13 @@ impl fmt::Display for FormatList {
             let Format { name, suffix, mark } = format;
             write!(f, "{name:8} {suffix:8} {mark:29}")?;
             let mut before = "";
-            for target in Target::ALL {
-                if kind_named(name).is_some_and(|kind| is_converted(kind, target)) {
-                    f.write_str(before)?;
-                    f.write_str(to_word(target))?;
-                    before = ", ";
+            if let Some(kind) = kind_named(name) {
+                for target in Target::ALL {
+                    if is_converted(kind, target) {
+                        f.write_str(before)?;
+                        f.write_str(to_word(target))?;
+                        before = ", ";
+                    }
                 }
             }
             f.write_str("\n")?;

@@ -63,7 +63,10 @@ impl Rejections<'_> {
 
 // The unit, its number and the reason, as of `line 48 parity 3`; none of counts, one a line.
 fn rejection_of(line: &[u8]) -> Option<[&str; 3]> {
-    let (unit, rest) = from_utf8(line.trim_ascii_end()).ok()?.split_once(' ')?;
+    let Ok(text) = from_utf8(line.trim_ascii_end()) else {
+        return None;
+    };
+    let (unit, rest) = text.split_once(' ')?;
     let (number, reason) = rest.split_once(' ')?;
     if number.contains('\n') {
         return None;

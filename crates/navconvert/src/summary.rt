@@ -142,7 +142,10 @@ impl Summary<'_, '_> {
     // The week of the clock, if the file was read by it: its job has a week, and none is named.
     fn clock_week(&self) -> Option<u32> {
         let plan = &self.settings.plan;
-        match task_for(plan, self.kind?) {
+        let Some(kind) = self.kind else {
+            return None;
+        };
+        match task_for(plan, kind) {
             Some(Task::Does(job)) if plan.week.is_none() => match week_in(&job) {
                 None => None,
                 Some(_) => Some(plan.clock_week.value()),
@@ -223,11 +226,17 @@ impl Summary<'_, '_> {
 
     // Writes the members of the object of JSON.
     fn write_members<W: fmt::Write>(&self, f: &mut fmt::Formatter<W>) -> fmt::Result {
-        let format = self.kind.map_or("", format_word);
+        let format = match self.kind {
+            None => "",
+            Some(kind) => format_word(kind),
+        };
         write!(f, ",\"error\":null,\"format\":\"{format}\",\"output\":")?;
-        match self.output.map(Quoted) {
+        match self.output {
             None => f.write_str("null")?,
-            Some(name) => write!(f, "{name}")?,
+            Some(name) => {
+                let name = Quoted(name);
+                write!(f, "{name}")?;
+            }
         }
         let (ephemerides, ionospheres) = match self.parts() {
             None => (None, None),

@@ -76,19 +76,19 @@ fn date_at<'a>(
     text: Option<&'a str>,
 ) -> Result<[u8; 19], Refusal<'a>> {
     match text {
-        Some(text) => parsed_date(text).ok_or(Refusal::Date(text)),
+        Some(text) => parsed_date(text, text),
         None => match date_of(alloc, moment) {
-            Ok(text) => parsed_date(text.as_str()).ok_or(Refusal::Date("of the clock")),
+            Ok(text) => parsed_date(text.as_str(), "of the clock"),
             Err(AllocError) => Err(Refusal::NoMemory),
         },
     }
 }
 
-// A date.
-fn parsed_date(text: &str) -> Option<[u8; 19]> {
+// A date, which is called so.
+fn parsed_date<'a>(text: &str, name: &'a str) -> Result<[u8; 19], Refusal<'a>> {
     match <[u8; 19]>::try_from(text.as_bytes()) {
-        Ok(date) if is_date(text.as_bytes()) => Some(date),
-        _ => None,
+        Ok(date) if is_date(text.as_bytes()) => Ok(date),
+        _ => Err(Refusal::Date(name)),
     }
 }
 
@@ -97,5 +97,8 @@ fn number_of(text: &str) -> Option<u32> {
     if text.starts_with('+') || text.len() > 10 {
         return None;
     }
-    text.parse().ok()
+    match text.parse::<u32>() {
+        Ok(number) => Some(number),
+        Err(_) => None,
+    }
 }

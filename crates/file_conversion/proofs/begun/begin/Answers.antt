@@ -11,4 +11,5 @@ returns-in-Ok-clause-form g c = rw c.new-input.ensures.source at c.in-Ok.ensures
 
 pub returns-in-Err-clause-stopped : goal.returns-in-Err-clause-stopped
 returns-in-Err-clause-stopped g c =
-    rw c.into_source.ensures (stopped_of _ _ _ _ _ _ c.stopped.ensures.done (rw c.new-input.ensures.source at c.in-Err.ensures.complete))
+    rw c.into_source.ensures (stopped_of _ _ _ _ _ _ c.stopped.ensures.done (rw c.new-input.ensures.source at c.in-Err.ensures.complete)
+    (rw c.new-input.ensures.source at c.in-Err.ensures.none))

@@ -1,7 +1,7 @@
 use Rattle.std.specs.String.{string_bytes}
 use Rattle.nav_io.specs.Causes.{Rose}
 use Rattle.file_conversion.specs.Steps.{Made}
-use Rattle.file_conversion.proofs.Closing.{closed, converts_of, counts_file, none_ok, not_opened, on_ended, on_failed, stays_of, stays_still, tells_file, unmade, untold}
+use Rattle.file_conversion.proofs.Closing.{closed, closed_none, converts_of, counts_file, none_ok, not_missing, not_opened, not_opened_none, on_ended, on_failed, stays_of, stays_still, tells_file, unmade, untold}
 use Rattle.file_conversion.proofs.convert.convert_one.Goals as goal
 
 pub returns-in-Ok-clause-converts : goal.returns-in-Ok-clause-converts
@@ -39,6 +39,14 @@ returns-in-Ok-clause-complete g c =
     _ _ _ _ _ _ _ _ c.in-Ok.ensures.bytes c.told_by.ensures.ends c.in-Ok.ensures.fresh c.in-Ok.ensures.cause.stays
     c.convert_source-left.ensures.later c.close-closed.ensures.cause.later c.close-closed.ensures.told c.convert_source-left.ensures.complete)
 
+pub returns-in-Ok-clause-missing : goal.returns-in-Ok-clause-missing
+returns-in-Ok-clause-missing g c = not_missing _ _ _ _ c.in-Ok.ensures.bytes
+
+pub returns-in-Ok-clause-none : goal.returns-in-Ok-clause-none
+returns-in-Ok-clause-none g c =
+    closed_none c.args.plan.now _ _ _ _ _ _ _ _ _ _ _ _ c.in-Ok.ensures.bytes c.told_by.ensures.told c.in-Ok.ensures.fresh c.in-Ok.ensures.cause.stays
+    c.convert_source-left.ensures.later c.close-closed.ensures.told c.convert_source-left.ensures.none
+
 pub returns-in-Err-clause-converts : goal.returns-in-Err-clause-converts
 returns-in-Err-clause-converts g c = none_ok _ _ (unmade _ _ c.stopped.ensures.done)
 
@@ -56,3 +64,9 @@ returns-in-Err-clause-form g c = untold c.args.plan.now _ _ _ (unmade _ _ c.stop
 
 pub returns-in-Err-clause-complete : goal.returns-in-Err-clause-complete
 returns-in-Err-clause-complete g c = not_opened _ _ _ _ _ _ _ c.in-Err.ensures.cause.failed
+
+pub returns-in-Err-clause-missing : goal.returns-in-Err-clause-missing
+returns-in-Err-clause-missing g c = rw c.stopped.ensures.done (λ missing. tt)
+
+pub returns-in-Err-clause-none : goal.returns-in-Err-clause-none
+returns-in-Err-clause-none g c = not_opened_none _ _ _ _ _ c.in-Err.ensures.cause.failed

@@ -3,7 +3,7 @@ use Rattle.std.specs.String.{string_bytes}
 use Rattle.nav_io.specs.Causes.{Rose}
 use Rattle.whole_file.specs.Files.{Publishes}
 use Rattle.file_conversion.specs.Steps.{Made}
-use Rattle.file_conversion.proofs.Closing.{counts_of, lacks_of, made_of, none_ok, on_ended, on_failed, stays_still, stopped_lack, tells, untold}
+use Rattle.file_conversion.proofs.Closing.{counts_of, lacks_of, made_of, none_begun, none_ok, on_ended, on_failed, stays_still, stopped_lack, tells, untold}
 use Rattle.file_conversion.proofs.convert.convert_source.Goals as goal
 
 pub returns-in-Ok-clause-puts : goal.returns-in-Ok-clause-puts
@@ -39,6 +39,9 @@ returns-in-Ok-clause-complete g c =
     (ap g.U.Sink.faults c.in-Ok.ensures.report) (ap g.U.Sink.faults c.ended.ensures.report)
     c.put_output-done.ensures.failed c.put_output-done.ensures.complete
 
+pub returns-in-Ok-clause-none : goal.returns-in-Ok-clause-none
+returns-in-Ok-clause-none g c = none_begun c.args.plan.now _ _ _ _ _ c.in-Ok.ensures.begun
+
 pub returns-in-Err-clause-puts : goal.returns-in-Err-clause-puts
 returns-in-Err-clause-puts g c = none_ok _ _ c.in-Err.ensures.stopped.never
 
@@ -56,3 +59,6 @@ returns-in-Err-clause-form g c = untold c.args.plan.now _ _ _ c.in-Err.ensures.s
 
 pub returns-in-Err-clause-complete : goal.returns-in-Err-clause-complete
 returns-in-Err-clause-complete g c = stopped_lack _ _ _ _ _ _ _ _ c.in-Err.ensures.stopped
+
+pub returns-in-Err-clause-none : goal.returns-in-Err-clause-none
+returns-in-Err-clause-none g c = c.in-Err.ensures.stopped.none
