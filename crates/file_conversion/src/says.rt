@@ -205,7 +205,8 @@ impl Refusal<'_> {
             Refusal::Leap(_) => "--leap {}: 0 to 99, in digits alone",
             Refusal::NoName => "it has no file name; name the output with -o",
             Refusal::NoFiles => "no input file; - is standard input; see --help",
-            Refusal::SeveralFiles(_) => "{} is one file; for several inputs name an existing directory",
+            Refusal::SeveralFiles(_) =>
+                "{} is one file; for several inputs name an existing directory",
             Refusal::AmongFiles => "it can be read only once; name a file",
             Refusal::Site(_) => {
                 "--long-name {}: four capital letters or digits, two digits and a country, as BRDC00XXX"
