@@ -153,32 +153,32 @@ static SENTENCES: [Sentence; 12] = [
     Sentence {
         refusal: Refusal::ReadFault(8192, FileFault::Other),
         status: 3,
-        text: "reading it failed after 8192 bytes: the system gives no reason that is known here",
+        text: "reading it failed after 8192 bytes: the system gives an unknown reason",
     },
     Sentence {
         refusal: Refusal::OutputThere("a.rnx"),
         status: 4,
-        text: "a.rnx is there already; --overwrite replaces it",
+        text: "a.rnx exists; --overwrite replaces it",
     },
     Sentence {
         refusal: Refusal::WriteFault("a.rnx", FileFault::DiskFull),
         status: 4,
-        text: "writing a.rnx failed: the disk is full; it is as it was",
+        text: "writing a.rnx failed: the disk is full; it is unchanged",
     },
     Sentence {
         refusal: Refusal::NoFile("/dev/null"),
         status: 4,
-        text: "/dev/null is no file; -o - writes to standard output",
+        text: "/dev/null is not a regular file; -o - writes to standard output",
     },
     Sentence {
         refusal: Refusal::MadeBefore("a.rnx"),
         status: 4,
-        text: "a.rnx was made of another file just now; name the output by -o",
+        text: "a.rnx is the output for another input; name the output with -o",
     },
     Sentence {
         refusal: Refusal::WriteFault("a.rnx", FileFault::NameTooLong),
         status: 4,
-        text: "writing a.rnx failed: the name is too long for its file system; it is as it was",
+        text: "writing a.rnx failed: the name is too long for its file system; it is unchanged",
     },
     Sentence {
         refusal: Refusal::AmongFiles,
@@ -193,7 +193,7 @@ static SENTENCES: [Sentence; 12] = [
     Sentence {
         refusal: Refusal::TooLong,
         status: 8,
-        text: "it has more than 4,294,967,295 bytes; cut it in parts",
+        text: "it has more than 4,294,967,295 bytes; split it",
     },
 ];
 
