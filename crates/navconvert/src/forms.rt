@@ -58,20 +58,26 @@ impl fmt::Display for FormatList {
         for format in &FORMATS {
             let Format { name, suffix, mark } = format;
             write!(f, "{name:8} {suffix:8} {mark:29}")?;
-            let mut before = "";
             if let Some(kind) = kind_named(name) {
-                for target in Target::ALL {
-                    if is_converted(kind, target) {
-                        f.write_str(before)?;
-                        f.write_str(to_word(target))?;
-                        before = ", ";
-                    }
-                }
+                write_targets(f, kind)?;
             }
             f.write_str("\n")?;
         }
         Ok(())
     }
+}
+
+// Writes what files of this format are converted to.
+fn write_targets<W: fmt::Write>(f: &mut fmt::Formatter<W>, kind: Kind) -> fmt::Result {
+    let mut before = "";
+    for target in Target::ALL {
+        if is_converted(kind, target) {
+            f.write_str(before)?;
+            f.write_str(to_word(target))?;
+            before = ", ";
+        }
+    }
+    Ok(())
 }
 
 /// The word of a format that is read.

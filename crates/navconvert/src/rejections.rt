@@ -23,7 +23,7 @@ pub(crate) struct Rejections<'a> {
 impl Rejections<'_> {
     /// Prints a rejection in this file, if it is checked and the line of its report is one.
     pub(crate) fn see(&self, file: &str, line: &[u8]) {
-        let Some([unit, number, reason]) = rejection_of(line) else {
+        let Some((unit, number, reason)) = rejection_of(line) else {
             return;
         };
         if !self.is_check {
@@ -62,7 +62,7 @@ impl Rejections<'_> {
 }
 
 // The unit, its number and the reason, as of `line 48 parity 3`; none of counts, one a line.
-fn rejection_of(line: &[u8]) -> Option<[&str; 3]> {
+fn rejection_of(line: &[u8]) -> Option<(&str, &str, &str)> {
     let Ok(text) = from_utf8(line.trim_ascii_end()) else {
         return None;
     };
@@ -71,5 +71,5 @@ fn rejection_of(line: &[u8]) -> Option<[&str; 3]> {
     if number.contains('\n') {
         return None;
     }
-    Some([unit, number, reason])
+    Some((unit, number, reason))
 }

@@ -180,22 +180,12 @@ impl Summary<'_, '_> {
 
     // Writes each count of what is amiss that is not 0; whether there is one.
     fn write_amiss<W: fmt::Write>(&self, f: &mut fmt::Formatter<W>) -> Result<bool, fmt::Error> {
-        let mut before = "; ";
-        for place in 0..KINDS {
-            let count = self.amiss(place);
-            if count > 0 {
-                let (_, unit, what) = AMISS[place];
-                let unit = if place == 0 {
-                    units_of(self.kind).0
-                } else {
-                    unit
-                };
-                let s = if unit.is_empty() { "" } else { plural(count) };
-                write!(f, "{before}{count} {unit}{s}{what}")?;
-                before = ", ";
-            }
+        let (unit, _) = units_of(self.kind);
+        let mut any = write_some(f, false, self.amiss(0), (unit, " rejected"))?;
+        for place in 1..KINDS {
+            any = write_some(f, any, self.amiss(place), (AMISS[place].1, AMISS[place].2))?;
         }
-        Ok(before == ", ")
+        Ok(any)
     }
 
     // Writes what is skipped, if something is; whether that is so.
@@ -269,13 +259,13 @@ const ITEMS: (&str, &str) = (
     "ephemerides and ionosphere records",
 );
 
-// What is amiss: its key, its unit, which of what is rejected is that of the format, and the rest.
+// What is amiss: its key, its unit, and what is said of so many; the first is of the format's unit.
 const KINDS: usize = 8;
 
 const MESSAGES: usize = 7;
 
 const AMISS: [(&str, &str, &str); KINDS] = [
-    ("rejected", "", " rejected"),
+    ("rejected", "", ""),
     ("malformed", "line", " malformed"),
     ("late", "line", " late"),
     ("partial", "issue", " partial"),
@@ -294,6 +284,27 @@ fn write_count<W: fmt::Write>(
 ) -> fmt::Result {
     let name = if count == 1 { names.0 } else { names.1 };
     write!(f, "{before}{count} {name}")
+}
+
+// Writes a count that is not 0, of a unit and what is said of it, behind others where there are any;
+// whether there are now.
+fn write_some<W: fmt::Write>(
+    f: &mut fmt::Formatter<W>,
+    any: bool,
+    count: u64,
+    names: (&str, &str),
+) -> Result<bool, fmt::Error> {
+    if count == 0 {
+        return Ok(any);
+    }
+    f.write_str(if any { ", " } else { "; " })?;
+    let unit = names.0;
+    write!(f, "{count} {unit}")?;
+    if count > 1 && !unit.is_empty() {
+        f.write_str("s")?;
+    }
+    f.write_str(names.1)?;
+    Ok(true)
 }
 
 // Writes a member of an object of JSON behind a text; `null` if there is no such count.

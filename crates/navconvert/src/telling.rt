@@ -147,11 +147,11 @@ fn is_counted(settings: &Settings, outcome: &Outcome<ReportFile>) -> bool {
 }
 
 // Says what became of a file, as one line that is written at once.
-fn tell_done(
-    settings: &Settings,
-    file: &str,
-    name: Option<&str>,
-    outcome: &Outcome<ReportFile>,
+fn tell_done<'x, 'a>(
+    settings: &'x Settings<'a>,
+    file: &'x str,
+    name: Option<&'x str>,
+    outcome: &'x Outcome<ReportFile<'a>>,
     seen: Seen,
 ) {
     let Ok(made) = &outcome.done else {
