@@ -1,0 +1,4 @@
+pub mod Numbers
+pub mod Differences
+pub mod Reading
+pub mod Mirrors

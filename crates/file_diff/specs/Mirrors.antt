@@ -1,0 +1,93 @@
+-- Items and records while they are gone over. Private functions cite these.
+use Rattle.std.specs.Prelude.{◌≡◌, ◌⊎◌, ◌+◌, ◌<◌, ◌≤◌, ◌^◌, ℕ, Bool, true, List, [], ◌∷◌, length, Option, Some, None}
+use Rattle.std.specs.BTreeSet.{insert_key}
+use Rattle.std.specs.List.{fold}
+use Rattle.nav_eph.specs.declared.items.NavItem.{NavItem}
+use Rattle.rinex_read.specs.Files.{items_of}
+use Rattle.rinex_read.specs.Forms.{Form}
+use Rattle.one_run.specs.declared.fault.BridgeFault.{BridgeFault}
+use Rattle.one_run.specs.declared.fault.BridgeFault.TheVariants.{ReadFault, NotThisForm, TooLong}
+use Rattle.rinex_read.specs.States.{HeaderSteps, RecordsState, Steps, lines_left}
+use Rattle.rinex_read.specs.declared.judged.HeaderState.TheVariants.{NotRinexNav, OtherVersion}
+use Rattle.rinex_read.specs.declared.judged.ItemRead.{ItemRead}
+use Rattle.rinex_read.specs.declared.judged.ItemRead.TheVariants.{Item, Refused, PassedOver, End}
+use Rattle.file_diff.specs.Numbers.{by_numbers}
+use Rattle.file_diff.specs.Reading.{compared, counts_of, has_ionosphere, is_passed, is_refused}
+use Rattle.file_diff.specs.declared.counts.ReadCounts.{ReadCounts}
+
+-- the items that begin with this one; none where there is no first
+abbrev pub begun_by : Option NavItem → List NavItem → List NavItem
+begun_by None left = []
+begun_by (Some x) left = x ∷ left
+
+-- the item of a record, where it has one
+abbrev pub item_in : ItemRead → List NavItem
+item_in (Item line item) = item ∷ []
+item_in (Refused line reason) = []
+item_in (PassedOver line) = []
+item_in End = []
+
+-- a set with more items
+abbrev pub with_items : List NavItem → List NavItem → List NavItem
+with_items set items = fold (insert_key by_numbers) set items
+
+-- the counts with one record more
+abbrev pub counted : ReadCounts → ItemRead → ReadCounts
+counted c read = record {
+  refused = c.refused + is_refused read;
+  passed = c.passed + is_passed read;
+  ionospheres = c.ionospheres + has_ionosphere read;
+}
+
+-- the records that were counted
+abbrev pub sum_of : ReadCounts → ℕ
+sum_of c = c.refused + c.passed + c.ionospheres
+
+-- a record, not the end of the file
+abbrev pub IsRecord : ItemRead → Type 0
+IsRecord (Item line item) = Unit {0}
+IsRecord (Refused line reason) = Unit {0}
+IsRecord (PassedOver line) = Unit {0}
+IsRecord End = ⊥
+
+-- the state of the header at a fault
+abbrev pub HeaderFaultOf : BridgeFault → RecordsState → Type 0
+HeaderFaultOf ReadFault new = Unit {0}
+HeaderFaultOf TooLong new = new.lines.taken ≡ 2 ^ 32
+HeaderFaultOf NotThisForm new = (new.header ≡ NotRinexNav) ⊎ (new.header ≡ OtherVersion)
+HeaderFaultOf _ new = ⊥
+
+-- The header is refused, whatever bytes follow, or the reader breaks off in it.
+pub record NoHeader (f : Form) (left left_new : Option (List ℕ)) (old new : RecordsState) (fault : BridgeFault) : Type 0 where
+  pub steps : HeaderSteps f left left_new old new
+  pub by : HeaderFaultOf fault new
+
+-- The reader breaks off after records.
+pub record BreaksAfter (f : Form) (left left_new : Option (List ℕ)) (old new : RecordsState) (fault : BridgeFault) : Type 0 where
+  pub given : List ItemRead
+  pub steps : Steps f left left_new old new given
+  pub long : fault ≡ TooLong → new.lines.taken ≡ 2 ^ 32
+  pub form : fault ≡ NotThisForm → ⊥
+
+-- These records were read, their items added, and the records counted.
+pub record ReadsSome (f : Form) (all : Bool) (left left_new : Option (List ℕ)) (old new : RecordsState) (items items_new : List NavItem) (counts : ReadCounts) : Type 0 where
+  pub given : List ItemRead
+  pub steps : Steps f left left_new old new given
+  pub items : items_new ≡ with_items items (compared all (items_of given))
+  pub counts : counts ≡ counts_of given
+  pub few : length given + lines_left new ≤ lines_left old
+
+-- the state of the reader at the end of a file
+pub record AtEnd (s : RecordsState) : Type 0 where
+  pub kept : s.kept ≡ []
+  pub rest : s.lines.rest ≡ []
+  pub ended : s.lines.ended ≡ true
+  pub low : s.lines.taken < 2 ^ 32
+
+-- The same of all records of a file.
+pub record ReadsAll (f : Form) (all : Bool) (left left_new : Option (List ℕ)) (old new : RecordsState) (items items_new : List NavItem) (counts : ReadCounts) : Type 0 where
+  pub given : List ItemRead
+  pub steps : Steps f left left_new old new given
+  pub items : items_new ≡ with_items items (compared all (items_of given))
+  pub counts : counts ≡ counts_of given
+  pub end : AtEnd new
