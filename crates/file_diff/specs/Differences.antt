@@ -65,7 +65,7 @@ number_text head (c ∷ cs) a b = if int_eq a b then [] else number_line head (c
 
 -- the lines of numbers with these names
 abbrev pub numbers_text : List ℕ → List (List ℕ) → List ℤ → List ℤ → List ℕ
-numbers_text head (n ∷ ns) (a ∷ as) (b ∷ bs) = number_text head n a b ++ numbers_text head ns as bs
+numbers_text head (n ∷ ns) (x ∷ xs) (y ∷ ys) = number_text head n x y ++ numbers_text head ns xs ys
 numbers_text head _ _ _ = []
 
 -- the lines of a difference

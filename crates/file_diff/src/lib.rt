@@ -11,8 +11,6 @@ mod ordered;
 mod read;
 mod texts;
 mod walk;
-#[cfg(test)]
-mod tests;
 
 pub use crate::counts::ReadCounts;
 pub use crate::difference::Difference;

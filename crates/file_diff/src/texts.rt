@@ -152,9 +152,11 @@ fn write_numbers<T: Sink>(
     let mut names = names;
     let mut a = a;
     let mut b = b;
-    'numbers: while let (Some((name, more_names)), Some((x, more_a)), Some((y, more_b))) =
-        (names.split_first(), a.split_first(), b.split_first())
-    {
+    'numbers: while let (Some((name, more_names)), Some((x, more_a)), Some((y, more_b))) = (
+        names.split_first(),
+        a.split_first(),
+        b.split_first(),
+    ) {
         write_number(head, name.as_bytes(), *x, *y, out)?;
         names = more_names;
         a = more_a;
