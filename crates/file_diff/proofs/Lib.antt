@@ -1,3 +1,5 @@
 mod ReadLemmas
 mod WriteLemmas
 mod SetLemmas
+mod WalkLemmas
+mod NumberLemmas

@@ -1,7 +1,7 @@
 -- Items and records while they are gone over. Private functions cite these.
-use Rattle.std.specs.Prelude.{◌≡◌, ◌⊎◌, ◌+◌, ◌<◌, ◌≤◌, ◌^◌, ℕ, Bool, true, List, [], ◌∷◌, length, Option, Some, None}
+use Rattle.std.specs.Prelude.{◌≡◌, ◌⊎◌, ◌+◌, ◌<◌, ◌≤◌, ◌^◌, ℕ, Bool, true, leb, List, [], ◌∷◌, length, Option, Some, None}
 use Rattle.std.specs.BTreeSet.{insert_key}
-use Rattle.std.specs.List.{fold}
+use Rattle.std.specs.List.{fold, list_all}
 use Rattle.nav_eph.specs.declared.items.NavItem.{NavItem}
 use Rattle.rinex_read.specs.Files.{items_of}
 use Rattle.rinex_read.specs.Forms.{Form}
@@ -19,6 +19,10 @@ use Rattle.file_diff.specs.declared.counts.ReadCounts.{ReadCounts}
 abbrev pub begun_by : Option NavItem → List NavItem → List NavItem
 begun_by None left = []
 begun_by (Some x) left = x ∷ left
+
+-- each name has at most 20 bytes
+abbrev pub are_short : List (List ℕ) → Bool
+are_short names = list_all (λ name. leb (length name) 20) names
 
 -- the item of a record, where it has one
 abbrev pub item_in : ItemRead → List NavItem

@@ -1,13 +1,13 @@
 //! The lines of differences.
 
-ghost use Rattle.std.specs.Prelude.{◌≡◌, ◌≤◌, ◌+◌, ◌++◌, ◌∷◌, length, map};
+ghost use Rattle.std.specs.Prelude.{◌≡◌, ◌≤◌, ◌+◌, ◌++◌, ◌∷◌, length, map, true};
 ghost use Rattle.std.specs.Prelude.{signed_decimal, codes};
-ghost use Rattle.std.specs.List.{All};
 ghost use Rattle.arrayvec.specs.ArrayVec.{array_vec_len};
 ghost use Rattle.nav_io.specs.Writes.{Writes};
 ghost use Rattle.file_diff.specs.Differences.{class_text, date_text, item_text};
 ghost use Rattle.file_diff.specs.Differences.{number_line, number_text};
 ghost use Rattle.file_diff.specs.Differences.{difference_text, numbers_text, two_digits};
+ghost use Rattle.file_diff.specs.Mirrors.{are_short};
 
 use crate::difference::Difference;
 use crate::names::names;
@@ -145,7 +145,7 @@ fn write_numbers<T: Sink>(
     out: &mut T,
 ) -> Result<(), Failed>
     requires head { length head.now ≤ 83 }
-    requires names { All (λ n. length n.now ≤ 20) names.now }
+    requires names { are_short (map (λ n. n.now) names.now) ≡ true }
     ensures { Writes (T.written out.old) (T.written out.new) (T.faults out.old) (T.faults out.new)
         result (numbers_text head.now (map (λ n. n.now) names.now) a.now b.now) }
 {
