@@ -13,15 +13,20 @@ use Rattle.nav_eph.specs.declared.items.NavItem.TheVariants as kinds
 use Rattle.rinex_read.specs.Forms.{Form}
 use Rattle.rinex_read.specs.Files.{file_reads, items_of}
 use Rattle.rinex_read.specs.Lines.{told_lines}
-use Rattle.rinex_read.specs.States.{GivesNone, GivesRead, GivesRecord, HeaderSteps, IsNew, MayCome, PassesHeader, RecordsState, Steps, file_by, file_to_come, held_count, lines_left, records_to_come}
+use Rattle.rinex_read.specs.States.{BreaksRecord, GivesNone, GivesRead, GivesRecord, HeaderSteps, IsNew, MayCome, PassesHeader, RecordsState, Steps, file_by, file_to_come, held_count, lines_left, records_to_come}
 use Rattle.rinex_read.specs.declared.judged.HeaderFault.{HeaderFault}
 use Rattle.rinex_read.specs.declared.judged.HeaderState.{HeaderState}
 use Rattle.rinex_read.specs.declared.judged.HeaderState.TheVariants.{NotRinexNav, OtherVersion, Passed}
 use Rattle.rinex_read.specs.declared.judged.ItemRead.{ItemRead}
 use Rattle.rinex_read.specs.declared.judged.ItemRead.TheVariants.{Item, Refused, PassedOver, End}
-use Rattle.file_diff.specs.Mirrors.{AtEnd, IsRecord, ReadsAll, ReadsSome, counted, item_in, sum_of, with_items}
+use Rattle.nav_io.specs.declared.lines.LineFault.{LineFault}
+use Rattle.nav_io.specs.declared.lines.LineFault.TheVariants as lines
+use Rattle.one_run.specs.Causes.{fault_by}
+use Rattle.one_run.specs.declared.fault.BridgeFault.{BridgeFault}
+use Rattle.one_run.specs.declared.fault.BridgeFault.TheVariants.{ReadFault, NotThisForm, TooLong, NoMemory}
+use Rattle.file_diff.specs.Mirrors.{AtEnd, BreaksAfter, HeaderFaultOf, IsRecord, NoHeader, ReadsAll, ReadsSome, counted, item_in, sum_of, with_items}
 use Rattle.file_diff.specs.Numbers.{by_numbers}
-use Rattle.file_diff.specs.Reading.{IsFile, compared, counts_of, has_ionosphere, is_ephemeris, is_passed, is_refused}
+use Rattle.file_diff.specs.Reading.{IsFile, IsTooLong, compared, counts_of, has_ionosphere, is_ephemeris, is_passed, is_refused}
 use Rattle.file_diff.specs.declared.counts.ReadCounts.{ReadCounts}
 
 -- before the header the file is still to come whole
@@ -86,8 +91,8 @@ file_read f all left l1 l2 s0 s1 s2 items items_new counts begins new header rea
       fits = omega (arith, length-append header.steps.reads.taken steps.reads.taken, new.taken, header.steps.reads.count, steps.reads.count, read.end.low);
       reads = read.given;
       are = file_whole f left l1 l2 s0 s1 s2 read.given begins new header steps read.end;
-      items = read.items ∙ ap (λ l. with_items l (compared all (items_of read.given))) empty;
-      counts = read.counts;
+      set = read.added ∙ ap (λ l. with_items l (compared all (items_of read.given))) empty;
+      counted = read.counted;
     }
 
 -- ---- a file that was not read
@@ -187,9 +192,12 @@ one_kind (Refused line reason) = omega arith
 one_kind (PassedOver line) = omega arith
 one_kind End = omega arith
 
+by_first : (kind : ItemRead → ℕ) (r : ItemRead) (rs : List ItemRead) → sum_by kind (r ∷ rs) ≡ kind r + sum_by kind rs
+by_first kind r rs = refl
+
 few_by : (given : List ItemRead) → sum_by is_refused given + sum_by is_passed given + sum_by has_ionosphere given ≤ length given
 few_by [] = omega arith
-few_by (r ∷ rs) = omega (arith, one_kind r, few_by rs)
+few_by (r ∷ rs) = omega (arith, one_kind r, few_by rs, by_first is_refused r rs, by_first is_passed r rs, by_first has_ionosphere r rs)
 
 few_counted : (given : List ItemRead) → sum_of (counts_of given) ≤ length given
 few_counted given = omega (arith, few_by given, sum-map is_refused given, sum-map is_passed given, sum-map has_ionosphere given)
@@ -200,8 +208,8 @@ pub some_start : (f : Form) (all : Bool) (left : Option (List ℕ)) (s : Records
 some_start f all left s items counts none start = record {
   given = [];
   steps = none;
-  items = refl;
-  counts = start;
+  added = refl;
+  counted = start;
   few = omega arith;
 }
 
@@ -213,15 +221,15 @@ pub some_more : (f : Form) (all : Bool) (left l1 l2 : Option (List ℕ)) (s0 s1 
 some_more f all left l1 l2 s0 s1 s2 items items1 items2 counts counts1 read follow far gives added counted_is = record {
   given = far.given ++ read ∷ [];
   steps = follow left l1 l2 s0 s1 s2 far.given (read ∷ []) far.steps gives.steps;
-  items = added ∙ ap (λ l. with_items l (compared all (item_in read))) far.items ∙ set_more all items far.given read;
-  counts = counted_is ∙ ap (λ c. counted c read) far.counts ∙ counts_more far.given read;
+  added = added ∙ ap (λ l. with_items l (compared all (item_in read))) far.added ∙ set_more all items far.given read;
+  counted = counted_is ∙ ap (λ c. counted c read) far.counted ∙ counts_more far.given read;
   few = omega (arith, length-append far.given (read ∷ []), far.few, gives.nearer);
 }
 
 -- there is room for one
 pub room_for : (f : Form) (all : Bool) (left l1 : Option (List ℕ)) (s0 s1 : RecordsState) (items items1 : List NavItem) (counts : ReadCounts)
     → ReadsSome f all left l1 s0 s1 items items1 counts → sum_of counts + 1 < 2 ^ 64
-room_for f all left l1 s0 s1 items items1 counts far = omega (arith, far.few, held_few s0.kept, few_counted far.given, ap sum_of far.counts)
+room_for f all left l1 s0 s1 items items1 counts far = omega (arith, far.few, held_few s0.kept, few_counted far.given, ap sum_of far.counted)
 
 -- all were read
 pub all_read : (f : Form) (all : Bool) (left l1 l2 : Option (List ℕ)) (s0 s1 s2 : RecordsState) (items items1 : List NavItem) (counts : ReadCounts)
@@ -229,7 +237,78 @@ pub all_read : (f : Form) (all : Bool) (left l1 l2 : Option (List ℕ)) (s0 s1 s
 all_read f all left l1 l2 s0 s1 s2 items items1 counts follow far none = record {
   given = far.given;
   steps = subst (λ (l : List ItemRead). Steps f left l2 s0 s2 l) (append-nil far.given) (follow left l1 l2 s0 s1 s2 far.given [] far.steps none.steps);
-  items = far.items;
-  counts = far.counts;
+  added = far.added;
+  counted = far.counted;
   end = record { kept = none.kept; rest = none.rest; ended = none.ended; low = none.low };
 }
+
+-- ---- the reader breaks off
+
+after_break : (f : Form) (left left_new : Option (List ℕ)) (old new : RecordsState) (fault : LineFault) → BreaksRecord f left left_new old new fault
+    → BreaksAfter f left left_new old new (fault_by fault)
+after_break f left left_new old new lines.ReadFault b = record {
+  given = [];
+  steps = b.steps;
+  long = λ is. absurd (let none : ReadFault ≡ TooLong = is in cc);
+  form = λ is. let none : ReadFault ≡ NotThisForm = is in cc;
+}
+after_break f left left_new old new lines.TooLong b = record {
+  given = [];
+  steps = b.steps;
+  long = λ is. b.by;
+  form = λ is. let none : TooLong ≡ NotThisForm = is in cc;
+}
+
+-- the same of a fault that is this one
+pub breaks_after : (f : Form) (left left_new : Option (List ℕ)) (old new : RecordsState) (fault : LineFault) (by : BridgeFault) → by ≡ fault_by fault
+    → BreaksRecord f left left_new old new fault → BreaksAfter f left left_new old new by
+breaks_after f left left_new old new fault by is b = subst (BreaksAfter f left left_new old new) (sym is) (after_break f left left_new old new fault b)
+
+-- after records that were read
+pub breaks_later : (f : Form) (all : Bool) (left l1 l2 : Option (List ℕ)) (s0 s1 s2 : RecordsState) (items items1 : List NavItem) (counts : ReadCounts) (fault : BridgeFault)
+    → Follow f → ReadsSome f all left l1 s0 s1 items items1 counts → BreaksAfter f l1 l2 s1 s2 fault → BreaksAfter f left l2 s0 s2 fault
+breaks_later f all left l1 l2 s0 s1 s2 items items1 counts fault follow far b = record {
+  given = far.given ++ b.given;
+  steps = follow left l1 l2 s0 s1 s2 far.given b.given far.steps b.steps;
+  long = b.long;
+  form = b.form;
+}
+
+-- where there was no memory for an item
+pub breaks_taking : (f : Form) (all : Bool) (left l1 l2 : Option (List ℕ)) (s0 s1 s2 : RecordsState) (items items1 : List NavItem) (counts : ReadCounts) (read : ItemRead) (fault : BridgeFault)
+    → Follow f → ReadsSome f all left l1 s0 s1 items items1 counts → GivesRecord f l1 l2 s1 s2 read → fault ≡ NoMemory → BreaksAfter f left l2 s0 s2 fault
+breaks_taking f all left l1 l2 s0 s1 s2 items items1 counts read fault follow far gives kind = record {
+  given = far.given ++ read ∷ [];
+  steps = follow left l1 l2 s0 s1 s2 far.given (read ∷ []) far.steps gives.steps;
+  long = λ is. absurd (let none : NoMemory ≡ TooLong = sym kind ∙ is in cc);
+  form = λ is. let none : NoMemory ≡ NotThisForm = sym kind ∙ is in cc;
+}
+
+-- too many bytes were read, in the header or behind it
+pub long_header : (f : Form) (left left_new : Option (List ℕ)) (s0 s1 : RecordsState) (fault : BridgeFault) → IsNew s0 → NoHeader f left left_new s0 s1 fault
+    → fault ≡ TooLong → IsTooLong left left_new
+long_header f left left_new s0 s1 fault new broken is =
+    let long = subst (λ (x : BridgeFault). HeaderFaultOf x s1) is broken.by in
+    record {
+      taken = broken.steps.reads.taken;
+      consumes = broken.steps.reads.consumes;
+      many = omega (arith, new.taken, broken.steps.reads.count, long);
+    }
+
+pub long_records : (f : Form) (left l1 l2 : Option (List ℕ)) (s0 s1 s2 : RecordsState) (fault : BridgeFault) → IsNew s0 → PassesHeader f left l1 s0 s1
+    → BreaksAfter f l1 l2 s1 s2 fault → fault ≡ TooLong → IsTooLong left l2
+long_records f left l1 l2 s0 s1 s2 fault new header b is = record {
+  taken = header.steps.reads.taken ++ b.steps.reads.taken;
+  consumes = Consumes-trans left l1 l2 _ _ header.steps.reads.consumes b.steps.reads.consumes;
+  many = omega (arith, length-append header.steps.reads.taken b.steps.reads.taken, new.taken, header.steps.reads.count, b.steps.reads.count, b.long is);
+}
+
+-- the header is refused
+pub form_header : (f : Form) (left left_new : Option (List ℕ)) (s0 s1 : RecordsState) (fault : BridgeFault) → Begins f → IsNew s0 → NoHeader f left left_new s0 s1 fault
+    → fault ≡ NotThisForm → IfSome left (λ bytes. IsErr (file_reads f bytes))
+form_header f left left_new s0 s1 fault begins new broken is =
+    header_refused f left left_new s0 s1 begins new broken.steps (subst (λ (x : BridgeFault). HeaderFaultOf x s1) is broken.by)
+
+-- faults are equal where the answers are
+pub err_same : {T : Type 0} (a b : BridgeFault) → Err {T = T} a ≡ Err b → a ≡ b
+err_same a b is = cc

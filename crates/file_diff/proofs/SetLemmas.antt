@@ -19,6 +19,7 @@ use Rattle.nav_eph.specs.declared.items.NavItem.TheVariants.{Gps, Gal, Ion}
 use Rattle.file_diff.specs.Differences.{beside, differences, lacking, paired}
 use Rattle.file_diff.specs.Numbers.{by_key, by_numbers, numbers_of, set_of}
 use Rattle.file_diff.specs.declared.difference.Difference.{Difference}
+use Rattle.file_diff.specs.declared.difference.Difference.TheVariants.{OnlyFirst, OnlySecond, Both}
 
 -- ---- equal numbers
 
@@ -29,16 +30,16 @@ nothing {X} {P} x xs e = absurd (no e)
     no h = cc
 
 other_kind : {P : Type 0} (x y : ℤ) → (x ≡ y → ⊥) → x ≡ y → P
-other_kind {P} x y no e = absurd (no e)
+other_kind {P} x y apart e = absurd (apart e)
 
-kind_in : List ℤ → ℤ
+abbrev kind_in : List ℤ → ℤ
 kind_in l = slice_index_or l 2 (pos 0)
 
 -- the numbers of a GPS and of a Galileo ephemeris in the order of `whole_rank`
-gps_whole : List ℤ → List ℤ
+abbrev gps_whole : List ℤ → List ℤ
 gps_whole l = drop 35 l ++ take 33 (drop 2 l)
 
-gal_whole : List ℤ → List ℤ
+abbrev gal_whole : List ℤ → List ℤ
 gal_whole l = drop 37 l ++ take 35 (drop 2 l)
 
 whole : (a b : NavItem) → numbers_of a ≡ numbers_of b → whole_rank a ≡ whole_rank b
@@ -201,7 +202,7 @@ beside_some : {P : Type 0} (x : NavItem) (more : List NavItem → List Differenc
 beside_some x more [] e = nothing _ _ e
 beside_some {P} x more (y ∷ ys) e = at (by_key x y) e
   where
-    at : (o : Ordering) → match_ordering o _ _ _ ≡ [] → P
+    at : (o : Ordering) → match_ordering o (OnlyFirst x ∷ more (y ∷ ys)) (Both x y ∷ more ys) (OnlySecond y ∷ beside x more ys) ≡ [] → P
     at Less k = nothing _ _ k
     at Equal k = nothing _ _ k
     at Greater k = nothing _ _ k

@@ -53,3 +53,24 @@ passed (Some x) left rest some e = sym e
 -- the text of the differences begins with that of the next
 pub text_next : (all rest : List Difference) (d : Difference) → all ≡ d ∷ rest → flat_map difference_text all ≡ difference_text d ++ flat_map difference_text rest
 text_next all rest d e = ap (flat_map difference_text) e
+
+-- ---- whether there is a difference
+
+nothing : {P : Type 0} (d : Difference) (ds : List Difference) → d ∷ ds ≡ [] → P
+nothing {P} d ds e = absurd (no e)
+  where
+    no : d ∷ ds ≡ [] → ⊥
+    no h = cc
+
+pub some_seen : (same : Bool) (all walk rest : List Difference) (d : Difference) → (same ≡ true → walk ≡ all) → (same ≡ false → all ≡ [] → ⊥)
+    → walk ≡ d ∷ rest → all ≡ [] → ⊥
+some_seen true all walk rest d none some e is = nothing d rest (sym e ∙ none refl ∙ is)
+some_seen false all walk rest d none some e is = some refl is
+
+pub seen_all : (same : Bool) (all walk : List Difference) → (same ≡ true → walk ≡ all) → (same ≡ false → all ≡ [] → ⊥) → walk ≡ []
+    → IsTrue same ↔ (all ≡ [])
+seen_all true all walk none some e = (λ t. sym (none refl) ∙ e, λ is. refl)
+seen_all false all walk none some e = (λ t. absurd (no t), λ is. absurd (some refl is))
+  where
+    no : false ≡ true → ⊥
+    no h = cc

@@ -77,8 +77,8 @@ pub record BreaksAfter (f : Form) (left left_new : Option (List ℕ)) (old new :
 pub record ReadsSome (f : Form) (all : Bool) (left left_new : Option (List ℕ)) (old new : RecordsState) (items items_new : List NavItem) (counts : ReadCounts) : Type 0 where
   pub given : List ItemRead
   pub steps : Steps f left left_new old new given
-  pub items : items_new ≡ with_items items (compared all (items_of given))
-  pub counts : counts ≡ counts_of given
+  pub added : items_new ≡ with_items items (compared all (items_of given))
+  pub counted : counts ≡ counts_of given
   pub few : length given + lines_left new ≤ lines_left old
 
 -- the state of the reader at the end of a file
@@ -92,6 +92,6 @@ pub record AtEnd (s : RecordsState) : Type 0 where
 pub record ReadsAll (f : Form) (all : Bool) (left left_new : Option (List ℕ)) (old new : RecordsState) (items items_new : List NavItem) (counts : ReadCounts) : Type 0 where
   pub given : List ItemRead
   pub steps : Steps f left left_new old new given
-  pub items : items_new ≡ with_items items (compared all (items_of given))
-  pub counts : counts ≡ counts_of given
+  pub added : items_new ≡ with_items items (compared all (items_of given))
+  pub counted : counts ≡ counts_of given
   pub end : AtEnd new

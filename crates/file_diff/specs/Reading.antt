@@ -64,8 +64,8 @@ pub record IsFile (f : Form) (all : Bool) (left left_new : Option (List ℕ)) (i
   pub fits : length taken < 2 ^ 32
   pub reads : List ItemRead
   pub are : file_reads f taken ≡ Ok reads
-  pub items : items ≡ set_of (compared all (items_of reads))
-  pub counts : counts ≡ counts_of reads
+  pub set : items ≡ set_of (compared all (items_of reads))
+  pub counted : counts ≡ counts_of reads
 
 -- too many bytes were read
 pub record IsTooLong (left left_new : Option (List ℕ)) : Type 0 where

@@ -1,18 +1,23 @@
 //! Items as numbers, in the order in which they are compared.
 
-ghost use Rattle.std.specs.Prelude.{◌≡◌, ◌+◌, ◌≤◌, ◌++◌, length, pos};
+ghost use Rattle.std.specs.Prelude.{◌≡◌, ◌+◌, ◌≤◌, ◌∷◌, ◌++◌, length, pos};
 ghost use Rattle.arrayvec.specs.ArrayVec.{array_vec_len};
-ghost use Rattle.nav_eph.specs.Ranks.{sat_rank, transmission_rank};
+ghost use Rattle.nav_eph.specs.Ranks.{content_rank, gal_ion_rank, gps_ion_rank, transmission_rank};
+ghost use Rattle.nav_eph.specs.Satellite.{place_of};
 ghost use Rattle.nav_eph.specs.declared.items.NavItem.TheVariants.{Gps as GpsItem};
 ghost use Rattle.nav_eph.specs.declared.items.NavItem.TheVariants.{Gal as GalItem};
 ghost use Rattle.nav_eph.specs.declared.items.NavItem.TheVariants.{Ion as IonItem};
 ghost use Rattle.nav_lists.specs.Fronts.{satellite_of};
-ghost use Rattle.nav_lists.specs.Merging.{class_of, moment_of, place};
+ghost use Rattle.nav_lists.specs.Merging.{class_of, class_of_content, moment_of, place};
 ghost use Rattle.file_diff.specs.Numbers.{key_of, numbers_of};
 
 use arrayvec::ArrayVec;
-use gnss_week::Moment;
-use nav_eph::{GalEph, GpsEph, IonContent, IonEph, NavItem, Sat, SentSecond, System};
+use gnss_week::{Moment, Week};
+use nav_bits::U;
+use nav_eph::{
+    GalEph, GalIon, GpsEph, GpsIon, IonContent, IonEph, NavItem, Sat, SentSecond, Sisa, Step16,
+    Step60, System,
+};
 
 /// The numbers of an item.
 pub(crate) type Numbers = ArrayVec<i64, 40>;
@@ -46,30 +51,91 @@ fn class(item: &NavItem) -> i64
     match item {
         NavItem::Gps(_) => 0,
         NavItem::Gal(_) => 1,
-        NavItem::Ion(e) => match &e.content {
-            IonContent::Gps(_) => 2,
-            IonContent::Gal(_) => 3,
-        },
+        NavItem::Ion(e) => content_class(&e.content),
     }
 }
 
-// The numbers of a satellite.
-fn sat_numbers(sat: Sat) -> [i64; 2]
-    ensures { result ≡ sat_rank sat }
+// The class of ionospheric parameters.
+fn content_class(content: &IonContent) -> i64
+    ensures { result ≡ pos (class_of_content content.now) }
 {
-    let system = match sat.system() {
+    match content {
+        IonContent::Gps(_) => 2,
+        IonContent::Gal(_) => 3,
+    }
+}
+
+// A GPS time.
+fn seconds(moment: Moment) -> i64
+    ensures { result ≡ pos moment }
+{
+    moment.value() as i64
+}
+
+// The system of a satellite.
+fn system(sat: &Sat) -> i64
+    ensures { result ≡ pos (place_of sat.now.system) }
+{
+    match sat.system() {
         System::Gps => 0,
         System::Gal => 1,
-    };
-    [system, sat.number() as i64]
+    }
+}
+
+// The number of a satellite.
+fn number(sat: &Sat) -> i64
+    ensures { result ≡ pos sat.now.number }
+{
+    i64::from(sat.number())
+}
+
+// An unsigned number.
+fn unsigned<const W: u32>(number: &U<W>) -> i64
+    requires { W ≤ 32 }
+    ensures { result ≡ pos number.now }
+{
+    number.value() as i64
+}
+
+// A GPS time of week, in steps of 16 s.
+fn steps16(steps: &Step16) -> i64
+    ensures { result ≡ pos steps.now }
+{
+    steps.value() as i64
+}
+
+// A Galileo time of week, in steps of 60 s.
+fn steps60(steps: &Step60) -> i64
+    ensures { result ≡ pos steps.now }
+{
+    steps.value() as i64
+}
+
+// The week of toe.
+fn week(week: &Week) -> i64
+    ensures { result ≡ pos week.now }
+{
+    i64::from(week.value())
+}
+
+// A SISA index.
+fn accuracy(index: &Sisa) -> i64
+    ensures { result ≡ pos index.now }
+{
+    index.value() as i64
 }
 
 /// The key of an item: its GPS time, class and satellite.
 pub(crate) fn key(item: &NavItem) -> [i64; 4]
     ensures { result ≡ key_of item.now }
 {
-    let [system, number] = sat_numbers(satellite(item));
-    [moment(item).value() as i64, class(item), system, number]
+    let sat = satellite(item);
+    [
+        seconds(moment(item)),
+        class(item),
+        system(&sat),
+        number(&sat),
+    ]
 }
 
 // The numbers of a transmission time.
@@ -86,35 +152,34 @@ fn sent_numbers(sent: &SentSecond) -> [i64; 2]
 fn gps_place(e: &GpsEph) -> [i64; 35]
     ensures { result ≡ place (GpsItem e.now) }
 {
-    let [system, number] = sat_numbers(e.sat);
     [
-        e.toe().value() as i64,
+        seconds(e.toe()),
         0,
         0,
-        system,
-        number,
-        e.clock.iodc.value() as i64,
-        e.clock.toc.value() as i64,
+        system(&e.sat),
+        number(&e.sat),
+        unsigned(&e.clock.iodc),
+        steps16(&e.clock.toc),
         e.clock.af2.value(),
         e.clock.af1.value(),
         e.clock.af0.value(),
         e.clock.tgd.value(),
-        e.side.l2_code.value() as i64,
-        e.side.ura.value() as i64,
-        e.side.health.value() as i64,
-        e.side.l2p.value() as i64,
-        e.a.iode.value() as i64,
+        unsigned(&e.side.l2_code),
+        unsigned(&e.side.ura),
+        unsigned(&e.side.health),
+        unsigned(&e.side.l2p),
+        unsigned(&e.a.iode),
         e.a.crs.value(),
         e.a.delta_n.value(),
         e.a.m0.value(),
         e.a.cuc.value(),
-        e.a.e.value() as i64,
+        unsigned(&e.a.e),
         e.a.cus.value(),
-        e.a.root_a.value() as i64,
-        e.a.toe.value() as i64,
-        e.fit.value() as i64,
-        i64::from(e.toe_week.value()),
-        e.b.iode.value() as i64,
+        unsigned(&e.a.root_a),
+        steps16(&e.a.toe),
+        unsigned(&e.fit),
+        week(&e.toe_week),
+        unsigned(&e.b.iode),
         e.b.cic.value(),
         e.b.omega0.value(),
         e.b.cis.value(),
@@ -130,45 +195,44 @@ fn gps_place(e: &GpsEph) -> [i64; 35]
 fn gal_place(e: &GalEph) -> [i64; 37]
     ensures { result ≡ place (GalItem e.now) }
 {
-    let [system, number] = sat_numbers(e.sat);
     [
-        e.toe().value() as i64,
+        seconds(e.toe()),
         1,
         1,
-        system,
-        number,
-        e.w1.iodnav.value() as i64,
-        e.w1.toe.value() as i64,
+        system(&e.sat),
+        number(&e.sat),
+        unsigned(&e.w1.iodnav),
+        steps60(&e.w1.toe),
         e.w1.m0.value(),
-        e.w1.e.value() as i64,
-        e.w1.root_a.value() as i64,
-        e.w2.iodnav.value() as i64,
+        unsigned(&e.w1.e),
+        unsigned(&e.w1.root_a),
+        unsigned(&e.w2.iodnav),
         e.w2.omega0.value(),
         e.w2.i0.value(),
         e.w2.omega.value(),
         e.w2.idot.value(),
-        e.w3.iodnav.value() as i64,
+        unsigned(&e.w3.iodnav),
         e.w3.omega_dot.value(),
         e.w3.delta_n.value(),
         e.w3.cuc.value(),
         e.w3.cus.value(),
         e.w3.crc.value(),
         e.w3.crs.value(),
-        e.w3.sisa.value() as i64,
-        e.w4.iodnav.value() as i64,
+        accuracy(&e.w3.sisa),
+        unsigned(&e.w4.iodnav),
         e.w4.cic.value(),
         e.w4.cis.value(),
-        e.w4.toc.value() as i64,
+        steps60(&e.w4.toc),
         e.w4.af0.value(),
         e.w4.af1.value(),
         e.w4.af2.value(),
-        i64::from(e.toe_week.value()),
+        week(&e.toe_week),
         e.health.bgd_a.value(),
         e.health.bgd_b.value(),
-        e.health.hs_e5b.value() as i64,
-        e.health.hs_e1b.value() as i64,
-        e.health.dvs_e5b.value() as i64,
-        e.health.dvs_e1b.value() as i64,
+        unsigned(&e.health.hs_e5b),
+        unsigned(&e.health.hs_e1b),
+        unsigned(&e.health.dvs_e5b),
+        unsigned(&e.health.dvs_e1b),
     ]
 }
 
@@ -194,50 +258,67 @@ fn append(all: &mut Numbers, more: &[i64])
     }
 }
 
+// The parameters of the GPS ionosphere, after their system.
+fn gps_content(x: &GpsIon) -> [i64; 9]
+    ensures { result ≡ pos 0 ∷ gps_ion_rank x.now }
+{
+    [
+        0,
+        x.alpha0.value(),
+        x.alpha1.value(),
+        x.alpha2.value(),
+        x.alpha3.value(),
+        x.beta0.value(),
+        x.beta1.value(),
+        x.beta2.value(),
+        x.beta3.value(),
+    ]
+}
+
+// The parameters of the Galileo ionosphere, after their system.
+fn gal_content(x: &GalIon) -> [i64; 5]
+    ensures { result ≡ pos 1 ∷ gal_ion_rank x.now }
+{
+    [
+        1,
+        unsigned(&x.ai0),
+        x.ai1.value(),
+        x.ai2.value(),
+        unsigned(&x.regions),
+    ]
+}
+
+// Appends ionospheric parameters.
+fn append_content(all: &mut Numbers, content: &IonContent)
+    requires { array_vec_len all.old + 9 ≤ 40 }
+    ensures items { all.new.items ≡ all.old.items ++ content_rank content.now }
+    ensures short { array_vec_len all.new ≤ array_vec_len all.old + 9 }
+{
+    match content {
+        IonContent::Gps(x) => append(all, &gps_content(x)),
+        IonContent::Gal(x) => append(all, &gal_content(x)),
+    }
+}
+
 // The numbers of an ionosphere item.
 fn ion_numbers(e: &IonEph) -> Numbers
     ensures { result.items ≡ numbers_of (IonItem e.now) }
 {
-    let [system, number] = sat_numbers(e.sat);
-    let moment = e.moment.value() as i64;
-    match &e.content {
-        IonContent::Gps(x) => with_sent(
-            &[
-                moment,
-                2,
-                2,
-                system,
-                number,
-                moment,
-                0,
-                x.alpha0.value(),
-                x.alpha1.value(),
-                x.alpha2.value(),
-                x.alpha3.value(),
-                x.beta0.value(),
-                x.beta1.value(),
-                x.beta2.value(),
-                x.beta3.value(),
-            ],
-            &SentSecond::Unknown,
-        ),
-        IonContent::Gal(x) => with_sent(
-            &[
-                moment,
-                3,
-                2,
-                system,
-                number,
-                moment,
-                1,
-                x.ai0.value() as i64,
-                x.ai1.value(),
-                x.ai2.value(),
-                x.regions.value() as i64,
-            ],
-            &SentSecond::Unknown,
-        ),
-    }
+    let mut all = Numbers::new();
+    append(
+        &mut all,
+        &[
+            seconds(e.moment),
+            content_class(&e.content),
+            2,
+            system(&e.sat),
+            number(&e.sat),
+            seconds(e.moment),
+        ],
+    );
+    append_content(&mut all, &e.content);
+    append(&mut all, &[0, 0]);
+    all
 }
 
 /// All numbers of an item.

@@ -1,6 +1,6 @@
 //! A navigation file, read as a set of items.
 
-ghost use Rattle.std.specs.Prelude.{◌≡◌, ◌+◌, ◌^◌, ◌<◌, ◌≤◌, ◌||◌, [], length};
+ghost use Rattle.std.specs.Prelude.{◌≡◌, ◌+◌, ◌^◌, ◌<◌, ◌∷◌, []};
 ghost use Rattle.std.specs.Prelude.{IfErr, IfNone, IfOk, IfSome, IsErr, IsErrOf, IsTrue, OnOk};
 ghost use Rattle.one_run.specs.Causes.{HasItsCause, fault_by, faults_of};
 ghost use Rattle.rinex_read.specs.Files.{file_reads};

@@ -1,7 +1,8 @@
 //! The lines of differences.
 
 ghost use Rattle.std.specs.Prelude.{◌≡◌, ◌≤◌, ◌+◌, ◌++◌, ◌∷◌, length, map, true};
-ghost use Rattle.std.specs.Prelude.{signed_decimal, codes};
+ghost use Rattle.std.specs.Prelude.{codes};
+ghost use Rattle.std.specs.Fmt.{signed_decimal};
 ghost use Rattle.arrayvec.specs.ArrayVec.{array_vec_len};
 ghost use Rattle.nav_io.specs.Writes.{Writes};
 ghost use Rattle.file_diff.specs.Differences.{class_text, date_text, item_text};
@@ -149,18 +150,11 @@ fn write_numbers<T: Sink>(
     ensures { Writes (T.written out.old) (T.written out.new) (T.faults out.old) (T.faults out.new)
         result (numbers_text head.now (map (λ n. n.now) names.now) a.now b.now) }
 {
-    let mut names = names;
-    let mut a = a;
-    let mut b = b;
-    'numbers: while let (Some((name, more_names)), Some((x, more_a)), Some((y, more_b))) = (
-        names.split_first(),
-        a.split_first(),
-        b.split_first(),
-    ) {
-        write_number(head, name.as_bytes(), *x, *y, out)?;
-        names = more_names;
-        a = more_a;
-        b = more_b;
+    let count = names.len().min(a.len()).min(b.len());
+    let mut place = 0;
+    'numbers: while place < count {
+        write_number(head, names[place].as_bytes(), a[place], b[place], out)?;
+        place += 1;
     }
     Ok(())
 }
