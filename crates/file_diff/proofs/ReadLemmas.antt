@@ -192,8 +192,8 @@ one_kind (Refused line reason) = omega arith
 one_kind (PassedOver line) = omega arith
 one_kind End = omega arith
 
-by_first : (kind : ItemRead → ℕ) (r : ItemRead) (rs : List ItemRead) → sum_by kind (r ∷ rs) ≡ kind r + sum_by kind rs
-by_first kind r rs = refl
+by_first : (kind : ItemRead → ℕ) (r : ItemRead) (rs : List ItemRead) → sum_by kind (r ∷ rs) ≡ (0 + kind r) + sum_by kind rs
+by_first kind r rs = sum_by-append kind (r ∷ []) rs
 
 few_by : (given : List ItemRead) → sum_by is_refused given + sum_by is_passed given + sum_by has_ionosphere given ≤ length given
 few_by [] = omega arith
@@ -310,5 +310,5 @@ form_header f left left_new s0 s1 fault begins new broken is =
     header_refused f left left_new s0 s1 begins new broken.steps (subst (λ (x : BridgeFault). HeaderFaultOf x s1) is broken.by)
 
 -- faults are equal where the answers are
-pub err_same : {T : Type 0} (a b : BridgeFault) → Err {T = T} a ≡ Err b → a ≡ b
-err_same a b is = cc
+pub err_same : {T : Type 0} (a b : BridgeFault) (r : Result T BridgeFault) → r ≡ Err a → r ≡ Err b → a ≡ b
+err_same a b r e f = cc

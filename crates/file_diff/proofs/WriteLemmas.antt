@@ -1,9 +1,10 @@
 -- Texts that are written piece by piece.
-use Rattle.std.proofs.Common.{◌≡◌, ℕ, List, [], ◌∷◌, ◌++◌, refl, sym, ap, subst, ◌∙◌, append_assoc, append-nil}
-use Rattle.std.specs.Prelude.{Option, Result}
+use Rattle.std.proofs.Common.{◌≡◌, ◌≤◌, ℕ, List, [], ◌∷◌, ◌++◌, refl, sym, ap, subst, ◌∙◌, append_assoc, append-nil, arith}
+use Rattle.std.specs.Prelude.{Option, Result, Ok, Err, MatchResult}
 use Rattle.std.specs.Io.KnownBytes.{Appends}
 use Rattle.std.proofs.KnownBytes.{Appends-nil, Appends-trans}
-use Rattle.nav_io.specs.Causes.{HasCause}
+use Rattle.nav_io.specs.Causes.{HasCause, Rose}
+use Rattle.nav_io.specs.Writes.{Writes}
 use Rattle.nav_io.specs.Prefix.{AppendsPrefix}
 use Rattle.one_run.proofs.Surface.{prefix_behind}
 
@@ -35,3 +36,23 @@ wrote_prefix all left piece rest w w1 w2 e h (prefix, (more, is), grew) =
 -- a write that failed after others that did not
 pub cause_behind : {T E : Type 0} (before now after : ℕ) (r : Result T E) → now ≡ before → HasCause now after r → HasCause before after r
 cause_behind before now after r is cause = subst (λ n. HasCause n after r) is cause
+
+-- the same of a call that gives something else
+pub cause_failed : {T S E : Type 0} (before now after : ℕ) (x : E) → now ≡ before → HasCause {T = T} {E = E} now after (Err x) → HasCause {T = S} {E = E} before after (Err x)
+cause_failed before now after x is cause = record {
+  later = subst (λ n. n ≤ after) is cause.later;
+  stays = tt;
+  failed = subst (λ n. Rose n after) is cause.failed;
+}
+
+-- a text that was written is the one that was to be
+pub writes_as : {T E : Type 0} (w w1 : Option (List ℕ)) (f f1 : ℕ) (r : Result T E) (text whole : List ℕ) → text ≡ whole
+    → MatchResult r (λ _. Appends w w1 text) (λ _. AppendsPrefix w w1 text) → HasCause f f1 r → Writes w w1 f f1 r whole
+writes_as w w1 f f1 r text whole is bytes cause = record {
+  bytes = subst (λ (l : List ℕ). MatchResult r (λ _. Appends w w1 l) (λ _. AppendsPrefix w w1 l)) is bytes;
+  cause = cause;
+}
+
+-- no write failed
+pub cause_done : {T E : Type 0} (before now : ℕ) (x : T) → now ≡ before → HasCause {T = T} {E = E} before now (Ok x)
+cause_done before now x is = record { later = subst (λ n. before ≤ n) (sym is) (omega arith); stays = is; failed = tt }

@@ -1,22 +1,24 @@
 //! Items as numbers, in the order in which they are compared.
 
-ghost use Rattle.std.specs.Prelude.{◌≡◌, ◌+◌, ◌≤◌, ◌∷◌, ◌++◌, length, pos};
+ghost use Rattle.std.specs.Prelude.{◌≡◌, ◌+◌, ◌≤◌, [], ◌∷◌, ◌++◌, length, pos};
 ghost use Rattle.arrayvec.specs.ArrayVec.{array_vec_len};
-ghost use Rattle.nav_eph.specs.Ranks.{content_rank, gal_ion_rank, gps_ion_rank, transmission_rank};
+ghost use Rattle.nav_eph.specs.Ranks.{clock_rank, content_rank, gal_ion_rank, gps_ion_rank};
+ghost use Rattle.nav_eph.specs.Ranks.{health_rank, orbit_a_rank, orbit_b_rank, sat_rank, side_rank};
+ghost use Rattle.nav_eph.specs.Ranks.{transmission_rank, word1_rank, word2_rank, word3_rank, word4_rank};
 ghost use Rattle.nav_eph.specs.Satellite.{place_of};
 ghost use Rattle.nav_eph.specs.declared.items.NavItem.TheVariants.{Gps as GpsItem};
 ghost use Rattle.nav_eph.specs.declared.items.NavItem.TheVariants.{Gal as GalItem};
 ghost use Rattle.nav_eph.specs.declared.items.NavItem.TheVariants.{Ion as IonItem};
 ghost use Rattle.nav_lists.specs.Fronts.{satellite_of};
-ghost use Rattle.nav_lists.specs.Merging.{class_of, class_of_content, moment_of, place};
+ghost use Rattle.nav_lists.specs.Merging.{class_of, class_of_content, moment_of};
 ghost use Rattle.file_diff.specs.Numbers.{key_of, numbers_of};
 
 use arrayvec::ArrayVec;
 use gnss_week::{Moment, Week};
 use nav_bits::U;
 use nav_eph::{
-    GalEph, GalIon, GpsEph, GpsIon, IonContent, IonEph, NavItem, Sat, SentSecond, Sisa, Step16,
-    Step60, System,
+    GalEph, GalHealth, GalIon, GalWord1, GalWord2, GalWord3, GalWord4, GpsClock, GpsEph, GpsIon,
+    GpsOrbitA, GpsOrbitB, GpsSide, IonContent, IonEph, NavItem, Sat, SentSecond, System,
 };
 
 /// The numbers of an item.
@@ -89,42 +91,6 @@ fn number(sat: &Sat) -> i64
     i64::from(sat.number())
 }
 
-// An unsigned number.
-fn unsigned<const W: u32>(number: &U<W>) -> i64
-    requires { W ≤ 32 }
-    ensures { result ≡ pos number.now }
-{
-    number.value() as i64
-}
-
-// A GPS time of week, in steps of 16 s.
-fn steps16(steps: &Step16) -> i64
-    ensures { result ≡ pos steps.now }
-{
-    steps.value() as i64
-}
-
-// A Galileo time of week, in steps of 60 s.
-fn steps60(steps: &Step60) -> i64
-    ensures { result ≡ pos steps.now }
-{
-    steps.value() as i64
-}
-
-// The week of toe.
-fn week(week: &Week) -> i64
-    ensures { result ≡ pos week.now }
-{
-    i64::from(week.value())
-}
-
-// A SISA index.
-fn accuracy(index: &Sisa) -> i64
-    ensures { result ≡ pos index.now }
-{
-    index.value() as i64
-}
-
 /// The key of an item: its GPS time, class and satellite.
 pub(crate) fn key(item: &NavItem) -> [i64; 4]
     ensures { result ≡ key_of item.now }
@@ -148,103 +114,180 @@ fn sent_numbers(sent: &SentSecond) -> [i64; 2]
     }
 }
 
-// The numbers of a GPS ephemeris but the transmission time.
-fn gps_place(e: &GpsEph) -> [i64; 35]
-    ensures { result ≡ place (GpsItem e.now) }
+// A clock correction of GPS.
+fn clock_numbers(x: &GpsClock) -> [i64; 6]
+    ensures { result ≡ clock_rank x.now }
 {
     [
-        seconds(e.toe()),
-        0,
-        0,
-        system(&e.sat),
-        number(&e.sat),
-        unsigned(&e.clock.iodc),
-        steps16(&e.clock.toc),
-        e.clock.af2.value(),
-        e.clock.af1.value(),
-        e.clock.af0.value(),
-        e.clock.tgd.value(),
-        unsigned(&e.side.l2_code),
-        unsigned(&e.side.ura),
-        unsigned(&e.side.health),
-        unsigned(&e.side.l2p),
-        unsigned(&e.a.iode),
-        e.a.crs.value(),
-        e.a.delta_n.value(),
-        e.a.m0.value(),
-        e.a.cuc.value(),
-        unsigned(&e.a.e),
-        e.a.cus.value(),
-        unsigned(&e.a.root_a),
-        steps16(&e.a.toe),
-        unsigned(&e.fit),
-        week(&e.toe_week),
-        unsigned(&e.b.iode),
-        e.b.cic.value(),
-        e.b.omega0.value(),
-        e.b.cis.value(),
-        e.b.i0.value(),
-        e.b.crc.value(),
-        e.b.omega.value(),
-        e.b.omega_dot.value(),
-        e.b.idot.value(),
+        x.iodc.value() as i64,
+        x.toc.value() as i64,
+        x.af2.value(),
+        x.af1.value(),
+        x.af0.value(),
+        x.tgd.value(),
     ]
 }
 
-// The numbers of a Galileo ephemeris but the transmission time.
-fn gal_place(e: &GalEph) -> [i64; 37]
-    ensures { result ≡ place (GalItem e.now) }
+// An SV status.
+fn side_numbers(x: &GpsSide) -> [i64; 4]
+    ensures { result ≡ side_rank x.now }
 {
     [
-        seconds(e.toe()),
-        1,
-        1,
-        system(&e.sat),
-        number(&e.sat),
-        unsigned(&e.w1.iodnav),
-        steps60(&e.w1.toe),
-        e.w1.m0.value(),
-        unsigned(&e.w1.e),
-        unsigned(&e.w1.root_a),
-        unsigned(&e.w2.iodnav),
-        e.w2.omega0.value(),
-        e.w2.i0.value(),
-        e.w2.omega.value(),
-        e.w2.idot.value(),
-        unsigned(&e.w3.iodnav),
-        e.w3.omega_dot.value(),
-        e.w3.delta_n.value(),
-        e.w3.cuc.value(),
-        e.w3.cus.value(),
-        e.w3.crc.value(),
-        e.w3.crs.value(),
-        accuracy(&e.w3.sisa),
-        unsigned(&e.w4.iodnav),
-        e.w4.cic.value(),
-        e.w4.cis.value(),
-        steps60(&e.w4.toc),
-        e.w4.af0.value(),
-        e.w4.af1.value(),
-        e.w4.af2.value(),
-        week(&e.toe_week),
-        e.health.bgd_a.value(),
-        e.health.bgd_b.value(),
-        unsigned(&e.health.hs_e5b),
-        unsigned(&e.health.hs_e1b),
-        unsigned(&e.health.dvs_e5b),
-        unsigned(&e.health.dvs_e1b),
+        x.l2_code.value() as i64,
+        x.ura.value() as i64,
+        x.health.value() as i64,
+        x.l2p.value() as i64,
     ]
 }
 
-// Appends the numbers of a transmission time to those of an item.
-fn with_sent(place: &[i64], sent: &SentSecond) -> Numbers
-    requires { length place.now ≤ 38 }
-    ensures { result.items ≡ place.now ++ transmission_rank sent.now }
+// GPS subframe 2.
+fn orbit_a_numbers(x: &GpsOrbitA) -> [i64; 9]
+    ensures { result ≡ orbit_a_rank x.now }
 {
-    let mut all = Numbers::new();
-    append(&mut all, place);
-    append(&mut all, &sent_numbers(sent));
-    all
+    [
+        x.iode.value() as i64,
+        x.crs.value(),
+        x.delta_n.value(),
+        x.m0.value(),
+        x.cuc.value(),
+        x.e.value() as i64,
+        x.cus.value(),
+        x.root_a.value() as i64,
+        x.toe.value() as i64,
+    ]
+}
+
+// GPS subframe 3.
+fn orbit_b_numbers(x: &GpsOrbitB) -> [i64; 9]
+    ensures { result ≡ orbit_b_rank x.now }
+{
+    [
+        x.iode.value() as i64,
+        x.cic.value(),
+        x.omega0.value(),
+        x.cis.value(),
+        x.i0.value(),
+        x.crc.value(),
+        x.omega.value(),
+        x.omega_dot.value(),
+        x.idot.value(),
+    ]
+}
+
+// I/NAV word type 1.
+fn word1_numbers(x: &GalWord1) -> [i64; 5]
+    ensures { result ≡ word1_rank x.now }
+{
+    [
+        x.iodnav.value() as i64,
+        x.toe.value() as i64,
+        x.m0.value(),
+        x.e.value() as i64,
+        x.root_a.value() as i64,
+    ]
+}
+
+// I/NAV word type 2.
+fn word2_numbers(x: &GalWord2) -> [i64; 5]
+    ensures { result ≡ word2_rank x.now }
+{
+    [
+        x.iodnav.value() as i64,
+        x.omega0.value(),
+        x.i0.value(),
+        x.omega.value(),
+        x.idot.value(),
+    ]
+}
+
+// I/NAV word type 3.
+fn word3_numbers(x: &GalWord3) -> [i64; 8]
+    ensures { result ≡ word3_rank x.now }
+{
+    [
+        x.iodnav.value() as i64,
+        x.omega_dot.value(),
+        x.delta_n.value(),
+        x.cuc.value(),
+        x.cus.value(),
+        x.crc.value(),
+        x.crs.value(),
+        x.sisa.value() as i64,
+    ]
+}
+
+// I/NAV word type 4.
+fn word4_numbers(x: &GalWord4) -> [i64; 7]
+    ensures { result ≡ word4_rank x.now }
+{
+    [
+        x.iodnav.value() as i64,
+        x.cic.value(),
+        x.cis.value(),
+        x.toc.value() as i64,
+        x.af0.value(),
+        x.af1.value(),
+        x.af2.value(),
+    ]
+}
+
+// Galileo group delays and health.
+fn health_numbers(x: &GalHealth) -> [i64; 6]
+    ensures { result ≡ health_rank x.now }
+{
+    [
+        x.bgd_a.value(),
+        x.bgd_b.value(),
+        x.hs_e5b.value() as i64,
+        x.hs_e1b.value() as i64,
+        x.dvs_e5b.value() as i64,
+        x.dvs_e1b.value() as i64,
+    ]
+}
+
+// A satellite.
+fn sat_numbers(sat: &Sat) -> [i64; 2]
+    ensures { result ≡ sat_rank sat.now }
+{
+    [system(sat), number(sat)]
+}
+
+// The fit interval flag and the week of toe.
+fn fit_and_week(fit: &U<1>, week: &Week) -> [i64; 2]
+    ensures { result ≡ pos fit.now ∷ pos week.now ∷ [] }
+{
+    [fit.value() as i64, week.value() as i64]
+}
+
+// Appends a GPS ephemeris.
+fn append_gps(all: &mut Numbers, e: &GpsEph)
+    requires { all.old.items ≡ [] }
+    ensures { all.new.items ≡ numbers_of (GpsItem e.now) }
+{
+    append(all, &[seconds(e.toe()), 0, 0]);
+    append(all, &sat_numbers(&e.sat));
+    append(all, &clock_numbers(&e.clock));
+    append(all, &side_numbers(&e.side));
+    append(all, &orbit_a_numbers(&e.a));
+    append(all, &fit_and_week(&e.fit, &e.toe_week));
+    append(all, &orbit_b_numbers(&e.b));
+    append(all, &sent_numbers(&e.sent));
+}
+
+// Appends a Galileo ephemeris.
+fn append_gal(all: &mut Numbers, e: &GalEph)
+    requires { all.old.items ≡ [] }
+    ensures { all.new.items ≡ numbers_of (GalItem e.now) }
+{
+    append(all, &[seconds(e.toe()), 1, 1]);
+    append(all, &sat_numbers(&e.sat));
+    append(all, &word1_numbers(&e.w1));
+    append(all, &word2_numbers(&e.w2));
+    append(all, &word3_numbers(&e.w3));
+    append(all, &word4_numbers(&e.w4));
+    append(all, &[i64::from(e.toe_week.value())]);
+    append(all, &health_numbers(&e.health));
+    append(all, &sent_numbers(&e.sent));
 }
 
 // Appends numbers; there must be room for them.
@@ -281,10 +324,10 @@ fn gal_content(x: &GalIon) -> [i64; 5]
 {
     [
         1,
-        unsigned(&x.ai0),
+        x.ai0.value() as i64,
         x.ai1.value(),
         x.ai2.value(),
-        unsigned(&x.regions),
+        x.regions.value() as i64,
     ]
 }
 
@@ -300,13 +343,13 @@ fn append_content(all: &mut Numbers, content: &IonContent)
     }
 }
 
-// The numbers of an ionosphere item.
-fn ion_numbers(e: &IonEph) -> Numbers
-    ensures { result.items ≡ numbers_of (IonItem e.now) }
+// Appends an ionosphere item.
+fn append_ion(all: &mut Numbers, e: &IonEph)
+    requires { all.old.items ≡ [] }
+    ensures { all.new.items ≡ numbers_of (IonItem e.now) }
 {
-    let mut all = Numbers::new();
     append(
-        &mut all,
+        all,
         &[
             seconds(e.moment),
             content_class(&e.content),
@@ -316,18 +359,19 @@ fn ion_numbers(e: &IonEph) -> Numbers
             seconds(e.moment),
         ],
     );
-    append_content(&mut all, &e.content);
-    append(&mut all, &[0, 0]);
-    all
+    append_content(all, &e.content);
+    append(all, &[0, 0]);
 }
 
 /// All numbers of an item.
 pub(crate) fn numbers(item: &NavItem) -> Numbers
     ensures { result.items ≡ numbers_of item.now }
 {
+    let mut all = Numbers::new();
     match item {
-        NavItem::Gps(e) => with_sent(&gps_place(e), &e.sent),
-        NavItem::Gal(e) => with_sent(&gal_place(e), &e.sent),
-        NavItem::Ion(e) => ion_numbers(e),
+        NavItem::Gps(e) => append_gps(&mut all, e),
+        NavItem::Gal(e) => append_gal(&mut all, e),
+        NavItem::Ion(e) => append_ion(&mut all, e),
     }
+    all
 }

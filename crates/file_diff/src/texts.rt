@@ -122,19 +122,19 @@ fn number_line(head: &[u8], name: &[u8], a: i64, b: i64) -> Text
 fn write_number<T: Sink>(
     head: &[u8],
     name: &[u8],
-    a: i64,
-    b: i64,
+    a: &i64,
+    b: &i64,
     out: &mut T,
 ) -> Result<(), Failed>
     requires head { length head.now ≤ 83 }
     requires name { length name.now ≤ 20 }
     ensures { Writes (T.written out.old) (T.written out.new) (T.faults out.old) (T.faults out.new)
-        result (number_text head.now name.now a b) }
+        result (number_text head.now name.now a.now b.now) }
 {
-    if a == b || name.is_empty() {
+    if *a == *b || name.is_empty() {
         return Ok(());
     }
-    out.write(number_line(head, name, a, b).as_slice())
+    out.write(number_line(head, name, *a, *b).as_slice())
 }
 
 // Writes the lines of the numbers that differ.
@@ -153,7 +153,7 @@ fn write_numbers<T: Sink>(
     let count = names.len().min(a.len()).min(b.len());
     let mut place = 0;
     'numbers: while place < count {
-        write_number(head, names[place].as_bytes(), a[place], b[place], out)?;
+        write_number(head, names[place].as_bytes(), &a[place], &b[place], out)?;
         place += 1;
     }
     Ok(())

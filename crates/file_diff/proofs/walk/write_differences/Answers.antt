@@ -1,7 +1,7 @@
 use Rattle.std.proofs.Common.{◌≡◌, true, false, ◌∙◌}
 use Rattle.std.proofs.lemmas.Result.{err_from_is_err_and}
 use Rattle.file_diff.proofs.WalkLemmas.{seen_all, some_seen, text_next}
-use Rattle.file_diff.proofs.WriteLemmas.{cause_behind, wrote_all, wrote_more, wrote_prefix}
+use Rattle.file_diff.proofs.WriteLemmas.{cause_failed, wrote_all, wrote_more, wrote_prefix}
 use Rattle.file_diff.proofs.walk.write_differences.Goals as goal
 
 pub differences-preserved : goal.differences-preserved
@@ -17,5 +17,5 @@ returns-in_err-write_difference-clause-writes g c =
     let p = err_from_is_err_and c.from_residual.result c.from_residual.ensures.1 in
     rw (p.1, p.2) (record {
       bytes = wrote_prefix _ _ _ _ _ _ _ (text_next _ _ _ c.in-Some.ensures) c.differences.invariant.wrote c.in_err-write_difference.ensures.bytes;
-      cause = cause_behind _ _ _ _ c.differences.invariant.faults c.in_err-write_difference.ensures.cause;
+      cause = cause_failed _ _ _ _ c.differences.invariant.faults c.in_err-write_difference.ensures.cause;
     })
