@@ -95,35 +95,6 @@ file_read f all left l1 l2 s0 s1 s2 items items_new counts begins new header rea
       counted = read.counted;
     }
 
--- ---- a file that was not read
-
--- with what is left
-with_rest : (left left_new : Option (List ℕ)) (taken : List ℕ) (P : List ℕ → Type 0) → Consumes left left_new taken
-    → ((rest : List ℕ) → left_new ≡ Some rest → P (taken ++ rest)) → IfSome left P
-with_rest None left_new taken P takes each = tt
-with_rest (Some bytes) None taken P takes each = absurd takes
-with_rest (Some bytes) (Some rest) taken P takes each = subst P (sym takes) (each rest refl)
-
--- what is left may come
-rest_comes : (f : Form) (left left_new : Option (List ℕ)) (s0 s1 : RecordsState) → IsNew s0 → (steps : HeaderSteps f left left_new s0 s1)
-    → (rest : List ℕ) → left_new ≡ Some rest → MayCome s1 rest
-rest_comes f left left_new s0 s1 new steps rest is ended = at_end (steps.reads.at_end ended) where
-  at_end : (s0.lines.ended ≡ true) ⊎ IsAtEnd left_new → rest ≡ []
-  at_end (inl early) = absurd (no_end s0 new.ended early)
-  at_end (inr end) = subst IsAtEnd is end
-
-refused : (f : Form) (s : RecordsState) → (s.header ≡ NotRinexNav) ⊎ (s.header ≡ OtherVersion) → (following : List ℕ) → IsErr (file_to_come f s following)
-refused f s (inl is) following = subst (λ (h : HeaderState). IsErr (file_by f h s (told_lines (s.lines.rest ++ following)))) (sym is) refl
-refused f s (inr is) following = subst (λ (h : HeaderState). IsErr (file_by f h s (told_lines (s.lines.rest ++ following)))) (sym is) refl
-
--- the header is refused
-pub header_refused : (f : Form) (left left_new : Option (List ℕ)) (s0 s1 : RecordsState) → Begins f → IsNew s0 → HeaderSteps f left left_new s0 s1
-    → (s1.header ≡ NotRinexNav) ⊎ (s1.header ≡ OtherVersion) → IfSome left (λ bytes. IsErr (file_reads f bytes))
-header_refused f left left_new s0 s1 begins new steps by =
-    with_rest left left_new steps.reads.taken (λ bytes. IsErr (file_reads f bytes)) steps.reads.consumes
-    (λ rest is. subst (λ (r : Result (List ItemRead) HeaderFault). IsErr r) (sym (steps.stream rest (rest_comes f left left_new s0 s1 new steps rest is)) ∙ begins s0 (steps.reads.taken ++ rest) new)
-    (refused f s1 by rest))
-
 -- ---- records after records
 
 pub gives_record : (f : Form) (read : ItemRead) (left left_new : Option (List ℕ)) (old new : RecordsState)
@@ -244,26 +215,6 @@ all_read f all left l1 l2 s0 s1 s2 items items1 counts follow far none = record 
 
 -- ---- the reader breaks off
 
-after_break : (f : Form) (left left_new : Option (List ℕ)) (old new : RecordsState) (fault : LineFault) → BreaksRecord f left left_new old new fault
-    → BreaksAfter f left left_new old new (fault_by fault)
-after_break f left left_new old new lines.ReadFault b = record {
-  given = [];
-  steps = b.steps;
-  long = λ is. absurd (let none : ReadFault ≡ TooLong = is in cc);
-  form = λ is. let none : ReadFault ≡ NotThisForm = is in cc;
-}
-after_break f left left_new old new lines.TooLong b = record {
-  given = [];
-  steps = b.steps;
-  long = λ is. b.by;
-  form = λ is. let none : TooLong ≡ NotThisForm = is in cc;
-}
-
--- the same of a fault that is this one
-pub breaks_after : (f : Form) (left left_new : Option (List ℕ)) (old new : RecordsState) (fault : LineFault) (by : BridgeFault) → by ≡ fault_by fault
-    → BreaksRecord f left left_new old new fault → BreaksAfter f left left_new old new by
-breaks_after f left left_new old new fault by is b = subst (BreaksAfter f left left_new old new) (sym is) (after_break f left left_new old new fault b)
-
 -- after records that were read
 pub breaks_later : (f : Form) (all : Bool) (left l1 l2 : Option (List ℕ)) (s0 s1 s2 : RecordsState) (items items1 : List NavItem) (counts : ReadCounts) (fault : BridgeFault)
     → Follow f → ReadsSome f all left l1 s0 s1 items items1 counts → BreaksAfter f l1 l2 s1 s2 fault → BreaksAfter f left l2 s0 s2 fault
@@ -284,17 +235,6 @@ breaks_taking f all left l1 l2 s0 s1 s2 items items1 counts read fault follow fa
   form = λ is. let none : NoMemory ≡ NotThisForm = sym kind ∙ is in cc;
 }
 
--- too many bytes were read, in the header or behind it
-pub long_header : (f : Form) (left left_new : Option (List ℕ)) (s0 s1 : RecordsState) (fault : BridgeFault) → IsNew s0 → NoHeader f left left_new s0 s1 fault
-    → fault ≡ TooLong → IsTooLong left left_new
-long_header f left left_new s0 s1 fault new broken is =
-    let long = subst (λ (x : BridgeFault). HeaderFaultOf x s1) is broken.by in
-    record {
-      taken = broken.steps.reads.taken;
-      consumes = broken.steps.reads.consumes;
-      many = omega (arith, new.taken, broken.steps.reads.count, long);
-    }
-
 pub long_records : (f : Form) (left l1 l2 : Option (List ℕ)) (s0 s1 s2 : RecordsState) (fault : BridgeFault) → IsNew s0 → PassesHeader f left l1 s0 s1
     → BreaksAfter f l1 l2 s1 s2 fault → fault ≡ TooLong → IsTooLong left l2
 long_records f left l1 l2 s0 s1 s2 fault new header b is = record {
@@ -302,12 +242,6 @@ long_records f left l1 l2 s0 s1 s2 fault new header b is = record {
   consumes = Consumes-trans left l1 l2 _ _ header.steps.reads.consumes b.steps.reads.consumes;
   many = omega (arith, length-append header.steps.reads.taken b.steps.reads.taken, new.taken, header.steps.reads.count, b.steps.reads.count, b.long is);
 }
-
--- the header is refused
-pub form_header : (f : Form) (left left_new : Option (List ℕ)) (s0 s1 : RecordsState) (fault : BridgeFault) → Begins f → IsNew s0 → NoHeader f left left_new s0 s1 fault
-    → fault ≡ NotThisForm → IfSome left (λ bytes. IsErr (file_reads f bytes))
-form_header f left left_new s0 s1 fault begins new broken is =
-    header_refused f left left_new s0 s1 begins new broken.steps (subst (λ (x : BridgeFault). HeaderFaultOf x s1) is broken.by)
 
 -- faults are equal where the answers are
 pub err_same : {T : Type 0} (a b : BridgeFault) (r : Result T BridgeFault) → r ≡ Err a → r ≡ Err b → a ≡ b

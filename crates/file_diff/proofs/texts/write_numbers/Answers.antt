@@ -1,4 +1,4 @@
-use Rattle.std.proofs.Common.{◌≡◌, ◌++◌, ◌∷◌, [], ℕ, ℤ, pos, List, get_or, drop, map, length, ap, sym, ◌∙◌, arith}
+use Rattle.std.proofs.Common.{◌≡◌, ◌+◌, ◌++◌, ◌∷◌, [], ℕ, ℤ, pos, List, get_or, drop, map, length, ap, sym, ◌∙◌, arith}
 use Rattle.std.proofs.lemmas.Result.{err_from_is_err_and}
 use Rattle.file_diff.specs.Differences.{number_text, numbers_text}
 use Rattle.file_diff.specs.Mirrors.{are_short}
@@ -19,7 +19,8 @@ numbers-preserved g c =
           (sym c.as_bytes.ensures.value))
           c.numbers.invariant.wrote c.in_ok-write_number.ensures.bytes;
       faults = c.in_ok-write_number.ensures.cause.stays ∙ c.numbers.invariant.faults;
-      short = others_short _ _ (sym (ap (λ l. are_short (map (λ n. n.now) l)) names) ∙ c.numbers.invariant.short);
+      short = others_short (get_or c.args.names.now c.numbers.place (record { ref_ptr = (0, 0); now = [] })).now (map (λ n. n.now) (drop (c.numbers.place + 1) c.args.names.now))
+          (sym (ap (λ l. are_short (map (λ n. n.now) l)) names) ∙ c.numbers.invariant.short);
       within = omega (arith, c.numbers-test.true);
     }
 
