@@ -61,6 +61,7 @@ option_rules forms targets =
     ∷ flag_rule (codes "check") None
     ∷ flag_rule (codes "json") None
     ∷ flag_rule (codes "list-forms") None
+    ∷ flag_rule (codes "diff") None
     ∷ []
 
 -- the command with these options, whose words do not start with the name of a program

@@ -1,6 +1,7 @@
 //! What is done, by what was asked.
 
 use crate::command::Asked;
+use crate::diff::diff_asked;
 use crate::files::{Settings, are_joined, convert_file, convert_joined};
 use crate::forms::FormatList;
 use crate::outputs::{Output, output_of};
@@ -24,6 +25,9 @@ pub(crate) fn do_asked(rt: &HostRuntime, asked: &Asked) -> u8 {
             Ok(()) => 0,
             Err(_) => 4,
         };
+    }
+    if asked.has("diff") {
+        return diff_asked(rt, asked);
     }
     if let Some(refusal) = refused(rt, asked) {
         return tell_program(rt, &refusal);

@@ -128,7 +128,7 @@ const FLAG: Row = Row {
     ..OPTION
 };
 
-static OPTIONS: [Row; 14] = [
+static OPTIONS: [Row; 15] = [
     Row {
         name: "from",
         short: Some('f'),
@@ -219,6 +219,11 @@ static OPTIONS: [Row; 14] = [
     Row {
         name: "list-forms",
         help: "List the formats, and do nothing",
+        ..FLAG
+    },
+    Row {
+        name: "diff",
+        help: "Compare two navigation files, as diff does; write what differs",
         ..FLAG
     },
 ];

@@ -11,6 +11,7 @@
 mod choices;
 mod clock;
 mod command;
+mod diff;
 mod dry;
 mod files;
 mod forms;
