@@ -92,6 +92,23 @@ input=station.navcap run "a long name for standard input" 0 "in/STAT00CCC_R_2023
 is_same "a long name for standard input" in/STAT00CCC_R_20233650200_01H_MN.rnx "$examples/station.rnx"
 rm in/STAT00CCC_R_20233650200_01H_MN.rnx
 run "a long name on standard output" 2 "--long-name needs" --long-name STAT00CCC -o - station.navcap
+
+# ---- two files compared; crs is in 2^-5 m: -810.03125 m is -25921
+awk '/^>/ { all = one all; one = $0 "\n"; next } one == "" { print; next } { one = one $0 "\n" } END { printf "%s", one all }' station.rnx |
+  sed 's/\([0-9]\)D\([-+]\)/\1E\2/g; s/$/\r/' > spelt.rnx
+cat spelt.rnx <(sed '1,/END OF HEADER/d' station.rnx) > twice.rnx
+run "a file in another order and spelling, twice" 0 - --diff station.rnx twice.rnx
+[ ! -s out ] || differs "a file in another order and spelling, twice" "$(cat out)"
+sed 's/-8.100312500000D+02/-8.100000000000D+02/; s/^> EPH G01/> EPH G02/; s/^G01/G02/' station.rnx > other.rnx
+run "files that differ" 1 - --diff station.rnx other.rnx
+printf '%s\n' "only in A: G01 2023-12-31 02:00:00" "only in B: G02 2023-12-31 02:00:00" "differs: E01 2023-12-31 02:00:00 crs -25921 -25920" > expected
+is_same "files that differ" out expected
+run "RINEX 4 and 3" 0 "station.rnx: 2 records skipped, of the ionosphere" --diff station.rnx "$examples/station.nav"
+[ ! -s out ] || differs "RINEX 4 and 3" "$(cat out)"
+run "one file" 2 "--diff takes two files" --diff station.rnx
+run "an option beside" 2 "--diff takes two files" --diff -o x station.rnx other.rnx
+run "what is no navigation file" 2 "log.ubx: it is" --diff station.rnx log.ubx
+run "what is not there" 3 "none.rnx: there is no such file" --diff none.rnx station.rnx
 run "what would be done" 0 - -n "${date[@]}" -o d.rnx log.ubx
 grep -qF "navlog --from ubx < 'log.ubx' | navbridge '--from=capture' '--to=rinex'" out || differs "what would be done" "$(cat out)"
 is_gone "what would be done" d.rnx
