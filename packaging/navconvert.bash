@@ -16,7 +16,7 @@ _navconvert() {
     --week | --leap | --date | --long-name) return ;;
     *)
       case $current in
-        -*) words='--from --to --output --week --leap --date --long-name --report --overwrite --quiet --dry-run --check --json --list-forms --help --version' ;;
+        -*) words='--from --to --output --week --leap --date --long-name --report --overwrite --quiet --dry-run --check --json --list-forms --diff --help --version' ;;
       esac
       ;;
   esac
