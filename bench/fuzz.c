@@ -20,7 +20,7 @@
 #include "navbridge.h"
 #include "refused.h"
 
-enum { SLOTS = 8, ROOM = 1 << 17, MOST = 1 << 15, GUARD = 4096, MARGIN = 64, SAMPLES = 512, WORDS = 8, CALLS = 31 };
+enum { SLOTS = 8, ROOM = 1 << 17, MOST = 1 << 15, GUARD = 4096, MARGIN = 64, SAMPLES = 512, WORDS = 8, CALLS = 37 };
 
 #define PROMISE(it)                                                                 \
     do {                                                                            \
@@ -268,6 +268,17 @@ static void messages(run *it, uint32_t call) {
         PROMISE(status == NB_OK || memcmp(item, &it->item, sizeof *item) == 0);
         PROMISE(n == 0 || memcmp(from, it->data, n) == 0);
         it->item = *item;
+    } else if (call == 31) {
+        nb_item again = it->item;
+        uint8_t frame[NB_FRAME_MOST];
+        size = nb_frame_make(from, n, frame, sizeof frame);
+        if (byte(it) % 4 == 0 && size > 0) frame[byte(it) * 7 % size] ^= (uint8_t)byte(it);
+        from = lent(it, 3, frame, size);
+        status = nb_frame_read(from, size, 2295, item);
+        got(it, call, status);
+        PROMISE(status == NB_OK || memcmp(item, &it->item, sizeof *item) == 0);
+        PROMISE(status == (nb_is_frame(from, size) ? nb_message_read(from + 3, size - 6, 2295, &again) : NB_NO_FRAME));
+        PROMISE(memcmp(item, &again, sizeof again) == 0);
     } else {
         status = nb_message_write(item, to, room, &used);
         got(it, call, status);
@@ -353,6 +364,83 @@ static void records(run *it, uint32_t call) {
         }
     }
     got(it, call, status);
+}
+
+/* The contents of subframes or words of the item, one number of them changed or none, joined. */
+static void joins(run *it, uint32_t call) {
+    const uint32_t week = byte(it) % 8 ? 2295 : four(it), satellite = byte(it) % 8 ? 1 + byte(it) % 32 : number(it);
+    const uint32_t how = byte(it), value = byte(it) % 4 ? number(it) : four(it);
+    nb_subframe subframes[3];
+    nb_word words[5];
+    uint8_t *const all = call == 32 ? (uint8_t *)subframes : (uint8_t *)words, *from;
+    const size_t n = call == 32 ? sizeof subframes : sizeof words;
+    nb_item *item = (nb_item *)(void *)lent(it, 4, &it->item, sizeof it->item), again = it->item;
+    nb_status status;
+    uint32_t i;
+    for (i = 0; i < 3; i++) subframes[i] = it->subframe, subframes[i].number = i + 1;
+    for (i = 0; i < 5; i++) words[i] = it->word, words[i].number = i + 1;
+    subframes[0].wn = 247;
+    subframes[0].second = words[4].second = value % 604800;
+    subframes[0].clock = it->item.gps.clock;
+    subframes[0].clock.iodc = it->item.gps.a.iode;
+    subframes[0].side = it->item.gps.side;
+    subframes[1].a = it->item.gps.a;
+    subframes[1].fit = it->item.gps.fit;
+    subframes[2].b = it->item.gps.b;
+    words[0].w1 = it->item.gal.w1;
+    words[1].w2 = it->item.gal.w2;
+    words[2].w3 = it->item.gal.w3;
+    words[3].w4 = it->item.gal.w4;
+    words[4].wn = 1271;
+    words[4].health = it->item.gal.health;
+    if (how % 4 == 0) memcpy(all + how * 1021 * 4 % n, &value, sizeof value);
+    from = lent(it, 1, all, n);
+    status = call == 32 ? nb_subframes_join((const nb_subframe *)(const void *)from, satellite, week, item)
+                        : nb_words_join((const nb_word *)(const void *)from, satellite, week, item);
+    got(it, call, status);
+    PROMISE(is_one_of(status, "OK NO_WEEK NO_SATELLITE NO_ITEM") && memcmp(from, all, n) == 0);
+    PROMISE(status == NB_OK || memcmp(item, &it->item, sizeof *item) == 0);
+    if (status == NB_OK) {
+        uint8_t text[1024];
+        size_t used;
+        PROMISE(item->kind == (call == 32 ? NB_GPS : NB_GALILEO));
+        PROMISE(nb_record_write(item, 4, text, sizeof text, &used) == NB_OK && nb_record_read(text, used, 4, &again) == NB_OK);
+        PROMISE(memcmp(&again, item, sizeof again) == 0);
+    }
+}
+
+/* A file of records: its header, and where each of its parts ends. */
+static void files(run *it, uint32_t call) {
+    const uint32_t version = byte(it) % 8 ? 4 - byte(it) % 2 : four(it);
+    const size_t room = number(it) * 8 % 1024;
+    size_t used = 77, n, size;
+    if (call == 34) {
+        uint8_t *to = lent(it, 2, NULL, room);
+        nb_header *header = (nb_header *)(void *)lent(it, 1, "20240101 000000 UTC", sizeof *header);
+        nb_status status;
+        header->leap = (uint8_t)number(it);
+        if (byte(it) % 4 == 0) header->date[byte(it) % 19] = (uint8_t)byte(it);
+        status = nb_header_write(header, version, to, room, &used);
+        got(it, call, status);
+        PROMISE(is_one_of(status, "OK NO_VERSION NO_HEADER") && kept(it, 2, to, room, status == NB_OK ? used : 0));
+        PROMISE(used == (status == NB_OK ? 308 : 0) && (used > room || used == 0 || nb_header_size(to, room) == used));
+    } else {
+        const uint32_t is_end = byte(it) % 2;
+        uint8_t *from;
+        n = bytes(it, byte(it) % 2 ? NAVIGATION : RECORD);
+        from = lent(it, 1, it->data, n);
+        size = nb_header_size(from, n);
+        PROMISE(size <= n && (size == 0 || from[size - 1] == '\n'));
+        got(it, call, size % 99);
+        used = size;
+        while ((size = nb_record_size(from + used, n - used, version, is_end)) > 0) {
+            PROMISE(size <= n - used && (used + size == n || from[used + size - 1] == '\n'));
+            PROMISE(used + size == n || nb_record_size(from + used, size, version, 0) == 0);
+            used += size;
+        }
+        PROMISE(used == n || !is_end || (version != 3 && version != 4));
+        got(it, call, used % 99);
+    }
 }
 
 /* The frames among bytes, one behind the other, where each is a frame by itself. */
@@ -613,7 +701,11 @@ static void ran(run *it, const uint8_t *input, size_t n) {
         else if (call <= 17) parts(it, call);
         else if (call == 18 && it->pages != NULL) nb_pages_close(it->pages);
         else if (call <= 24) pushes(it, call);
-        else others(it, call);
+        else if (call <= 30) others(it, call);
+        else if (call == 31) messages(it, call);
+        else if (call <= 33) joins(it, call);
+        else if (call <= 35) files(it, call);
+        else got(it, call, nb_week_of_unix((uint64_t)four(it) << byte(it) % 33) % 99);
     }
     refuse_next(-1);
     if (it->push != NULL) {

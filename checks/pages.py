@@ -268,7 +268,7 @@ def code():
         for language, text in re.findall(r"^```(c|cpp|python|rust)\n(.*?)^```$", read(page), re.M | re.S):
             if language in before:
                 heads = "".join(re.findall(r"^#include.*\n", text, re.M))
-                given = "const uint8_t *payload, size_t size" if language == "c" else "navbridge::bytes piece"
+                given = "const uint8_t *frame, size_t size" if language == "c" else "navbridge::bytes piece"
                 body = "void use(const nb_item &);\n" if language == "cpp" else ""
                 body += f"void shown({given});\nvoid shown({given}) {{\n{text.replace(heads, '')}}}\n"
                 tool = ["cc", "-std=c99", "-xc"] if language == "c" else ["c++", "-std=c++17", "-xc++"]

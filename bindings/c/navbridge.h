@@ -46,15 +46,17 @@ typedef enum nb_status {
     NB_CLOSED = 12,       /**< no conversion is open */
 
     NB_NO_NUMBER = 16,     /**< the payload has fewer than two bytes, and so no message number */
-    NB_OTHER_MESSAGE = 17, /**< the message is neither 1019 nor 1046 */
-    NB_SHORT = 18,         /**< the payload is shorter than its message: 61 bytes for 1019, 63 for 1046 */
-    NB_BAD_SATELLITE = 19, /**< the satellite of the message is not 1 to 32 (GPS) or 1 to 36 (Galileo) */
+    NB_OTHER_MESSAGE = 17, /**< the call does not read messages of this number */
+    NB_SHORT = 18,         /**< the payload is shorter than its message */
+    NB_BAD_SATELLITE = 19, /**< the system of the message has no satellite of its number */
     NB_BAD_TIME = 20,      /**< toe or toc is past the end of the week */
     NB_SPARE_SISA = 21,    /**< the SISA index is a spare one, 126 to 254 */
     NB_NO_WEEK = 22,       /**< the reference week is not 1024 to 8191 */
     NB_NO_ITEM = 23,       /**< the item is not valid: an unknown kind, a field out of its range, or parts of two issues */
     NB_NO_VERSION = 24,    /**< the version of navigation files is not 3 or 4 */
     NB_NO_MESSAGE = 25,    /**< no message carries ionospheric parameters */
+    NB_NO_FRAME = 26,      /**< the bytes are not one complete frame with a right checksum */
+    NB_NO_HEADER = 27,     /**< the date of the header has control characters, or the leap seconds are 100 or more */
 
     NB_RECORD_SATELLITE = 32,   /**< the record has no satellite of its system, or two */
     NB_RECORD_SHORT = 33,       /**< the record ends before the last line of its kind */
@@ -306,6 +308,14 @@ const char *nb_status_name(nb_status status);
 nb_status nb_convert(const nb_bytes *words, size_t n_words, const uint8_t *input, size_t n, uint8_t *output, size_t room,
                      size_t *used, uint8_t *report, size_t report_room, size_t *report_used);
 
+/**
+ * @brief The GPS week of a Unix time, as a reference week.
+ * @param seconds seconds since 1970-01-01 UTC, as time() returns them. Leap seconds are ignored: in the last 18 s of a GPS week
+ *                this is the week before, which serves as well
+ * @return the week, counted from 1980-01-06: 1 to 16,382; 0 for a time outside these weeks
+ */
+uint32_t nb_week_of_unix(uint64_t seconds);
+
 /** @name RTCM 10403.3
  * A frame is the byte D3, 6 reserved bits, 10 bits of length, a payload of 0 to 1,023 bytes and the CRC-24Q of all before. */
 /**@{*/
@@ -331,6 +341,16 @@ size_t nb_frame_make(const uint8_t *payload, size_t n, uint8_t *frame, size_t ro
  *         NB_SPARE_SISA that applies. Bytes after the message are ignored.
  */
 nb_status nb_message_read(const uint8_t *payload, size_t n, uint32_t week, nb_item *item);
+
+/**
+ * @brief Reads message 1019 or 1046 of a complete frame, as nb_message_read() does of its payload.
+ * @param frame the frame, as nb_deframer_next() returns it
+ * @param n     its size: nothing may follow it
+ * @param week  a week near that of the message, 1024 to 8191
+ * @param item  set if NB_OK is returned, otherwise unchanged
+ * @return NB_OK, NB_NO_FRAME, or what nb_message_read() returns for the payload
+ */
+nb_status nb_frame_read(const uint8_t *frame, size_t n, uint32_t week, nb_item *item);
 
 /**
  * @brief Makes the frame of message 1019 or 1046 of an ephemeris: 67 or 69 bytes.
@@ -379,6 +399,17 @@ nb_status nb_subframe_read(const nb_subframe_bits *bits, uint32_t satellite, nb_
  */
 nb_status nb_subframe_write(const nb_subframe *subframe, uint32_t tow_count, nb_subframe_bits *bits);
 
+/**
+ * @brief Makes the ephemeris of subframes 1, 2 and 3, in this order. Its transmission time is that of subframe 1, and its week that in
+ *        which toe is nearest to this time.
+ * @param subframes the contents of the three, of one satellite and one issue: IODE of subframes 2 and 3 is the low 8 bits of IODC
+ * @param satellite the GPS satellite that sent them, 1 to 32
+ * @param week      a week near that of subframe 1, 1024 to 8191: the subframe has it modulo 1024
+ * @param item      set if NB_OK is returned, otherwise unchanged
+ * @return NB_OK, or the first of NB_NO_WEEK, NB_NO_SATELLITE and NB_NO_ITEM that applies
+ */
+nb_status nb_subframes_join(const nb_subframe *subframes, uint32_t satellite, uint32_t week, nb_item *item);
+
 /**@}*/
 
 /** @name I/NAV pages (Galileo OS SIS ICD, 4.3.2 and 4.3.5) */
@@ -419,6 +450,17 @@ nb_status nb_page_read(const nb_page_bits *page, uint32_t satellite, nb_word *wo
  * @return NB_OK, NB_NO_SATELLITE or NB_NO_ITEM
  */
 nb_status nb_page_write(const nb_word *word, uint32_t satellite, nb_page_bits *page);
+
+/**
+ * @brief Makes the ephemeris of words 1 to 5, in this order. Its transmission time is that of word 5, and its week that in which toe
+ *        is nearest to this time.
+ * @param words     the contents of the five, of one satellite, words 1 to 4 of one issue
+ * @param satellite the Galileo satellite that sent them, 1 to 36
+ * @param week      a week near that of word 5, 1024 to 8191: the word has it modulo 4096
+ * @param item      set if NB_OK is returned, otherwise unchanged
+ * @return NB_OK, or the first of NB_NO_WEEK, NB_NO_SATELLITE and NB_NO_ITEM that applies
+ */
+nb_status nb_words_join(const nb_word *words, uint32_t satellite, uint32_t week, nb_item *item);
 
 /**@}*/
 
@@ -513,6 +555,43 @@ nb_status nb_record_read(const uint8_t *text, size_t n, uint32_t version, nb_ite
  * @return NB_OK, NB_NO_VERSION or NB_NO_ITEM; without NB_OK nothing is written, and the length is 0
  */
 nb_status nb_record_write(const nb_item *item, uint32_t version, uint8_t *text, size_t room, size_t *used);
+
+/** The variable content of the header of a file. */
+typedef struct nb_header {
+    uint8_t date[19]; /**< when the file was made, as strftime() writes it by "%Y%m%d %H%M%S UTC"; no terminating zero */
+    uint8_t leap;     /**< leap seconds between UTC and GPS time: 0 to 99 */
+} nb_header;
+
+/**
+ * @brief Writes the header of a file: its lines, each with LF, up to END OF HEADER.
+ * @param version 4 for RINEX 4.01, 3 for RINEX 3.05
+ * @param used    set to the length of the header, 308 bytes, which may be more than the buffer: the prefix that fits is written
+ * @return NB_OK, NB_NO_VERSION or NB_NO_HEADER; without NB_OK nothing is written, and the length is 0
+ */
+nb_status nb_header_write(const nb_header *header, uint32_t version, uint8_t *text, size_t room, size_t *used);
+
+/**
+ * @brief Finds the end of the header in the first bytes of a file.
+ * @return how many bytes it has, with the line END OF HEADER, whatever follows; 0 if no complete line of these is that line.
+ *         Version and type of the file are not looked at.
+ */
+size_t nb_header_size(const uint8_t *text, size_t n);
+
+/**
+ * @brief Finds the end of the record at the start of these bytes of a file, which may be the first of more.
+ *
+ *     for (at = nb_header_size(text, n); (size = nb_record_size(text + at, n - at, 4, is_end)) > 0; at += size)
+ *         if (nb_record_read(text + at, size, 4, &item) == NB_OK) use the item;
+ *     read more behind the n - at bytes that are left
+ *
+ * @param text   bytes from the end of the header, or of a record, on
+ * @param n      how many
+ * @param is_end whether the file ends with them
+ * @return how many bytes the record has: its first line, and the lines up to the next that begins a record (in version 4 with `>`,
+ *         in version 3 with a first column that is not blank), or up to the end. 0 if a further complete line may still have to come, if n
+ *         is 0, or if the version is neither 3 nor 4.
+ */
+size_t nb_record_size(const uint8_t *text, size_t n, uint32_t version, bool is_end);
 
 /**@}*/
 
@@ -656,6 +735,7 @@ typedef char nb_check_push[sizeof(nb_push_state) == NB_PUSH_MOST ? 1 : -1];
 typedef char nb_check_item[sizeof(nb_item) == 344 && offsetof(nb_item, gal) == 136 && offsetof(nb_item, ion) == 280 ? 1 : -1];
 typedef char nb_check_subframe[sizeof(nb_subframe) == 160 && offsetof(nb_subframe, ion) == 128 ? 1 : -1];
 typedef char nb_check_subframe_bits[sizeof(nb_subframe_bits) == 38 ? 1 : -1];
+typedef char nb_check_header[sizeof(nb_header) == 20 && offsetof(nb_header, leap) == 19 ? 1 : -1];
 typedef char nb_check_word[sizeof(nb_word) == 152 && offsetof(nb_word, ion) == 136 ? 1 : -1];
 typedef char nb_check_page_bits[sizeof(nb_page_bits) == 30 && offsetof(nb_page_bits, odd) == 15 ? 1 : -1];
 /**@}*/
@@ -769,11 +849,28 @@ static inline nb_orbit nb_orbit_of_gal(const nb_gal *g) {
 }
 
 /** The raw integer nearest to a double at a scale of 2^-bits: of an angle divide by NB_PI first. It gives back what the
- * functions above made a double of. A number past 2^62 is 2^62, which no field has. */
+ * functions above made a double of. A number past 2^62 is 2^62, which no field has: nb_raw_signed() and nb_raw_unsigned() test this. */
 static inline int64_t nb_raw(double value, int bits) {
     const int64_t most = 4611686018427387904;
     double scaled = ldexp(value, bits);
     return scaled > -4611686018427387904.0 && scaled < 4611686018427387904.0 ? llround(scaled) : most;
+}
+
+/** Sets the raw integer nearest to a double at a scale of 2^-bits for a signed field of this width, 1 to 32 bits.
+ * @return whether the field can hold it; otherwise, also for a double that is no number, the integer is unchanged */
+static inline bool nb_raw_signed(double value, int bits, int width, int32_t *raw) {
+    const int64_t nearest = nb_raw(value, bits), half = (int64_t)1 << (width - 1);
+    if (nearest < -half || nearest >= half) return false;
+    *raw = (int32_t)nearest;
+    return true;
+}
+
+/** The same for an unsigned field. */
+static inline bool nb_raw_unsigned(double value, int bits, int width, uint32_t *raw) {
+    const int64_t nearest = nb_raw(value, bits);
+    if (nearest < 0 || nearest >= (int64_t)1 << width) return false;
+    *raw = (uint32_t)nearest;
+    return true;
 }
 
 /**@}*/

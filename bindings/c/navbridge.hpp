@@ -74,10 +74,28 @@ inline std::vector<nb_bytes> words(const std::vector<std::string_view> &of) {
     for (const bytes it : of) all.push_back({it.data(), it.size()});
     return all;
 }
+/** What a call sets, or the reason that it returns. */
+template <class Value, class Call> result<Value> value(Call call) {
+    Value it{};
+    const nb_status status = call(&it);
+    if (status != NB_OK) return status;
+    return it;
+}
+/** What a call writes into a buffer that has room for it, or the reason that it returns. */
+template <class Bytes, class Call> result<Bytes> written(Call call) {
+    Bytes all(NB_FRAME_MOST, 0);
+    std::size_t used = 0;
+    const nb_status status = call(static_cast<std::uint8_t *>(static_cast<void *>(all.data())), all.size(), &used);
+    if (status != NB_OK) return status;
+    all.resize(used);
+    return all;
+}
 } // namespace detail
 
 /** @name Messages, subframes, pages and records; each as the call of navbridge.h with its name */
 /**@{*/
+inline std::uint32_t week_of_unix(std::uint64_t seconds) noexcept { return nb_week_of_unix(seconds); }
+
 inline bool is_frame(bytes frame) noexcept { return nb_is_frame(frame.data(), frame.size()); }
 
 /** The frame of a payload; empty where it has more than 1,023 bytes. */
@@ -88,63 +106,60 @@ inline std::vector<std::uint8_t> frame_make(bytes payload) {
 }
 
 inline result<nb_item> message_read(bytes payload, std::uint32_t week) {
-    nb_item item{};
-    const nb_status status = nb_message_read(payload.data(), payload.size(), week, &item);
-    if (status != NB_OK) return status;
-    return item;
+    return detail::value<nb_item>([&](nb_item *it) { return nb_message_read(payload.data(), payload.size(), week, it); });
+}
+
+inline result<nb_item> frame_read(bytes frame, std::uint32_t week) {
+    return detail::value<nb_item>([&](nb_item *it) { return nb_frame_read(frame.data(), frame.size(), week, it); });
 }
 
 inline result<std::vector<std::uint8_t>> message_write(const nb_item &item) {
-    std::vector<std::uint8_t> frame(NB_FRAME_MOST);
-    std::size_t used = 0;
-    const nb_status status = nb_message_write(&item, frame.data(), frame.size(), &used);
-    if (status != NB_OK) return status;
-    frame.resize(used);
-    return frame;
+    return detail::written<std::vector<std::uint8_t>>(
+        [&](std::uint8_t *at, std::size_t room, std::size_t *used) { return nb_message_write(&item, at, room, used); });
 }
 
 inline result<nb_subframe> subframe_read(const nb_subframe_bits &bits, std::uint32_t satellite) {
-    nb_subframe subframe{};
-    const nb_status status = nb_subframe_read(&bits, satellite, &subframe);
-    if (status != NB_OK) return status;
-    return subframe;
+    return detail::value<nb_subframe>([&](nb_subframe *it) { return nb_subframe_read(&bits, satellite, it); });
 }
 
 inline result<nb_subframe_bits> subframe_write(const nb_subframe &subframe, std::uint32_t tow_count) {
-    nb_subframe_bits bits{};
-    const nb_status status = nb_subframe_write(&subframe, tow_count, &bits);
-    if (status != NB_OK) return status;
-    return bits;
+    return detail::value<nb_subframe_bits>([&](nb_subframe_bits *it) { return nb_subframe_write(&subframe, tow_count, it); });
+}
+
+inline result<nb_item> subframes_join(const nb_subframe (&subframes)[3], std::uint32_t satellite, std::uint32_t week) {
+    return detail::value<nb_item>([&](nb_item *it) { return nb_subframes_join(subframes, satellite, week, it); });
 }
 
 inline result<nb_word> page_read(const nb_page_bits &page, std::uint32_t satellite) {
-    nb_word word{};
-    const nb_status status = nb_page_read(&page, satellite, &word);
-    if (status != NB_OK) return status;
-    return word;
+    return detail::value<nb_word>([&](nb_word *it) { return nb_page_read(&page, satellite, it); });
 }
 
 inline result<nb_page_bits> page_write(const nb_word &word, std::uint32_t satellite) {
-    nb_page_bits page{};
-    const nb_status status = nb_page_write(&word, satellite, &page);
-    if (status != NB_OK) return status;
-    return page;
+    return detail::value<nb_page_bits>([&](nb_page_bits *it) { return nb_page_write(&word, satellite, it); });
+}
+
+inline result<nb_item> words_join(const nb_word (&words)[5], std::uint32_t satellite, std::uint32_t week) {
+    return detail::value<nb_item>([&](nb_item *it) { return nb_words_join(words, satellite, week, it); });
 }
 
 inline result<nb_item> record_read(bytes text, std::uint32_t version = 4) {
-    nb_item item{};
-    const nb_status status = nb_record_read(text.data(), text.size(), version, &item);
-    if (status != NB_OK) return status;
-    return item;
+    return detail::value<nb_item>([&](nb_item *it) { return nb_record_read(text.data(), text.size(), version, it); });
 }
 
 inline result<std::string> record_write(const nb_item &item, std::uint32_t version = 4) {
-    std::string text(1024, '\0');
-    std::size_t used = 0;
-    const nb_status status = nb_record_write(&item, version, detail::room(text), text.size(), &used);
-    if (status != NB_OK) return status;
-    text.resize(used);
-    return text;
+    return detail::written<std::string>(
+        [&](std::uint8_t *at, std::size_t room, std::size_t *used) { return nb_record_write(&item, version, at, room, used); });
+}
+
+inline result<std::string> header_write(const nb_header &header, std::uint32_t version = 4) {
+    return detail::written<std::string>(
+        [&](std::uint8_t *at, std::size_t room, std::size_t *used) { return nb_header_write(&header, version, at, room, used); });
+}
+
+inline std::size_t header_size(bytes text) noexcept { return nb_header_size(text.data(), text.size()); }
+
+inline std::size_t record_size(bytes text, std::uint32_t version, bool is_end) noexcept {
+    return nb_record_size(text.data(), text.size(), version, is_end);
 }
 /**@}*/
 

@@ -17,7 +17,7 @@ int main(int argc, char **argv) {
     frames_begin(&in, STDIN_FILENO);
     while ((size = frames_next(&in)) > 0) {
         nb_item item;
-        const nb_status status = nb_message_read(in.frame + 3, size - 6, week, &item);
+        const nb_status status = nb_frame_read(in.frame, size, week, &item);
         if (status == NB_OK || status == NB_OTHER_MESSAGE || status == NB_NO_NUMBER) {
             if (fwrite(in.frame, 1, size, stdout) < size || fflush(stdout) != 0) return 4;
             passed++;

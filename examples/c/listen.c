@@ -32,7 +32,7 @@ int main(int argc, char **argv) {
     frames_begin(&in, STDIN_FILENO);
     while ((size = frames_next(&in)) > 0) {
         nb_item item;
-        if (nb_message_read(in.frame + 3, size - 6, week, &item) == NB_OK && line(&item) != 0) return 4;
+        if (nb_frame_read(in.frame, size, week, &item) == NB_OK && line(&item) != 0) return 4;
     }
     return 0;
 }

@@ -3,7 +3,8 @@
  *   messages ITEMS RECORDS     vectors/items.txt and vectors/records.txt
  *
  * Each item is written as its frame and as its record of version 4, and that without its first line in version 3; its frame is
- * read back, made again of its payload, and is a frame no more where one of its bits is turned. Status 0: all as it should be. */
+ * read back, made again of its payload, and is a frame no more where one of its bits is turned. Its contents as subframes or words
+ * are joined to it. A file of all records is read in pieces. Status 0: all as it should be. */
 #include "values.h"
 
 #define G(name, place) {name, offsetof(nb_gps, place)}
@@ -90,6 +91,10 @@ static void messages(int number, const nb_item *item, const uint8_t *payload, si
     }
     memset(&read, 0, sizeof read);
     want(nb_message_read(payload, n, week, &read) == NB_OK && memcmp(&read, &unsent, sizeof read) == 0, number, "read");
+    memset(&read, 0, sizeof read);
+    want(nb_frame_read(frame, size, week, &read) == NB_OK && memcmp(&read, &unsent, sizeof read) == 0, number, "read of a frame");
+    want(nb_frame_read(frame, size - 1, week, &read) == NB_NO_FRAME && nb_frame_read(frame, size, 8192, &read) == NB_NO_WEEK, number,
+         "no frame, no week");
     want(nb_message_read(payload, n - 1, week, &read) == NB_SHORT, number, "short");
     want(nb_message_read(payload, n, 1023, &read) == NB_NO_WEEK, number, "week");
     memset(made, 0xAA, sizeof made);
@@ -168,14 +173,107 @@ static void none(int number, const nb_item *item) {
         want(nb_record_write(&other, 4, room, sizeof room, &used) == NB_NO_ITEM && used == 0, number, "two issues");
 }
 
+static int joined;
+
+/* The contents of an ephemeris, sent at the time that it says, are joined to it where its toe is the nearest to that time. */
+static void joins(int number, const nb_item *of) {
+    nb_item item = *of, read, untouched;
+    nb_subframe subframes[3];
+    nb_word words[5];
+    uint32_t i, week, second;
+    int64_t moment, toe;
+    const nb_sent *sent = item.kind == NB_GPS ? &item.gps.sent : &item.gal.sent;
+    if (item.kind > NB_GALILEO || !sent->is_known) return;
+    moment = 604800 * (int64_t)(item.kind == NB_GPS ? item.gps.toe_week : item.gal.toe_week) + sent->second;
+    toe = 604800 * (int64_t)(item.kind == NB_GPS ? item.gps.toe_week : item.gal.toe_week)
+        + (item.kind == NB_GPS ? 16 * item.gps.a.toe : 60 * item.gal.w1.toe);
+    if (toe - moment <= -302400 || toe - moment > 302400) return;
+    week = (uint32_t)(moment / 604800);
+    second = (uint32_t)(moment % 604800);
+    memset(subframes, 0, sizeof subframes);
+    memset(words, 0, sizeof words);
+    for (i = 0; i < 3; i++) subframes[i].number = i + 1;
+    for (i = 0; i < 5; i++) words[i].number = i + 1;
+    item.gps.clock.iodc = (item.gps.clock.iodc & 0x300) | item.gps.a.iode;
+    subframes[0].wn = week % 1024;
+    subframes[0].second = words[4].second = second;
+    subframes[0].clock = item.gps.clock;
+    subframes[0].side = item.gps.side;
+    subframes[1].a = item.gps.a;
+    subframes[1].fit = item.gps.fit;
+    subframes[2].b = item.gps.b;
+    words[0].w1 = item.gal.w1;
+    words[1].w2 = item.gal.w2;
+    words[2].w3 = item.gal.w3;
+    words[3].w4 = item.gal.w4;
+    words[4].wn = (week - 1024) % 4096;
+    words[4].health = item.gal.health;
+    memset(&read, 0, sizeof read);
+    memset(&untouched, 0xAA, sizeof untouched);
+    joined++;
+    if (item.kind == NB_GPS) {
+        want(nb_subframes_join(subframes, item.gps.satellite, week, &read) == NB_OK && memcmp(&read, &item, sizeof read) == 0, number,
+             "subframes joined");
+        want(nb_subframes_join(subframes, item.gps.satellite, week + 511, &read) == NB_OK && read.gps.toe_week == item.gps.toe_week, number,
+             "subframes of another reference week");
+        subframes[0].clock.iodc ^= 1;
+    } else {
+        want(nb_words_join(words, item.gal.satellite, week, &read) == NB_OK && memcmp(&read, &item, sizeof read) == 0, number,
+             "words joined");
+        words[2].w3.iodnav ^= 1;
+    }
+    read = untouched;
+    want((item.kind == NB_GPS ? nb_subframes_join(subframes, 1, week, &read) : nb_words_join(words, 1, week, &read)) == NB_NO_ITEM, number,
+         "two issues");
+    subframes[0].clock.iodc ^= 1;
+    words[2].w3.iodnav ^= 1;
+    subframes[1].number = words[3].number = 3;
+    want(nb_subframes_join(subframes, 1, week, &read) == NB_NO_ITEM && nb_words_join(words, 1, week, &read) == NB_NO_ITEM, number,
+         "subframe 3 twice");
+    want(nb_subframes_join(subframes, 33, week, &read) == NB_NO_SATELLITE && nb_words_join(words, 37, week, &read) == NB_NO_SATELLITE,
+         number, "no satellite to join");
+    want(nb_subframes_join(subframes, 1, 1023, &read) == NB_NO_WEEK && nb_words_join(words, 1, 8192, &read) == NB_NO_WEEK, number,
+         "no week to join");
+    want(memcmp(&read, &untouched, sizeof read) == 0, number, "nothing joined");
+}
+
+/* A file of these records, of which pieces of this size come. */
+static void files(const uint8_t *text, size_t n, size_t piece, uint32_t version, int count) {
+    size_t at = 0, come = 0, size;
+    int found = 0;
+    nb_item item;
+    while (at == 0 && come < n) {
+        come = come + piece < n ? come + piece : n;
+        at = nb_header_size(text, come);
+    }
+    want(at > 0 && nb_header_size(text, at) == at && nb_header_size(text, at - 1) == 0, (int)piece, "header of a file");
+    for (; come <= n; come += piece) {
+        const bool is_end = come + piece > n;
+        if (is_end) come = n;
+        while ((size = nb_record_size(text + at, come - at, version, is_end)) > 0) {
+            want(nb_record_read(text + at, size, version, &item) == NB_OK, (int)piece, "record of a file");
+            want(size <= come - at && (at + size == n || nb_record_size(text + at, size, version, false) == 0), (int)piece, "its end");
+            at += size;
+            found++;
+        }
+        if (is_end) break;
+    }
+    want(at == n && found == count, (int)piece, "records of a file");
+}
+
 int main(int argc, char **argv) {
     static char line[4096];
     FILE *items = argc == 3 ? fopen(argv[1], "r") : NULL, *texts = argc == 3 ? fopen(argv[2], "r") : NULL;
     nb_item item;
+    int32_t raw = 7;
+    uint32_t unsigned_raw = 7;
     uint8_t payload[NB_FRAME_MOST], frame[NB_FRAME_MOST];
     static uint8_t long_payload[1024];
     size_t n = 0, size;
-    int number = 0, count = 0, frames = 0;
+    static uint8_t all[2][1 << 20];
+    size_t sizes[2], used;
+    int number = 0, count = 0, frames = 0, counts[2] = {0, 0}, i;
+    nb_header header;
     if (items == NULL || texts == NULL) {
         fprintf(stderr, "usage: messages ITEMS RECORDS\n");
         return 2;
@@ -185,11 +283,39 @@ int main(int argc, char **argv) {
     want(nb_frame_make(long_payload, 1024, frame, sizeof frame) == 0, -1, "1,024 bytes");
     want(nb_frame_make(long_payload, 1023, frame, sizeof frame) == 1029 && nb_is_frame(frame, 1029), -1, "1,023 bytes");
     want(nb_message_read(NULL, 0, 2295, &item) == NB_NO_NUMBER && !nb_is_frame(NULL, 0), -1, "no pointer");
+    memcpy(header.date, "20240101 000000 UTC", sizeof header.date);
+    header.leap = 18;
+    for (i = 0; i < 2; i++)
+        want(nb_header_write(&header, 4 - (uint32_t)i, all[i], sizeof all[i], &sizes[i]) == NB_OK && sizes[i] == 308
+                 && memcmp(all[i], i == 0 ? "     4.01 " : "     3.05 ", 10) == 0
+                 && memcmp(all[i] + sizes[i] - 14, "END OF HEADER\n", 14) == 0,
+             i, "header");
+    header.leap = 100;
+    want(nb_header_write(&header, 4, frame, sizeof frame, &used) == NB_NO_HEADER && used == 0, -1, "100 leap seconds");
+    header.leap = 9;
+    want(nb_header_write(&header, 5, frame, sizeof frame, &used) == NB_NO_VERSION && used == 0, -1, "header of version 5");
+    header.date[3] = 10;
+    want(nb_header_write(&header, 4, frame, sizeof frame, &used) == NB_NO_HEADER && used == 0, -1, "a date of two lines");
+    want(nb_record_size(all[0], sizes[0], 2, true) == 0 && nb_record_size(NULL, 0, 4, true) == 0 && nb_header_size(NULL, 0) == 0, -1,
+         "nothing to find");
+    want(nb_week_of_unix(1704067200) == 2295 && nb_week_of_unix(1704067199 - 86400) == 2294 && nb_week_of_unix(315964800 + 604800) == 1
+             && nb_week_of_unix(0) == 0 && nb_week_of_unix(UINT64_MAX) == 0,
+         -1, "weeks");
+    want(!nb_raw_signed(NAN, 31, 32, &raw) && !nb_raw_signed(2147483648.0, 0, 32, &raw) && raw == 7
+             && nb_raw_signed(-2147483648.0, 0, 32, &raw) && raw == INT32_MIN,
+         -1, "signed fields");
+    want(!nb_raw_unsigned(-1, 0, 8, &unsigned_raw) && !nb_raw_unsigned(256, 0, 8, &unsigned_raw) && unsigned_raw == 7
+             && nb_raw_unsigned(255, 0, 8, &unsigned_raw) && unsigned_raw == 255,
+         -1, "unsigned fields");
     while (fgets(line, sizeof line, items) != NULL) {
         if (strncmp(line, "item=", 5) == 0) {
             parse(line, &item, &number);
             records(number, &item, texts);
             none(number, &item);
+            joins(number, &item);
+            for (i = 0; i < 2; i++)
+                if (nb_record_write(&item, 4 - (uint32_t)i, all[i] + sizes[i], sizeof all[i] - sizes[i], &used) == NB_OK && used > 0)
+                    sizes[i] += used, counts[i]++;
             count++;
         }
         if (strncmp(line, "  payload ", 10) == 0) n = bytes_of(line + 10, payload);
@@ -201,6 +327,8 @@ int main(int argc, char **argv) {
     }
     fclose(items);
     fclose(texts);
-    printf("messages: %d items, %d frames, %d wrong\n", count, frames, wrong);
-    return wrong != 0 || count == 0 || frames == 0;
+    for (i = 0; i < 2; i++)
+        for (n = 1; n < 1000; n = n * 3 + 1) files(all[i], sizes[i], n, 4 - (uint32_t)i, counts[i]);
+    printf("messages: %d items, %d frames, %d joined, %d wrong\n", count, frames, joined, wrong);
+    return wrong != 0 || count == 0 || frames == 0 || joined == 0;
 }

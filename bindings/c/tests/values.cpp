@@ -2,6 +2,7 @@
 //
 //   values STREAM RECORDS     ephemerides.rtcm3, and what navbridge makes of it by --to=rinex --week=2295 with this date and leap
 #include <cstdio>
+#include <cstring>
 #include <fstream>
 #include <iterator>
 
@@ -41,6 +42,7 @@ int main(int count, char **names) {
             want(navbridge::is_frame(frame), "a frame");
             const navbridge::bytes payload(frame.data() + 3, frame.size() - 6);
             const auto item = navbridge::message_read(payload, 2295);
+            want(navbridge::frame_read(frame, 2295).status() == item.status(), "of a frame");
             if (!item) return;
             const auto again = navbridge::message_write(*item);
             want(again && std::string(again->begin(), again->end()) == std::string(frame.begin(), frame.end()), "a frame again");
@@ -69,5 +71,24 @@ int main(int count, char **names) {
     const auto count_it = [&](const nb_joined &it) { joined += navbridge::page_read(it.page, 1)->number; };
     want(parts.take(page->odd, 1001, 1, NB_E1B, count_it) == NB_OK && parts.take(page->even, 1000, 1, NB_E1B, count_it) == NB_OK, "parts");
     want(joined == 1, "one page");
+    nb_header header{};
+    std::memcpy(header.date, "20240101 000000 UTC", sizeof header.date);
+    header.leap = 18;
+    const auto head = navbridge::header_write(header);
+    want(head && records.compare(0, head->size(), *head) == 0, "a header");
+    want(navbridge::header_size(records) == head->size(), "its size");
+    std::size_t read = 0, size = 0;
+    for (std::size_t at = head->size(); at < records.size(); at += size, read++) {
+        const std::string_view rest = std::string_view(records).substr(at);
+        size = navbridge::record_size(rest, 4, true);
+        want(size > 0 && navbridge::record_read(rest.substr(0, size)), "a record of a file");
+        if (size == 0) break;
+    }
+    want(read == 2, "two records");
+    const nb_subframe subframes[3] = {};
+    const nb_word joinable[5] = {};
+    want(navbridge::subframes_join(subframes, 1, 2295).status() == NB_NO_ITEM, "no subframes");
+    want(navbridge::words_join(joinable, 37, 2295).status() == NB_NO_SATELLITE, "no words");
+    want(navbridge::week_of_unix(1704067200) == 2295, "a week");
     return wrong;
 }

@@ -20,7 +20,7 @@ b'1046 63'
 >>> frame = message_write(gal)
 >>> frame == stream[:69], is_frame(frame), frame_make(frame[3:-3]) == frame
 (True, True, True)
->>> message_read(memoryview(frame)[3:-3], week=2295) == gal
+>>> message_read(memoryview(frame)[3:-3], week=2295) == gal == frame_read(frame, week_of_unix(1704067200))
 True
 >>> record = record_write(gal)
 >>> record.startswith("> EPH E"), record_read(record) == gal
@@ -28,6 +28,17 @@ True
 >>> page = page_write(Word(number=1, w1=gal.w1), gal.satellite)
 >>> page_read(page, gal.satellite).w1 == gal.w1
 True
+>>> words = [Word(number=1, w1=gal.w1), Word(number=2, w2=gal.w2), Word(number=3, w3=gal.w3), Word(number=4, w4=gal.w4)]
+>>> words.append(Word(number=5, wn=gal.toe_week - 1024, second=60 * gal.w1.toe, health=gal.health, ion=GalIon()))
+>>> joined = words_join(words, gal.satellite, week=2295)
+>>> joined.w4 == gal.w4, joined.toe_week == gal.toe_week, joined.sent == 60 * gal.w1.toe
+(True, True, True)
+>>> import datetime
+>>> header_write(datetime.datetime(2024, 1, 1)).splitlines()[0][:20]
+'     4.01           '
+>>> with open("expected/ephemerides.rnx", "rb") as file:
+...     [record_read(it).satellite for it in records(file)]
+[1, 1]
 >>> with Pages() as parts:
 ...     parts.take(page[15:], 1001, gal.satellite), parts.take(page[:15], 1000, gal.satellite)[0].page == page
 ([], True)
@@ -51,8 +62,8 @@ ValueError: Gal.satellite: 37 is not 1 to 36
 """
 
 from ._calls import (
-    E1B, E5B, FRAME_MOST, Conversion, Deframer, Joined, Pages, Push, convert, ephemerides, frame_make, frames, is_frame,
-    message_read, message_write, page_read, page_write, record_read, record_write, subframe_read, subframe_write,
+    E1B, E5B, FRAME_MOST, Conversion, Deframer, Joined, Pages, Push, convert, ephemerides, frame_make, frame_read, frames,
+    header_write, is_frame, message_read, message_write, page_read, page_write, record_read, record_write, records, subframe_read, subframe_write, subframes_join, week_of_unix, words_join,
 )
 from ._library import Error
 from ._statuses import Status
@@ -66,6 +77,7 @@ __version__ = "2.0.0"
 __all__ = [
     "Conversion", "Deframer", "E1B", "E5B", "Error", "FRAME_MOST", "Gal", "GalHealth", "GalIon", "GalWord1", "GalWord2", "GalWord3",
     "GalWord4", "Gps", "GpsClock", "GpsIon", "GpsOrbitA", "GpsOrbitB", "GpsSide", "Ion", "Item", "Joined", "Orbit", "PI", "Pages",
-    "Push", "Status", "Subframe", "Word", "array", "convert", "ephemerides", "frame_make", "frames", "is_frame", "message_read",
-    "message_write", "page_read", "page_write", "record_read", "record_write", "subframe_read", "subframe_write",
+    "Push", "Status", "Subframe", "Word", "array", "convert", "ephemerides", "frame_make", "frame_read", "frames", "header_write",
+    "is_frame", "message_read", "message_write", "page_read", "page_write", "record_read", "record_write", "records", "subframe_read",
+    "subframe_write", "subframes_join", "week_of_unix", "words_join",
 ]

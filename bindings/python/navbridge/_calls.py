@@ -3,6 +3,7 @@
 from __future__ import annotations
 
 import ctypes
+import datetime
 import mmap
 import threading
 from typing import Any, BinaryIO, Callable, Iterator, NamedTuple, Sequence
@@ -87,14 +88,30 @@ def message_read(payload: Any, week: int) -> Gps | Gal:
     return item_of(room.raw)
 
 
+def frame_read(frame: Any, week: int) -> Gps | Gal:
+    """The ephemeris in message 1019 or 1046 of a complete frame, as ``message_read`` reads it of the payload."""
+    room = ctypes.create_string_buffer(ITEM_SIZE)
+    done(library().nb_frame_read(*view(frame, "frame"), number(week, "week"), room))
+    return item_of(room.raw)
+
+
+def week_of_unix(seconds: float) -> int:
+    """The GPS week of a time as ``time.time()`` returns it; 0 outside weeks 1 to 16,382."""
+    return int(library().nb_week_of_unix(number(int(seconds), "seconds", 0, 2**64 - 1)))
+
+
 def _item(item: Item) -> Any:
     return (ctypes.c_char * ITEM_SIZE).from_buffer(item_bytes(item))
 
 
 def message_write(item: Gps | Gal) -> bytes:
     """The frame of message 1019 or 1046 of an ephemeris."""
+    return _written(library().nb_message_write, _item(item))
+
+
+def _written(call: Callable[..., int], *given: Any) -> bytes:
     room, used = ctypes.create_string_buffer(FRAME_MOST), ctypes.c_size_t()
-    done(library().nb_message_write(_item(item), room, FRAME_MOST, ctypes.byref(used)))
+    done(call(*given, room, FRAME_MOST, ctypes.byref(used)))
     return room.raw[: used.value]
 
 
@@ -119,6 +136,20 @@ def subframe_write(subframe: Subframe, tow_count: int) -> bytes:
     return room.raw
 
 
+def subframes_join(subframes: Sequence[Subframe], satellite: int, week: int) -> Gps:
+    """The ephemeris of subframes 1, 2 and 3 of a GPS satellite, of one issue; its week is near this one, 1024 to 8191."""
+    return _joined(library().nb_subframes_join, [_wanted(_typed(it, Subframe), SUBFRAMES) for it in subframes], 3, satellite, week)
+
+
+def _joined(call: Callable[..., int], parts: list[bytes], wanted: int, satellite: int, week: int) -> Any:
+    if len(parts) != wanted:
+        raise ValueError(f"{wanted} parts are wanted, not {len(parts)}")
+    room = ctypes.create_string_buffer(ITEM_SIZE)
+    given = b"".join(parts)
+    done(call(ctypes.create_string_buffer(given, len(given)), number(satellite, "satellite"), number(week, "week"), room))
+    return item_of(room.raw)
+
+
 def page_read(page: Any, satellite: int) -> Word:
     """The content of the word of an I/NAV page of that Galileo satellite: its even and its odd part, 15 bytes each."""
     room = ctypes.create_string_buffer(152)
@@ -134,18 +165,54 @@ def page_write(word: Word, satellite: int) -> bytes:
     return room.raw
 
 
+def words_join(words: Sequence[Word], satellite: int, week: int) -> Gal:
+    """The ephemeris of words 1 to 5 of a Galileo satellite, of one issue; its week is near this one, 1024 to 8191."""
+    return _joined(library().nb_words_join, [_wanted(_typed(it, Word), WORDS) for it in words], 5, satellite, week)
+
+
 def record_read(text: str, version: int = 4) -> Item:
     """The item of one record of a navigation file, of version 4 with its title line, of version 3 without."""
-    room, lines = ctypes.create_string_buffer(ITEM_SIZE), _typed(text, str).encode()
+    room, lines = ctypes.create_string_buffer(ITEM_SIZE), _typed(text, str).encode("latin-1", "replace")
     done(library().nb_record_read(lines, len(lines), number(version, "version"), room))
     return item_of(room.raw)
 
 
 def record_write(item: Item, version: int = 4) -> str:
     """The record of an item in a navigation file of RINEX 4.01 or 3.05; ionospheric parameters have none in version 3."""
-    room, used = ctypes.create_string_buffer(1024), ctypes.c_size_t()
-    done(library().nb_record_write(_item(item), number(version, "version"), room, len(room), ctypes.byref(used)))
-    return room.raw[: used.value].decode("ascii")
+    return _written(library().nb_record_write, _item(item), number(version, "version")).decode("ascii")
+
+
+def header_write(date: datetime.datetime, leap: int = 18, version: int = 4) -> str:
+    """The header of a navigation file of RINEX 4.01 or 3.05 that is made at this time, with the leap seconds of GPS time."""
+    if _typed(date, datetime.datetime).tzinfo is not None:
+        date = date.astimezone(datetime.timezone.utc)
+    given = b"%19b%c" % (date.strftime("%Y%m%d %H%M%S UTC").encode(), number(leap, "leap", 0, 99))
+    return _written(library().nb_header_write, given, number(version, "version")).decode("ascii")
+
+
+def records(file: BinaryIO, version: int = 4) -> Iterator[str]:
+    """The records of a navigation file, a pipe or a socket's file, as ``record_read`` takes them, each as soon as the next begins."""
+    read: Callable[[int], Any] = getattr(file, "read1", None) or file.read
+    number(version, "version", 3, 4)
+    text, size, is_end = b"", 0, False
+    while not size:
+        if is_end:
+            raise Error(Status.NOT_THIS_FORM)
+        text, is_end = _longer(text, read(65536))
+        size = library().nb_header_size(*view(text, "text"))
+    while True:
+        at = size
+        first = ctypes.cast(text, ctypes.c_void_p).value or 0
+        while size := library().nb_record_size(first + at, len(text) - at, version, is_end):
+            yield text[at : at + size].decode("latin-1")
+            at += size
+        if is_end:
+            return
+        text, is_end = _longer(text[at:], read(65536))
+
+
+def _longer(text: bytes, piece: Any) -> tuple[bytes, bool]:
+    return text + bytes(memoryview(piece)), not piece
 
 
 class _State:
@@ -205,7 +272,7 @@ def ephemerides(file: BinaryIO, week: int, refused: Callable[[Error, bytes], Any
     number(week, "week", 1024, 8191)
     for frame in frames(file):
         try:
-            yield message_read(frame[3:-3], week)
+            yield frame_read(frame, week)
         except Error as error:
             if refused is not None and error.status not in (Status.NO_NUMBER, Status.OTHER_MESSAGE):
                 refused(error, frame)

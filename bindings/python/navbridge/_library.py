@@ -54,22 +54,29 @@ def library() -> ctypes.CDLL:
             made = ctypes.CDLL(name)
         except OSError as fault:
             raise ImportError(f"{fault}; NAVBRIDGE_LIBRARY may name libnavbridge.so.2") from None
-        size, at, number = ctypes.c_size_t, ctypes.c_void_p, ctypes.c_uint32
+        size, at, number, truth = ctypes.c_size_t, ctypes.c_void_p, ctypes.c_uint32, ctypes.c_bool
         words, to_size = ctypes.POINTER(Bytes), ctypes.POINTER(ctypes.c_size_t)
         for call, takes, gives in (
             ("version", [], number),
             ("status_text", [number], ctypes.c_char_p),
             ("convert", [words, size, at, size, at, size, to_size, at, size, to_size], number),
-            ("is_frame", [at, size], ctypes.c_bool),
+            ("week_of_unix", [ctypes.c_uint64], number),
+            ("is_frame", [at, size], truth),
             ("frame_make", [at, size, at, size], size),
             ("message_read", [at, size, number, at], number),
+            ("frame_read", [at, size, number, at], number),
             ("message_write", [at, at, size, to_size], number),
             ("subframe_read", [at, number, at], number),
             ("subframe_write", [at, number, at], number),
+            ("subframes_join", [at, number, number, at], number),
             ("page_read", [at, number, at], number),
             ("page_write", [at, number, at], number),
+            ("words_join", [at, number, number, at], number),
             ("record_read", [at, size, number, at], number),
             ("record_write", [at, number, at, size, to_size], number),
+            ("header_write", [at, number, at, size, to_size], number),
+            ("header_size", [at, size], size),
+            ("record_size", [at, size, number, truth], size),
             ("deframer_size", [], size),
             ("deframer_init", [at], None),
             ("deframer_feed", [at, at, size], size),

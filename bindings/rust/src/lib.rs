@@ -7,7 +7,7 @@
 //! let stream = std::fs::File::open(concat!(env!("CARGO_MANIFEST_DIR"), "/../../examples/ephemerides.rtcm3"))?;
 //! for frame in navbridge::frames(stream) {
 //!     let frame = frame?;
-//!     let item = navbridge::message_read(&frame[3..frame.len() - 3], 2295)?;
+//!     let item = navbridge::frame_read(&frame, 2295)?;
 //!     assert_eq!(navbridge::message_write(&item)?, frame);
 //!     if let navbridge::Item::Gal(gal) = item {
 //!         assert_eq!(gal.orbit().toe % 60.0, 0.0);
@@ -23,7 +23,7 @@ mod streams;
 mod values;
 
 pub use error::Error;
-pub use streams::{frames, Deframer, Frames, Joined, Pages, Push, Signal};
+pub use streams::{frames, records, Deframer, Frames, Joined, Pages, Push, Records, Signal};
 pub use values::*;
 
 use raw::Item as RawItem;
@@ -97,51 +97,79 @@ pub fn frame_make(payload: &[u8]) -> Option<Vec<u8>> {
     (size > 0).then_some(frame)
 }
 
+// what a call puts, or why there is none
+fn read(call: impl FnOnce(&mut RawItem) -> u32) -> Result<Item, Error> {
+    let mut item = RawItem::default();
+    Error::check(call(&mut item))?;
+    item.value()
+}
+
+// what a call writes into a buffer that has room for it
+fn written(call: impl FnOnce(*mut u8, usize, &mut usize) -> u32) -> Result<Vec<u8>, Error> {
+    let (mut all, mut used) = (vec![0; FRAME_MOST], 0);
+    Error::check(call(all.as_mut_ptr(), all.len(), &mut used))?;
+    all.truncate(used);
+    Ok(all)
+}
+
+fn text(bytes: Vec<u8>) -> Result<String, Error> {
+    String::from_utf8(bytes).map_err(|_| Error::NoText)
+}
+
 /// The ephemeris in message 1019 or 1046, whose week is the one near this, 1024 to 8191.
 pub fn message_read(payload: &[u8], week: u32) -> Result<Item, Error> {
-    let mut item = RawItem::default();
-    Error::check(unsafe {
-        raw::nb_message_read(payload.as_ptr(), payload.len(), week, &mut item)
-    })?;
-    item.value()
+    read(|item| unsafe { raw::nb_message_read(payload.as_ptr(), payload.len(), week, item) })
+}
+
+/// The ephemeris in message 1019 or 1046 of a complete frame, as [`message_read`] reads it of the payload.
+pub fn frame_read(frame: &[u8], week: u32) -> Result<Item, Error> {
+    read(|item| unsafe { raw::nb_frame_read(frame.as_ptr(), frame.len(), week, item) })
 }
 
 /// The frame of message 1019 or 1046 of an ephemeris.
 pub fn message_write(item: &Item) -> Result<Vec<u8>, Error> {
-    let (mut frame, mut used) = (vec![0; FRAME_MOST], 0);
-    Error::check(unsafe {
-        raw::nb_message_write(
-            &RawItem::of(item),
-            frame.as_mut_ptr(),
-            frame.len(),
-            &mut used,
-        )
-    })?;
-    frame.truncate(used);
-    Ok(frame)
+    let item = RawItem::of(item);
+    written(|at, room, used| unsafe { raw::nb_message_write(&item, at, room, used) })
+}
+
+/// The GPS week of a time in seconds since 1970-01-01; 0 outside weeks 1 to 16,382.
+pub fn week_of_unix(seconds: u64) -> u32 {
+    unsafe { raw::nb_week_of_unix(seconds) }
 }
 
 /// The item of one record of a navigation file, of version 4 with its title line, of version 3 without.
 pub fn record_read(text: &str, version: u32) -> Result<Item, Error> {
-    let mut item = RawItem::default();
-    Error::check(unsafe { raw::nb_record_read(text.as_ptr(), text.len(), version, &mut item) })?;
-    item.value()
+    read(|item| unsafe { raw::nb_record_read(text.as_ptr(), text.len(), version, item) })
 }
 
 /// The record of an item in a navigation file of RINEX 4.01 or 3.05; ionospheric parameters have none in version 3.
 pub fn record_write(item: &Item, version: u32) -> Result<String, Error> {
-    let (mut text, mut used) = (vec![0; 1024], 0);
-    Error::check(unsafe {
-        raw::nb_record_write(
-            &RawItem::of(item),
-            version,
-            text.as_mut_ptr(),
-            text.len(),
-            &mut used,
-        )
-    })?;
-    text.truncate(used);
-    String::from_utf8(text).map_err(|_| Error::NoText)
+    let item = RawItem::of(item);
+    text(written(|at, room, used| unsafe {
+        raw::nb_record_write(&item, version, at, room, used)
+    })?)
+}
+
+/// The header of a navigation file of RINEX 4.01 or 3.05, with its date, as `20240101 000000 UTC`, and the leap seconds.
+pub fn header_write(date: &str, leap: u8, version: u32) -> Result<String, Error> {
+    let date = date.as_bytes().try_into().map_err(|_| Error::NoHeader)?;
+    let header = raw::Header { date, leap };
+    text(written(|at, room, used| unsafe {
+        raw::nb_header_write(&header, version, at, room, used)
+    })?)
+}
+
+/// How many bytes the header at the start of a file has; `None` where no complete line of these bytes ends it.
+pub fn header_size(bytes: &[u8]) -> Option<usize> {
+    let size = unsafe { raw::nb_header_size(bytes.as_ptr(), bytes.len()) };
+    (size > 0).then_some(size)
+}
+
+/// How many bytes the record at the start of these has: its lines up to the next that begins one, or up to the end of the
+/// file. `None` where more bytes may decide it, and where there is none.
+pub fn record_size(bytes: &[u8], version: u32, is_end: bool) -> Option<usize> {
+    let size = unsafe { raw::nb_record_size(bytes.as_ptr(), bytes.len(), version, is_end) };
+    (size > 0).then_some(size)
 }
 
 /// The content of an LNAV subframe of that GPS satellite: 300 bits with parity, and four that are ignored.
@@ -160,6 +188,12 @@ pub fn subframe_write(subframe: &Subframe, tow_count: u32) -> Result<[u8; 38], E
     Ok(bits)
 }
 
+/// The ephemeris of subframes 1, 2 and 3 of a GPS satellite, of one issue; its week is near this one, 1024 to 8191.
+pub fn subframes_join(subframes: &[Subframe; 3], satellite: u32, week: u32) -> Result<Item, Error> {
+    let subframes = subframes.each_ref().map(raw::Subframe::of);
+    read(|item| unsafe { raw::nb_subframes_join(&subframes, satellite, week, item) })
+}
+
 /// The content of the word of an I/NAV page of that Galileo satellite: its even and its odd part, 15 bytes each.
 pub fn page_read(page: &[u8; 30], satellite: u32) -> Result<Word, Error> {
     let mut word = raw::Word::default();
@@ -172,4 +206,10 @@ pub fn page_write(word: &Word, satellite: u32) -> Result<[u8; 30], Error> {
     let mut page = [0; 30];
     Error::check(unsafe { raw::nb_page_write(&raw::Word::of(word), satellite, &mut page) })?;
     Ok(page)
+}
+
+/// The ephemeris of words 1 to 5 of a Galileo satellite, of one issue; its week is near this one, 1024 to 8191.
+pub fn words_join(words: &[Word; 5], satellite: u32, week: u32) -> Result<Item, Error> {
+    let words = words.each_ref().map(raw::Word::of);
+    read(|item| unsafe { raw::nb_words_join(&words, satellite, week, item) })
 }

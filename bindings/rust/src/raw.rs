@@ -251,6 +251,13 @@ impl Word {
     }
 }
 
+/// `nb_header`.
+#[repr(C)]
+pub struct Header {
+    pub date: [u8; 19],
+    pub leap: u8,
+}
+
 /// `nb_joined`.
 #[repr(C)]
 pub struct Joined {
@@ -267,6 +274,7 @@ const _: () = assert!(
 const _: () =
     assert!(std::mem::size_of::<IonBoth>() == 64 && std::mem::size_of::<Subframe>() == 160);
 const _: () = assert!(std::mem::size_of::<Word>() == 152 && std::mem::size_of::<Joined>() == 36);
+const _: () = assert!(std::mem::size_of::<Header>() == 20);
 
 // a state is an array of u64, which is aligned; only the library looks at it
 extern "C" {
@@ -286,6 +294,8 @@ extern "C" {
     pub fn nb_is_frame(bytes: *const u8, n: usize) -> bool;
     pub fn nb_frame_make(payload: *const u8, n: usize, frame: *mut u8, room: usize) -> usize;
     pub fn nb_message_read(payload: *const u8, n: usize, week: u32, item: *mut Item) -> u32;
+    pub fn nb_week_of_unix(seconds: u64) -> u32;
+    pub fn nb_frame_read(frame: *const u8, n: usize, week: u32, item: *mut Item) -> u32;
     pub fn nb_message_write(
         item: *const Item,
         frame: *mut u8,
@@ -295,6 +305,18 @@ extern "C" {
     pub fn nb_subframe_read(bits: *const [u8; 38], satellite: u32, subframe: *mut Subframe) -> u32;
     pub fn nb_subframe_write(subframe: *const Subframe, tow_count: u32, bits: *mut [u8; 38])
         -> u32;
+    pub fn nb_subframes_join(
+        subframes: *const [Subframe; 3],
+        satellite: u32,
+        week: u32,
+        item: *mut Item,
+    ) -> u32;
+    pub fn nb_words_join(
+        words: *const [Word; 5],
+        satellite: u32,
+        week: u32,
+        item: *mut Item,
+    ) -> u32;
     pub fn nb_page_read(page: *const [u8; 30], satellite: u32, word: *mut Word) -> u32;
     pub fn nb_page_write(word: *const Word, satellite: u32, page: *mut [u8; 30]) -> u32;
     pub fn nb_record_read(text: *const u8, n: usize, version: u32, item: *mut Item) -> u32;
@@ -305,6 +327,15 @@ extern "C" {
         room: usize,
         used: *mut usize,
     ) -> u32;
+    pub fn nb_header_write(
+        header: *const Header,
+        version: u32,
+        text: *mut u8,
+        room: usize,
+        used: *mut usize,
+    ) -> u32;
+    pub fn nb_header_size(text: *const u8, n: usize) -> usize;
+    pub fn nb_record_size(text: *const u8, n: usize, version: u32, is_end: bool) -> usize;
     pub fn nb_deframer_size() -> usize;
     pub fn nb_deframer_init(at: *mut u64);
     pub fn nb_deframer_feed(at: *mut u64, bytes: *const u8, n: usize) -> usize;

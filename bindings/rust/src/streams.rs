@@ -4,7 +4,7 @@ use std::collections::VecDeque;
 use std::io::{self, Read};
 
 use crate::error::Error;
-use crate::{raw, FRAME_MOST};
+use crate::{header_size, raw, record_size, FRAME_MOST};
 
 fn state(size: usize) -> Box<[u64]> {
     vec![0; (size + 7) / 8].into_boxed_slice()
@@ -100,6 +100,65 @@ impl<R: Read> Iterator for Frames<R> {
                 Ok(size) => self
                     .deframer
                     .feed(&piece[..size], |frame| found.push_back(frame.to_vec())),
+                Err(error) if error.kind() == io::ErrorKind::Interrupted => {}
+                Err(error) => return Some(Err(error)),
+            }
+        }
+    }
+}
+
+/// The records of a reader, each as soon as the next begins; see [`records`].
+pub struct Records<R> {
+    reader: R,
+    version: u32,
+    text: Vec<u8>,
+    at: usize,
+    in_header: bool,
+    ended: bool,
+}
+
+/// The records of a navigation file of this version, as [`record_read`](crate::record_read) takes them. Where the file has no header
+/// there is none.
+pub fn records<R: Read>(reader: R, version: u32) -> Records<R> {
+    Records {
+        reader,
+        version,
+        text: Vec::new(),
+        at: 0,
+        in_header: true,
+        ended: false,
+    }
+}
+
+impl<R: Read> Iterator for Records<R> {
+    type Item = io::Result<String>;
+
+    fn next(&mut self) -> Option<Self::Item> {
+        let mut piece = [0; 4096];
+        loop {
+            let rest = &self.text[self.at..];
+            let size = if self.in_header {
+                header_size(rest)
+            } else {
+                record_size(rest, self.version, self.ended)
+            };
+            if let Some(size) = size {
+                let record = String::from_utf8_lossy(&rest[..size]).into_owned();
+                self.at += size;
+                if !std::mem::take(&mut self.in_header) {
+                    return Some(Ok(record));
+                }
+                continue;
+            }
+            if self.ended {
+                return None;
+            }
+            self.text.drain(..std::mem::take(&mut self.at));
+            match self.reader.read(&mut piece) {
+                Ok(size) => {
+                    self.ended = size == 0;
+                    self.text.extend_from_slice(&piece[..size]);
+                }
                 Err(error) if error.kind() == io::ErrorKind::Interrupted => {}
                 Err(error) => return Some(Err(error)),
             }

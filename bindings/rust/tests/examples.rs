@@ -50,6 +50,7 @@ fn what_is_read_is_written() {
         assert!(is_frame(&frame));
         assert_eq!(frame_make(&frame[3..frame.len() - 3]).unwrap(), frame);
         let item = message_read(&frame[3..frame.len() - 3], 2295).unwrap();
+        assert_eq!(frame_read(&frame, week_of_unix(1_704_067_200)), Ok(item));
         assert_eq!(message_write(&item).unwrap(), frame);
         assert_eq!(
             record_read(&record_write(&item, 4).unwrap(), 4).unwrap(),
@@ -82,6 +83,51 @@ fn what_is_read_is_written() {
             _ => unreachable!(),
         }
     }
+}
+
+#[test]
+fn records_of_a_file_are_those_of_its_stream() {
+    let file = read("expected/ephemerides.rnx");
+    let header = header_write("20240101 000000 UTC", 18, 4).unwrap();
+    assert!(file.starts_with(header.as_bytes()));
+    let texts: Vec<String> = records(&file[..], 4).map(Result::unwrap).collect();
+    assert_eq!(header + &texts.concat(), String::from_utf8(file).unwrap());
+    let items: Vec<Item> = texts
+        .iter()
+        .map(|text| record_read(text, 4).unwrap())
+        .collect();
+    let stream: Vec<Item> = frames(&read("ephemerides.rtcm3")[..])
+        .map(|frame| frame_read(&frame.unwrap(), 2295).unwrap())
+        .collect();
+    assert_eq!(items, stream);
+}
+
+#[test]
+fn parts_of_one_issue_are_joined() {
+    let (mut gps, gal) = (Gps::default(), Gal::default());
+    gps.a.toe = 37_799;
+    let first = Subframe::One {
+        wn: 247,
+        second: 0,
+        clock: gps.clock,
+        side: gps.side,
+    };
+    let second = Subframe::Two { a: gps.a, fit: 0 };
+    let joined = subframes_join(&[first, second, Subframe::Three(gps.b)], 7, 2295).unwrap();
+    (gps.satellite, gps.toe_week) = (7, 2294);
+    gps.sent = Sent {
+        is_known: 1,
+        second: 604_800,
+    };
+    assert_eq!(joined, Item::Gps(gps));
+    let words = [
+        Word::One(gal.w1),
+        Word::Two(gal.w2),
+        Word::Three(gal.w3),
+        Word::Four(gal.w4),
+        Word::Four(gal.w4),
+    ];
+    assert_eq!(words_join(&words, 7, 2295), Err(Error::NoItem));
 }
 
 #[test]

@@ -1,5 +1,6 @@
 -- The length of a record.
-use Rattle.std.proofs.Common.{◌≡◌, ℕ, zero, suc, ◌+◌, ◌*◌, ◌/◌, ◌%◌, ◌<◌, ◌≤◌, List, [], ◌∷◌, ◌++◌, length, drop, codes, ℤ, Some, refl, ap, ◌∙◌, arith, length-append}
+use Rattle.std.proofs.Common.{◌≡◌, ◌==◌, ℕ, zero, suc, Bool, true, false, ◌+◌, ◌*◌, ◌/◌, ◌%◌, ◌<◌, ◌≤◌, List, [], ◌∷◌, ◌++◌, length, drop, codes, ℤ, Some, refl, ap, ◌∙◌, arith, length-append}
+use Rattle.std.specs.Prelude.{if◌then◌else◌}
 use Rattle.nav_io.specs.Causes.{Rose}
 use Rattle.nav_io.specs.Prefix.{AppendsPrefix}
 use Rattle.scaled_decimal.specs.NumberText.{digits}
@@ -15,16 +16,18 @@ use Rattle.rinex_write.specs.declared.columns.Column.{Column}
 use Rattle.rinex_write.specs.Columns.{column_text, row_text, row_lines}
 use Rattle.rinex_write.specs.Layouts.{Kind, gps_kind, galileo_kind, gps_ionosphere_kind, galileo_ionosphere_kind, gps_rows, galileo_rows, gps_ionosphere_rows, galileo_ionosphere_rows}
 use Rattle.rinex_write.specs.Fields.{gps_fields, galileo_fields, gps_ionosphere_fields, galileo_ionosphere_fields, gps_epoch, galileo_epoch}
-use Rattle.rinex_write.specs.Texts.{text_of, satellite_text, date_text, title_line, record_lines, ionosphere_lines, item_lines, body_lines}
+use Rattle.rinex_write.specs.declared.words.HeaderWords.{HeaderWords}
+use Rattle.rinex_write.specs.Texts.{text_of, satellite_text, date_text, title_line, record_lines, ionosphere_lines, item_lines, body_lines, header_lines_by, leap_text}
 use Rattle.rinex_write.specs.Texts3.{item3_lines}
+use Rattle.c_messages.specs.RecordWrites.{version_columns}
 
-length-digits : (k n : ℕ) → length (digits k n) ≡ k
+pub length-digits : (k n : ℕ) → length (digits k n) ≡ k
 unfolding digits
 length-digits zero n = refl
 length-digits (suc k) n = length-append (digits k (n / 10)) ((48 + n % 10) ∷ []) ∙ omega (arith, length-digits k (n / 10))
 
 -- room for the lines of rows
-abbrev rows_size : List (List Column) → ℕ
+abbrev pub rows_size : List (List Column) → ℕ
 rows_size [] = 0
 rows_size (r ∷ rs) = 5 + 19 * length r + rows_size rs
 
@@ -39,7 +42,7 @@ length-row_text (c ∷ cs) (z ∷ zs) =
       length-row_text cs zs,
     )
 
-length-rows : (rows : List (List Column)) (start : List ℕ) (zs : List ℤ) → length (text_of (row_lines start rows zs)) ≤ length start + rows_size rows
+pub length-rows : (rows : List (List Column)) (start : List ℕ) (zs : List ℤ) → length (text_of (row_lines start rows zs)) ≤ length start + rows_size rows
 length-rows [] start zs = omega arith
 length-rows (r ∷ rs) start zs =
     let rest : List ℕ = text_of (row_lines (codes "    ") rs (drop (length r) zs)) in
@@ -59,7 +62,7 @@ length-rows (r ∷ rs) start zs =
       length-rows rs (codes "    ") (drop (length r) zs),
     )
 
-length-date : (c : Civil) → length (date_text c) ≤ 19
+pub length-date : (c : Civil) → length (date_text c) ≤ 19
 unfolding date_text
 length-date c =
     let y : List ℕ = digits 4 c.year in
@@ -169,9 +172,54 @@ length-item3 (GalItem e) =
     omega (arith, length-body galileo_kind.rows (satellite_text e.sat ++ 32 ∷ []) (galileo_epoch e) (galileo_fields e) (length-start e.sat) galileo_small.2)
 length-item3 (IonItem e) = omega arith
 
+-- a header of columns of nine bytes and a date of 19
+length-columns : (b : Bool) → length (if b then codes "     4.01" else codes "     3.05") ≡ 9
+length-columns true = refl
+length-columns false = refl
+
+length-header : (columns : List ℕ) (h : HeaderWords) → length columns ≡ 9 → length h.date ≡ 19 → length (text_of (header_lines_by columns h)) ≤ 900
+unfolding header_lines_by
+length-header columns h nine date =
+    let nil : List ℕ = [] in
+    let kind : List ℕ = codes "           N: GNSS NAV DATA    M: MIXED            RINEX VERSION / TYPE" in
+    let program : List ℕ = codes "navbridge                               " in
+    let label : List ℕ = codes " PGM / RUN BY / DATE" in
+    let seconds : List ℕ = codes "    " ++ (leap_text h.leap ++ codes "                                                      LEAP SECONDS") in
+    let last : List ℕ = codes "                                                            END OF HEADER" in
+    let fourth : List ℕ = last ++ 10 ∷ nil in
+    let third : List ℕ = seconds ++ 10 ∷ fourth in
+    let second : List ℕ = (program ++ (h.date ++ label)) ++ 10 ∷ third in
+    let of_kind : length kind ≡ 71 = refl in
+    let of_program : length program ≡ 40 = refl in
+    let of_label : length label ≡ 20 = refl in
+    let of_seconds : length seconds ≡ 72 = refl in
+    let of_last : length fourth ≡ 74 = refl in
+    let after_2 : length (10 ∷ second) ≡ suc (length second) = refl in
+    let after_3 : length (10 ∷ third) ≡ suc (length third) = refl in
+    let after_4 : length (10 ∷ fourth) ≡ suc (length fourth) = refl in
+    omega (
+      arith,
+      length-append (columns ++ kind) (10 ∷ second),
+      length-append columns kind,
+      length-append (program ++ (h.date ++ label)) (10 ∷ third),
+      length-append program (h.date ++ label),
+      length-append h.date label,
+      length-append seconds (10 ∷ fourth),
+      nine,
+      date,
+      of_kind,
+      of_program,
+      of_label,
+      of_seconds,
+      of_last,
+      after_2,
+      after_3,
+      after_4,
+    )
+
 -- ---- a room of 1,024 bytes is never filled
 
-never_full : (old bytes text : List ℕ) (before faults : ℕ) → length text ≤ 900 → old ≡ [] → before ≡ 0 → AppendsPrefix (Some old) (Some bytes) text
+pub never_full : (old bytes text : List ℕ) (before faults : ℕ) → length text ≤ 900 → old ≡ [] → before ≡ 0 → AppendsPrefix (Some old) (Some bytes) text
     → Rose before faults → (0 < faults → 1024 ≤ length bytes) → ⊥
 never_full old bytes text before faults short none nothing appends rose full =
     let prefix : List ℕ = appends.0 in
@@ -190,3 +238,10 @@ too_long4 item old bytes before faults = never_full old bytes (text_of (item_lin
 pub too_long3 : (item : NavItem) (old bytes : List ℕ) (before faults : ℕ) → old ≡ [] → before ≡ 0 → AppendsPrefix (Some old) (Some bytes) (text_of (item3_lines item))
     → Rose before faults → (0 < faults → 1024 ≤ length bytes) → ⊥
 too_long3 item old bytes before faults = never_full old bytes (text_of (item3_lines item)) before faults (length-item3 item)
+
+pub too_long_header : (version : ℕ) (columns : List ℕ) (h : HeaderWords) (old bytes : List ℕ) (before faults : ℕ) → columns ≡ version_columns version → length h.date ≡ 19
+    → old ≡ [] → before ≡ 0 → AppendsPrefix (Some old) (Some bytes) (text_of (header_lines_by columns h))
+    → Rose before faults → (0 < faults → 1024 ≤ length bytes) → ⊥
+too_long_header version columns h old bytes before faults is date =
+    never_full old bytes (text_of (header_lines_by columns h)) before faults
+    (length-header columns h (ap length is ∙ length-columns (version == 4)) date)

@@ -1,6 +1,9 @@
 mod LinesOfText
-mod Lengths
+pub mod Lengths
 mod Prefixes
 mod SubframesAgain
 mod PagesAgain
 mod RecordsAgain
+mod RecordCuts
+mod SameHeader
+mod HeaderLabels

@@ -5,3 +5,6 @@ pub mod Pages
 pub mod RecordReads
 pub mod Fixed
 pub mod RecordWrites
+pub mod Weeks
+pub mod Joins
+pub mod RecordEnds

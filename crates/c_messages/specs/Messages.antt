@@ -1,7 +1,8 @@
 -- Ephemeris messages, read into raw numbers and written of them.
-use Rattle.std.specs.Prelude.{◌≡◌, ℕ, List, Option, None, Some, Result, Ok, Err}
+use Rattle.std.specs.Prelude.{◌≡◌, ◌<◌, ℕ, List, length, Option, None, Some, Result, Ok, Err}
 use Rattle.nav_eph.specs.declared.items.NavItem.{NavItem}
 use Rattle.nav_eph.specs.declared.items.NavItem.TheVariants.{Gps, Gal, Ion}
+use Rattle.rtcm_frame.specs.Frames.{frame_size}
 use Rattle.rtcm_frame.specs.Writing.{frame_bytes}
 use Rattle.rtcm_eph.specs.declared.fault.MessageFault.{MessageFault}
 use Rattle.rtcm_eph.specs.declared.fault.MessageFault.TheVariants.{NoNumber, OtherMessage, Short, BadSat, BadTime, SpareSisa}
@@ -9,6 +10,10 @@ use Rattle.rtcm_eph.specs.Writing.{bytes_1019, bytes_1046}
 use Rattle.c_records.specs.declared.item_raw.ItemRaw.{ItemRaw}
 use Rattle.c_records.specs.Items.{raw_item}
 use Rattle.c_records.specs.Rooms.{IsLeft, StandsIn}
+
+-- the bytes are one whole frame with a right checksum, and nothing else
+abbrev pub IsFrame : List ℕ → Type 0
+IsFrame bytes = (0 < length bytes) × (frame_size bytes ≡ length bytes)
 
 -- the number of a fault
 abbrev pub message_status : MessageFault → ℕ

@@ -9,9 +9,9 @@ use std::marker::Model;
 // The room in bytes.
 const ROOM: usize = 1024;
 
-// What was written. A write that exceeds the room fills it, and fails.
+/// What was written, at most 1,024 bytes. A write that exceeds them fills the room, and fails.
 #[derive(Drop)]
-pub(crate) struct Fixed {
+pub struct Fixed {
     bytes: ArrayVec<u8, ROOM>,
     faults: u64,
 }
@@ -38,8 +38,8 @@ fn append(bytes: &mut ArrayVec<u8, ROOM>, piece: &[u8])
 }
 
 impl Fixed {
-    // Nothing was written.
-    pub(crate) fn new() -> Fixed
+    /// Nothing was written.
+    pub fn new() -> Fixed
         ensures bytes { result.bytes ≡ [] }
         ensures faults { result.faults ≡ 0 }
     {
@@ -49,8 +49,8 @@ impl Fixed {
         }
     }
 
-    // The bytes so far. After a fault there are 1,024.
-    pub(crate) fn bytes(&self) -> &[u8]
+    /// The bytes so far. After a fault there are 1,024.
+    pub fn bytes(&self) -> &[u8]
         ensures bytes { result.now ≡ self.now.bytes }
         ensures full { 0 < self.now.faults → 1024 ≤ length self.now.bytes }
     {

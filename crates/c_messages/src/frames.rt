@@ -1,9 +1,9 @@
 //! Frames of RTCM 10403.3 (the transport layer, section 4).
 
 ghost use Rattle.std.specs.Prelude.{◌≡◌, ◌<◌, ◌≤◌, ◌↔◌, length, IsTrue};
-ghost use Rattle.rtcm_frame.specs.Frames.{frame_size};
 ghost use Rattle.rtcm_frame.specs.Writing.{frame_bytes};
 ghost use Rattle.c_records.specs.Rooms.{IsLeft, StandsIn};
+ghost use Rattle.c_messages.specs.Messages.{IsFrame};
 
 use arrayvec::ArrayVec;
 use c_records::put;
@@ -11,8 +11,7 @@ use rtcm_frame::{frame_of, write_frame};
 
 /// Whether these bytes are one whole frame with a right checksum, and nothing else.
 pub fn is_frame(bytes: &[u8]) -> bool
-    ensures { IsTrue result ↔
-        ((0 < length bytes.now) × (frame_size bytes.now ≡ length bytes.now)) }
+    ensures { IsTrue result ↔ IsFrame bytes.now }
 {
     frame_of(bytes).is_some()
 }

@@ -10,24 +10,31 @@
 
 mod fixed;
 mod frames;
+mod joins;
 mod laws;
 mod messages;
 mod page_raw;
 mod pages;
+mod record_ends;
 mod record_reads;
 mod record_writes;
 mod subframe_raw;
 mod subframes;
 mod tags;
 mod text_lines;
+mod weeks;
 mod word_out;
 
+pub use crate::fixed::Fixed;
 pub use crate::frames::{is_frame, make_frame};
+pub use crate::joins::{join_subframes, join_words};
 pub use crate::laws::{pages_come_back, records_come_back, subframes_come_back};
-pub use crate::messages::{read_message, write_message};
-pub use crate::page_raw::{PageBits, WordRaw};
+pub use crate::messages::{read_frame, read_message, write_message};
+pub use crate::page_raw::{PageBits, WordRaw, WordsRaw};
 pub use crate::pages::{read_page, write_page};
+pub use crate::record_ends::{header_size, record_size};
 pub use crate::record_reads::read_record;
-pub use crate::record_writes::write_record;
-pub use crate::subframe_raw::{SubframeBits, SubframeRaw};
+pub use crate::record_writes::{HeaderRaw, write_header, write_record};
+pub use crate::subframe_raw::{SubframeBits, SubframeRaw, SubframesRaw};
 pub use crate::subframes::{read_subframe, write_subframe};
+pub use crate::weeks::week_of_unix;

@@ -2,26 +2,20 @@
 
 ghost use Rattle.std.specs.Prelude.{◌≡◌};
 ghost use Rattle.gnss_week.specs.Weeks.{IsReference};
+ghost use Rattle.rtcm_frame.specs.State.{payload_of};
 ghost use Rattle.rtcm_eph.specs.Reading.{item_in as item_of_payload};
 ghost use Rattle.c_records.specs.Items.{IsItemIn, item_in};
 ghost use Rattle.c_records.specs.Rooms.{IsLeft};
-ghost use Rattle.c_messages.specs.Messages.{PutsMessage, WritesFrame, WritesMessage};
+ghost use Rattle.c_messages.specs.Messages.{IsFrame, PutsMessage, WritesFrame, WritesMessage};
 ghost use Rattle.c_messages.specs.Messages.{message_status};
 
 use crate::frames::make_frame;
+use c_records::reasons::{NO_FRAME, NO_ITEM, NO_MESSAGE, NO_WEEK};
 use c_records::{ItemRaw, item_of, put_item};
 use gnss_week::RefWeek;
 use nav_eph::NavItem;
 use rtcm_eph::{MessageFault, read_item, write_1019, write_1046};
-
-// The week is not a reference week.
-const NO_WEEK: u32 = 22;
-
-// The numbers stand for no item.
-const NO_ITEM: u32 = 23;
-
-// No message carries the item.
-const NO_MESSAGE: u32 = 25;
+use rtcm_frame::frame_of;
 
 // The number of a fault.
 fn status_of(fault: &MessageFault) -> u32
@@ -57,6 +51,24 @@ pub fn read_message(payload: &[u8], week: u32, into: &mut ItemRaw) -> u32
             0
         }
         Err(fault) => status_of(&fault),
+    }
+}
+
+/// Puts the ephemeris of message 1019 or 1046 of a whole frame, as [`read_message`] puts that of its
+/// payload.
+///
+/// 26 where the bytes are not one whole frame with a right checksum and nothing else, and then
+/// nothing is put.
+pub fn read_frame(bytes: &[u8], week: u32, into: &mut ItemRaw) -> u32
+    ensures message { IsFrame bytes.now → IsReference week →
+        PutsMessage (item_of_payload week (payload_of bytes.now)) into.old into.new result }
+    ensures week { IsFrame bytes.now → (IsReference week → ⊥) →
+        (result ≡ 22) × (into.new ≡ into.old) }
+    ensures frame { (IsFrame bytes.now → ⊥) → (result ≡ 26) × (into.new ≡ into.old) }
+{
+    match frame_of(bytes) {
+        Some(frame) => read_message(frame.payload(), week, into),
+        None => NO_FRAME,
     }
 }
 

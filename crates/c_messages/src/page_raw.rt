@@ -36,3 +36,19 @@ pub struct WordRaw {
     /// The ionospheric parameters, of word type 5.
     pub ion: GalIonRaw,
 }
+
+/// Words of types 1 to 5, in this order.
+#[repr(C)]
+#[derive(Clone, Copy)]
+pub struct WordsRaw {
+    /// Word type 1.
+    pub one: WordRaw,
+    /// Word type 2.
+    pub two: WordRaw,
+    /// Word type 3.
+    pub three: WordRaw,
+    /// Word type 4.
+    pub four: WordRaw,
+    /// Word type 5.
+    pub five: WordRaw,
+}

@@ -14,20 +14,12 @@ ghost use Rattle.c_messages.specs.Pages.{word_read, word_status};
 use crate::page_raw::{PageBits, WordRaw};
 use crate::tags::{second_of, wn_of};
 use crate::word_out::{bits_of, content_of};
+use c_records::reasons::{ALERT, NO_ITEM, NO_SATELLITE};
 use c_records::{raw_gal_ion, raw_health, raw_word1, raw_word2, raw_word3, raw_word4, sat_of};
 use inav_page::{Half, HalfKind, join, read_half, split, write_half};
 use inav_word::{WordFault, WordParts, read_word};
 use nav_bits::Bits;
 use nav_eph::{Body, Sat, System};
-
-// The numbers stand for no word.
-const NO_ITEM: u32 = 23;
-
-// The system has no such satellite.
-const NO_SATELLITE: u32 = 62;
-
-// A part is of an alert page.
-const ALERT: u32 = 65;
 
 // The parts are not an even one and an odd one.
 const NO_PAIR: u32 = 66;

@@ -5,11 +5,9 @@ ghost use Rattle.rinex_read.specs.Lines.{lines_of};
 ghost use Rattle.c_messages.specs.RecordReads.{IsVersion, PutsRead, judged_in, reason_status};
 
 use crate::text_lines::lines_in;
+use c_records::reasons::NO_VERSION;
 use c_records::{ItemRaw, put_item};
 use rinex_read::{FileForm, Judged, Reason, Rinex3, Rinex4};
-
-// There is no such version.
-const NO_VERSION: u32 = 24;
 
 // The record is of another kind.
 const PASSED_OVER: u32 = 42;

@@ -34,3 +34,15 @@ pub struct SubframeRaw {
     /// The ionospheric parameters of page 18 of subframe 4.
     pub ion: GpsIonRaw,
 }
+
+/// Subframes 1, 2 and 3, in this order.
+#[repr(C)]
+#[derive(Clone, Copy)]
+pub struct SubframesRaw {
+    /// Subframe 1.
+    pub one: SubframeRaw,
+    /// Subframe 2.
+    pub two: SubframeRaw,
+    /// Subframe 3.
+    pub three: SubframeRaw,
+}

@@ -10,6 +10,7 @@ ghost use Rattle.c_messages.specs.Subframes.{raw_subframe, subframe_status};
 
 use crate::subframe_raw::{SubframeBits, SubframeRaw};
 use crate::tags::{second_of, wn_of};
+use c_records::reasons::{NO_ITEM, NO_SATELLITE};
 use c_records::{
     clock_of, gps_ion_of, orbit_a_of, orbit_b_of, raw_clock, raw_gps_ion, raw_orbit_a, raw_orbit_b,
     raw_side, sat_of, side_of,
@@ -17,12 +18,6 @@ use c_records::{
 use lnav_subframe::{LnavFault, SubframeOut, read_subframe as part_of, write_subframe as bits_of};
 use nav_bits::{Bits, U};
 use nav_eph::{Body, System};
-
-// The numbers stand for no subframe.
-const NO_ITEM: u32 = 23;
-
-// The system has no such satellite.
-const NO_SATELLITE: u32 = 62;
 
 // The TOW count is past the end of the week.
 const NO_TOW_COUNT: u32 = 63;

@@ -9,7 +9,7 @@ use nav_io::{first_end, length_without_cr};
 use rinex_read::RecordLines;
 
 // The line without the CR at its end.
-fn without_end(line: &[u8]) -> &[u8]
+pub(crate) fn without_end(line: &[u8]) -> &[u8]
     ensures { result.now ≡ without_cr line.now }
 {
     &line[..length_without_cr(line)]

@@ -8,12 +8,7 @@ ghost use Rattle.c_records.specs.Gal.{raw_word1, raw_word2, raw_word3};
 ghost use Rattle.c_records.specs.Gal.{raw_word4, raw_health, raw_gal};
 
 use crate::gal_raw::{GalHealthRaw, GalRaw, GalWord1Raw, GalWord2Raw, GalWord3Raw, GalWord4Raw};
-use crate::numbers::{
-    raw_signed6, raw_signed10, raw_signed14, raw_signed16, raw_signed21, raw_signed24,
-    raw_signed31, raw_signed32, raw_unsigned1, raw_unsigned2, raw_unsigned10, raw_unsigned32,
-    signed6, signed10, signed14, signed16, signed21, signed24, signed31, signed32, sisa, step60,
-    unsigned1, unsigned2, unsigned10, unsigned32,
-};
+use crate::numbers::{raw_signed, raw_unsigned, signed, sisa, step60, unsigned};
 use crate::sat::sat_of;
 use crate::sent::{raw_sent, sent_of};
 use gnss_week::Week;
@@ -24,11 +19,11 @@ pub fn word1_of(raw: &GalWord1Raw) -> Option<GalWord1>
     ensures exactly { IsSome result ↔ IsGalWord1 (word1_in raw.now) }
     ensures same { IfSome result (λ value. value ≡ word1_in raw.now) }
 {
-    let iodnav = unsigned10(raw.iodnav)?;
+    let iodnav = unsigned::<10>(raw.iodnav)?;
     let toe = step60(raw.toe)?;
-    let m0 = signed32(&raw.m0)?;
-    let e = unsigned32(raw.e)?;
-    let root_a = unsigned32(raw.root_a)?;
+    let m0 = signed::<32>(&raw.m0)?;
+    let e = unsigned::<32>(raw.e)?;
+    let root_a = unsigned::<32>(raw.root_a)?;
     Some(GalWord1 {
         iodnav,
         toe,
@@ -43,11 +38,11 @@ pub fn raw_word1(value: &GalWord1) -> GalWord1Raw
     ensures { result ≡ raw_word1 value.now }
 {
     GalWord1Raw {
-        iodnav: raw_unsigned10(&value.iodnav),
+        iodnav: raw_unsigned(&value.iodnav),
         toe: value.toe.value() as u32,
-        m0: raw_signed32(&value.m0),
-        e: raw_unsigned32(&value.e),
-        root_a: raw_unsigned32(&value.root_a),
+        m0: raw_signed(&value.m0),
+        e: raw_unsigned(&value.e),
+        root_a: raw_unsigned(&value.root_a),
     }
 }
 
@@ -56,11 +51,11 @@ pub fn word2_of(raw: &GalWord2Raw) -> Option<GalWord2>
     ensures exactly { IsSome result ↔ IsGalWord2 (word2_in raw.now) }
     ensures same { IfSome result (λ value. value ≡ word2_in raw.now) }
 {
-    let iodnav = unsigned10(raw.iodnav)?;
-    let omega0 = signed32(&raw.omega0)?;
-    let i0 = signed32(&raw.i0)?;
-    let omega = signed32(&raw.omega)?;
-    let idot = signed14(&raw.idot)?;
+    let iodnav = unsigned::<10>(raw.iodnav)?;
+    let omega0 = signed::<32>(&raw.omega0)?;
+    let i0 = signed::<32>(&raw.i0)?;
+    let omega = signed::<32>(&raw.omega)?;
+    let idot = signed::<14>(&raw.idot)?;
     Some(GalWord2 {
         iodnav,
         omega0,
@@ -75,11 +70,11 @@ pub fn raw_word2(value: &GalWord2) -> GalWord2Raw
     ensures { result ≡ raw_word2 value.now }
 {
     GalWord2Raw {
-        iodnav: raw_unsigned10(&value.iodnav),
-        omega0: raw_signed32(&value.omega0),
-        i0: raw_signed32(&value.i0),
-        omega: raw_signed32(&value.omega),
-        idot: raw_signed14(&value.idot),
+        iodnav: raw_unsigned(&value.iodnav),
+        omega0: raw_signed(&value.omega0),
+        i0: raw_signed(&value.i0),
+        omega: raw_signed(&value.omega),
+        idot: raw_signed(&value.idot),
     }
 }
 
@@ -88,13 +83,13 @@ pub fn word3_of(raw: &GalWord3Raw) -> Option<GalWord3>
     ensures exactly { IsSome result ↔ IsGalWord3 (word3_in raw.now) }
     ensures same { IfSome result (λ value. value ≡ word3_in raw.now) }
 {
-    let iodnav = unsigned10(raw.iodnav)?;
-    let omega_dot = signed24(&raw.omega_dot)?;
-    let delta_n = signed16(&raw.delta_n)?;
-    let cuc = signed16(&raw.cuc)?;
-    let cus = signed16(&raw.cus)?;
-    let crc = signed16(&raw.crc)?;
-    let crs = signed16(&raw.crs)?;
+    let iodnav = unsigned::<10>(raw.iodnav)?;
+    let omega_dot = signed::<24>(&raw.omega_dot)?;
+    let delta_n = signed::<16>(&raw.delta_n)?;
+    let cuc = signed::<16>(&raw.cuc)?;
+    let cus = signed::<16>(&raw.cus)?;
+    let crc = signed::<16>(&raw.crc)?;
+    let crs = signed::<16>(&raw.crs)?;
     let sisa = sisa(raw.sisa)?;
     Some(GalWord3 {
         iodnav,
@@ -113,13 +108,13 @@ pub fn raw_word3(value: &GalWord3) -> GalWord3Raw
     ensures { result ≡ raw_word3 value.now }
 {
     GalWord3Raw {
-        iodnav: raw_unsigned10(&value.iodnav),
-        omega_dot: raw_signed24(&value.omega_dot),
-        delta_n: raw_signed16(&value.delta_n),
-        cuc: raw_signed16(&value.cuc),
-        cus: raw_signed16(&value.cus),
-        crc: raw_signed16(&value.crc),
-        crs: raw_signed16(&value.crs),
+        iodnav: raw_unsigned(&value.iodnav),
+        omega_dot: raw_signed(&value.omega_dot),
+        delta_n: raw_signed(&value.delta_n),
+        cuc: raw_signed(&value.cuc),
+        cus: raw_signed(&value.cus),
+        crc: raw_signed(&value.crc),
+        crs: raw_signed(&value.crs),
         sisa: value.sisa.value() as u32,
     }
 }
@@ -129,13 +124,13 @@ pub fn word4_of(raw: &GalWord4Raw) -> Option<GalWord4>
     ensures exactly { IsSome result ↔ IsGalWord4 (word4_in raw.now) }
     ensures same { IfSome result (λ value. value ≡ word4_in raw.now) }
 {
-    let iodnav = unsigned10(raw.iodnav)?;
-    let cic = signed16(&raw.cic)?;
-    let cis = signed16(&raw.cis)?;
+    let iodnav = unsigned::<10>(raw.iodnav)?;
+    let cic = signed::<16>(&raw.cic)?;
+    let cis = signed::<16>(&raw.cis)?;
     let toc = step60(raw.toc)?;
-    let af0 = signed31(&raw.af0)?;
-    let af1 = signed21(&raw.af1)?;
-    let af2 = signed6(&raw.af2)?;
+    let af0 = signed::<31>(&raw.af0)?;
+    let af1 = signed::<21>(&raw.af1)?;
+    let af2 = signed::<6>(&raw.af2)?;
     Some(GalWord4 {
         iodnav,
         cic,
@@ -152,13 +147,13 @@ pub fn raw_word4(value: &GalWord4) -> GalWord4Raw
     ensures { result ≡ raw_word4 value.now }
 {
     GalWord4Raw {
-        iodnav: raw_unsigned10(&value.iodnav),
-        cic: raw_signed16(&value.cic),
-        cis: raw_signed16(&value.cis),
+        iodnav: raw_unsigned(&value.iodnav),
+        cic: raw_signed(&value.cic),
+        cis: raw_signed(&value.cis),
         toc: value.toc.value() as u32,
-        af0: raw_signed31(&value.af0),
-        af1: raw_signed21(&value.af1),
-        af2: raw_signed6(&value.af2),
+        af0: raw_signed(&value.af0),
+        af1: raw_signed(&value.af1),
+        af2: raw_signed(&value.af2),
     }
 }
 
@@ -167,12 +162,12 @@ pub fn health_of(raw: &GalHealthRaw) -> Option<GalHealth>
     ensures exactly { IsSome result ↔ IsGalHealth (health_in raw.now) }
     ensures same { IfSome result (λ value. value ≡ health_in raw.now) }
 {
-    let bgd_a = signed10(&raw.bgd_a)?;
-    let bgd_b = signed10(&raw.bgd_b)?;
-    let hs_e5b = unsigned2(raw.hs_e5b)?;
-    let hs_e1b = unsigned2(raw.hs_e1b)?;
-    let dvs_e5b = unsigned1(raw.dvs_e5b)?;
-    let dvs_e1b = unsigned1(raw.dvs_e1b)?;
+    let bgd_a = signed::<10>(&raw.bgd_a)?;
+    let bgd_b = signed::<10>(&raw.bgd_b)?;
+    let hs_e5b = unsigned::<2>(raw.hs_e5b)?;
+    let hs_e1b = unsigned::<2>(raw.hs_e1b)?;
+    let dvs_e5b = unsigned::<1>(raw.dvs_e5b)?;
+    let dvs_e1b = unsigned::<1>(raw.dvs_e1b)?;
     Some(GalHealth {
         bgd_a,
         bgd_b,
@@ -188,12 +183,12 @@ pub fn raw_health(value: &GalHealth) -> GalHealthRaw
     ensures { result ≡ raw_health value.now }
 {
     GalHealthRaw {
-        bgd_a: raw_signed10(&value.bgd_a),
-        bgd_b: raw_signed10(&value.bgd_b),
-        hs_e5b: raw_unsigned2(&value.hs_e5b),
-        hs_e1b: raw_unsigned2(&value.hs_e1b),
-        dvs_e5b: raw_unsigned1(&value.dvs_e5b),
-        dvs_e1b: raw_unsigned1(&value.dvs_e1b),
+        bgd_a: raw_signed(&value.bgd_a),
+        bgd_b: raw_signed(&value.bgd_b),
+        hs_e5b: raw_unsigned(&value.hs_e5b),
+        hs_e1b: raw_unsigned(&value.hs_e1b),
+        dvs_e5b: raw_unsigned(&value.dvs_e5b),
+        dvs_e1b: raw_unsigned(&value.dvs_e1b),
     }
 }
 

@@ -7,10 +7,7 @@ ghost use Rattle.c_records.specs.Ion.{gal_ion_in, gal_ion_item, gps_ion_in, gps_
 ghost use Rattle.c_records.specs.Ion.{ion_kind, raw_gal_ion, raw_gps_ion, raw_ion};
 
 use crate::ion_raw::{GalIonRaw, GpsIonRaw, IonRaw};
-use crate::numbers::{
-    raw_signed8, raw_signed11, raw_signed14, raw_unsigned5, raw_unsigned11, signed8, signed11,
-    signed14, unsigned5, unsigned11,
-};
+use crate::numbers::{raw_signed, raw_unsigned, signed, unsigned};
 use crate::sat::sat_of;
 use gnss_week::Moment;
 use nav_eph::{GalIon, GpsIon, IonContent, IonEph, System};
@@ -20,14 +17,14 @@ pub fn gps_ion_of(raw: &GpsIonRaw) -> Option<GpsIon>
     ensures exactly { IsSome result ↔ IsGpsIon (gps_ion_in raw.now) }
     ensures same { IfSome result (λ value. value ≡ gps_ion_in raw.now) }
 {
-    let alpha0 = signed8(&raw.alpha0)?;
-    let alpha1 = signed8(&raw.alpha1)?;
-    let alpha2 = signed8(&raw.alpha2)?;
-    let alpha3 = signed8(&raw.alpha3)?;
-    let beta0 = signed8(&raw.beta0)?;
-    let beta1 = signed8(&raw.beta1)?;
-    let beta2 = signed8(&raw.beta2)?;
-    let beta3 = signed8(&raw.beta3)?;
+    let alpha0 = signed::<8>(&raw.alpha0)?;
+    let alpha1 = signed::<8>(&raw.alpha1)?;
+    let alpha2 = signed::<8>(&raw.alpha2)?;
+    let alpha3 = signed::<8>(&raw.alpha3)?;
+    let beta0 = signed::<8>(&raw.beta0)?;
+    let beta1 = signed::<8>(&raw.beta1)?;
+    let beta2 = signed::<8>(&raw.beta2)?;
+    let beta3 = signed::<8>(&raw.beta3)?;
     Some(GpsIon {
         alpha0,
         alpha1,
@@ -45,14 +42,14 @@ pub fn raw_gps_ion(value: &GpsIon) -> GpsIonRaw
     ensures { result ≡ raw_gps_ion value.now }
 {
     GpsIonRaw {
-        alpha0: raw_signed8(&value.alpha0),
-        alpha1: raw_signed8(&value.alpha1),
-        alpha2: raw_signed8(&value.alpha2),
-        alpha3: raw_signed8(&value.alpha3),
-        beta0: raw_signed8(&value.beta0),
-        beta1: raw_signed8(&value.beta1),
-        beta2: raw_signed8(&value.beta2),
-        beta3: raw_signed8(&value.beta3),
+        alpha0: raw_signed(&value.alpha0),
+        alpha1: raw_signed(&value.alpha1),
+        alpha2: raw_signed(&value.alpha2),
+        alpha3: raw_signed(&value.alpha3),
+        beta0: raw_signed(&value.beta0),
+        beta1: raw_signed(&value.beta1),
+        beta2: raw_signed(&value.beta2),
+        beta3: raw_signed(&value.beta3),
     }
 }
 
@@ -61,10 +58,10 @@ pub fn gal_ion_of(raw: &GalIonRaw) -> Option<GalIon>
     ensures exactly { IsSome result ↔ IsGalIon (gal_ion_in raw.now) }
     ensures same { IfSome result (λ value. value ≡ gal_ion_in raw.now) }
 {
-    let ai0 = unsigned11(raw.ai0)?;
-    let ai1 = signed11(&raw.ai1)?;
-    let ai2 = signed14(&raw.ai2)?;
-    let regions = unsigned5(raw.regions)?;
+    let ai0 = unsigned::<11>(raw.ai0)?;
+    let ai1 = signed::<11>(&raw.ai1)?;
+    let ai2 = signed::<14>(&raw.ai2)?;
+    let regions = unsigned::<5>(raw.regions)?;
     Some(GalIon {
         ai0,
         ai1,
@@ -78,10 +75,10 @@ pub fn raw_gal_ion(value: &GalIon) -> GalIonRaw
     ensures { result ≡ raw_gal_ion value.now }
 {
     GalIonRaw {
-        ai0: raw_unsigned11(&value.ai0),
-        ai1: raw_signed11(&value.ai1),
-        ai2: raw_signed14(&value.ai2),
-        regions: raw_unsigned5(&value.regions),
+        ai0: raw_unsigned(&value.ai0),
+        ai1: raw_signed(&value.ai1),
+        ai2: raw_signed(&value.ai2),
+        regions: raw_unsigned(&value.regions),
     }
 }
 

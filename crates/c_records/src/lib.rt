@@ -12,6 +12,7 @@ mod item_raw;
 mod items;
 mod laws;
 mod numbers;
+pub mod reasons;
 mod rooms;
 mod sat;
 mod sent;

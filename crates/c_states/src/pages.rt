@@ -5,21 +5,13 @@ ghost use Rattle.c_messages.specs.Pages.{page_bits};
 ghost use Rattle.c_states.specs.PagePairs.{GivesPage, IsEmpty, TakesBits, signal_in};
 
 use c_messages::PageBits;
+use c_records::reasons::{ALERT, NO_MEMORY, NO_SATELLITE};
 use c_records::sat_of;
 use inav_page::{Halves, Joined, read_half, split, write_half};
 use nav_bits::Bits;
 use nav_eph::{Signal, System};
 use std::alloc::{AllocError, Global};
 use std::marker::Model;
-
-// There was no memory.
-const NO_MEMORY: u32 = 6;
-
-// The system has no such satellite.
-const NO_SATELLITE: u32 = 62;
-
-// The part is of an alert page.
-const ALERT: u32 = 65;
 
 // There is no signal with this number.
 const NO_SIGNAL: u32 = 72;

@@ -17,15 +17,13 @@ use crate::kept::Kept;
 use crate::words::{are_texts, texts_of};
 use bridge_engine::{BridgeFault, Job, job_of};
 use c_records::put;
+use c_records::reasons::NO_MEMORY;
 use captures::{CaptureRun, what_is_written_of_a_capture_stays};
 use nav_io::Failed;
 use one_run::Status;
 use std::alloc::{AllocError, Global};
 use std::marker::Model;
 use streams::{StreamRun, what_is_written_of_a_stream_stays};
-
-// There was no memory.
-const NO_MEMORY: u32 = 6;
 
 // The input of the job cannot be pushed.
 const NOT_PUSHED: u32 = 10;

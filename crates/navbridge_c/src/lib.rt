@@ -3,7 +3,10 @@
 //! - [`nb_message_read`] and [`nb_message_write`], [`nb_subframe_read`] and [`nb_subframe_write`],
 //!   [`nb_page_read`] and [`nb_page_write`], [`nb_record_read`] and [`nb_record_write`] read and
 //!   write a message, a subframe, a page and a record, from and to structs of raw integers;
-//! - [`nb_is_frame`] and [`nb_frame_make`] judge and make a frame;
+//! - [`nb_is_frame`], [`nb_frame_make`] and [`nb_frame_read`] judge, make and read a frame;
+//! - [`nb_subframes_join`] and [`nb_words_join`] make ephemerides of subframes and of words;
+//! - [`nb_header_write`], [`nb_header_size`] and [`nb_record_size`] are for files of records;
+//! - [`nb_week_of_unix`] gives the week of a time;
 //! - [`nb_convert`] does a conversion over memory, as the program does it over its streams.
 //!
 //! A call that answers a number other than 0 has put nothing, but for `nb_convert`, and has set the
@@ -21,20 +24,27 @@ ghost use Rattle.gnss_week.specs.Weeks.{IsReference};
 ghost use Rattle.nav_eph.specs.Satellite.{IsSat};
 ghost use Rattle.nav_eph.specs.declared.sat.System.TheVariants.{Gal, Gps};
 ghost use Rattle.lnav_subframe.specs.Reading.{subframe_of};
-ghost use Rattle.rtcm_frame.specs.Frames.{frame_size};
+ghost use Rattle.nav_eph.specs.declared.items.NavItem.TheVariants.{Gal as GalItem, Gps as GpsItem};
+ghost use Rattle.rtcm_frame.specs.State.{payload_of};
 ghost use Rattle.rtcm_frame.specs.Writing.{frame_bytes};
 ghost use Rattle.rtcm_eph.specs.Reading.{item_in as item_of_payload};
-ghost use Rattle.c_records.specs.Items.{IsItemIn, item_in};
+ghost use Rattle.rinex_read.specs.Form3.{rinex3};
+ghost use Rattle.rinex_read.specs.Forms.{rinex4};
+ghost use Rattle.rinex_write.specs.declared.words.HeaderWords.{HeaderWords};
+ghost use Rattle.c_records.specs.Items.{IsItemIn, item_in, raw_item};
 ghost use Rattle.c_records.specs.Rooms.{IsLeft, StandsIn};
-ghost use Rattle.c_messages.specs.Messages.{PutsMessage, WritesMessage};
+ghost use Rattle.c_messages.specs.Joins.{AreOfIssue, AreWords, gal_joined, gps_joined};
+ghost use Rattle.c_messages.specs.Messages.{IsFrame, PutsMessage, WritesMessage};
 ghost use Rattle.c_messages.specs.Subframes.{IsContent, IsSubframeOf, PutsSubframe, content_in};
 ghost use Rattle.c_messages.specs.Pages.{ArePair, BelongTogether, IsAlert, IsPageOf, PutsWord};
 ghost use Rattle.c_messages.specs.Pages.{IsContent as IsWord, content_in as word_in, word_read};
+ghost use Rattle.c_messages.specs.RecordEnds.{EndsHeader, EndsRecord};
 ghost use Rattle.c_messages.specs.RecordReads.{IsVersion, PutsRead, judged_in};
-ghost use Rattle.c_messages.specs.RecordWrites.{PutsRecord};
+ghost use Rattle.c_messages.specs.RecordWrites.{IsHeader, IsSaidBy, PutsRecord, header_text};
+ghost use Rattle.c_messages.specs.Weeks.{unix_week};
 ghost use Rattle.navbridge_c.specs.Conversions.{Converts};
 
-use c_messages::{PageBits, SubframeBits, SubframeRaw, WordRaw};
+use c_messages::{HeaderRaw, PageBits, SubframeBits, SubframeRaw, SubframesRaw, WordRaw, WordsRaw};
 use c_records::ItemRaw;
 use std::alloc::Global;
 
@@ -81,8 +91,7 @@ pub extern "C" fn nb_convert(
 /// Whether these bytes are one whole frame of RTCM 10403.3 with a right checksum, and nothing else.
 #[unsafe(no_mangle)]
 pub extern "C" fn nb_is_frame(bytes: &[u8]) -> bool
-    ensures frame { IsTrue result ↔
-        ((0 < length bytes.now) × (frame_size bytes.now ≡ length bytes.now)) }
+    ensures frame { IsTrue result ↔ IsFrame bytes.now }
 {
     c_messages::is_frame(bytes)
 }
@@ -107,6 +116,19 @@ pub extern "C" fn nb_message_read(payload: &[u8], week: u32, item: &mut ItemRaw)
     ensures week { (IsReference week → ⊥) → (result ≡ 22) × (item.new ≡ item.old) }
 {
     c_messages::read_message(payload, week, item)
+}
+
+/// Puts the ephemeris in message 1019 or 1046 of a whole frame, as `nb_message_read` of its payload;
+/// 26 where the bytes are not one whole frame.
+#[unsafe(no_mangle)]
+pub extern "C" fn nb_frame_read(frame: &[u8], week: u32, item: &mut ItemRaw) -> u32
+    ensures message { IsFrame frame.now → IsReference week →
+        PutsMessage (item_of_payload week (payload_of frame.now)) item.old item.new result }
+    ensures week { IsFrame frame.now → (IsReference week → ⊥) →
+        (result ≡ 22) × (item.new ≡ item.old) }
+    ensures frame { (IsFrame frame.now → ⊥) → (result ≡ 26) × (item.new ≡ item.old) }
+{
+    c_messages::read_frame(frame, week, item)
 }
 
 /// Puts the prefix that fits of the frame of the message of an ephemeris, and its size into `used`;
@@ -153,6 +175,48 @@ pub extern "C" fn nb_subframe_write(
     ensures tow_count { 100800 ≤ tow_count → (result ≡ 63) × (bits.new ≡ bits.old) }
 {
     c_messages::write_subframe(subframe, tow_count, bits)
+}
+
+/// Puts the ephemeris of subframes 1, 2 and 3 of a GPS satellite, of one issue, dated near a
+/// reference week; 22, 62 or 23 where there is none.
+#[unsafe(no_mangle)]
+pub extern "C" fn nb_subframes_join(
+    subframes: &SubframesRaw,
+    satellite: u32,
+    week: u32,
+    item: &mut ItemRaw,
+) -> u32
+    ensures joined { IsReference week → IsSat Gps satellite → AreOfIssue satellite subframes.now →
+        (result ≡ 0)
+        × (item.new ≡ raw_item (GpsItem (gps_joined week satellite subframes.now)) item.old) }
+    ensures none { IsReference week → IsSat Gps satellite →
+        (AreOfIssue satellite subframes.now → ⊥) → (result ≡ 23) × (item.new ≡ item.old) }
+    ensures satellite { IsReference week → (IsSat Gps satellite → ⊥) →
+        (result ≡ 62) × (item.new ≡ item.old) }
+    ensures week { (IsReference week → ⊥) → (result ≡ 22) × (item.new ≡ item.old) }
+{
+    c_messages::join_subframes(subframes, satellite, week, item)
+}
+
+/// Puts the ephemeris of words 1 to 5 of a Galileo satellite, of one issue, dated near a reference
+/// week; 22, 62 or 23 where there is none.
+#[unsafe(no_mangle)]
+pub extern "C" fn nb_words_join(
+    words: &WordsRaw,
+    satellite: u32,
+    week: u32,
+    item: &mut ItemRaw,
+) -> u32
+    ensures joined { IsReference week → IsSat Gal satellite → AreWords satellite words.now →
+        (result ≡ 0)
+        × (item.new ≡ raw_item (GalItem (gal_joined week satellite words.now)) item.old) }
+    ensures none { IsReference week → IsSat Gal satellite → (AreWords satellite words.now → ⊥) →
+        (result ≡ 23) × (item.new ≡ item.old) }
+    ensures satellite { IsReference week → (IsSat Gal satellite → ⊥) →
+        (result ≡ 62) × (item.new ≡ item.old) }
+    ensures week { (IsReference week → ⊥) → (result ≡ 22) × (item.new ≡ item.old) }
+{
+    c_messages::join_words(words, satellite, week, item)
 }
 
 /// Puts the content of the word of an I/NAV page received from that Galileo satellite; 62 to 71
@@ -217,6 +281,57 @@ pub extern "C" fn nb_record_write(
         (result ≡ 24) × IsLeft text.old text.new used.new }
 {
     c_messages::write_record(item, version, text, used)
+}
+
+/// How many bytes the first record of the bytes of a file has: the lines up to the next that begins
+/// one, or up to the end of the file. 0 where more bytes may decide it, and where there is none.
+#[unsafe(no_mangle)]
+pub extern "C" fn nb_record_size(text: &[u8], version: u32, is_end: bool) -> usize
+    ensures version4 { version ≡ 4 → EndsRecord rinex4 text.now is_end result }
+    ensures version3 { version ≡ 3 → EndsRecord rinex3 text.now is_end result }
+    ensures none { (IsVersion version → ⊥) → result ≡ 0 }
+{
+    c_messages::record_size(text, version, is_end)
+}
+
+/// How many bytes the header at the start of these has, with the line that ends it; 0 where none of
+/// them does.
+#[unsafe(no_mangle)]
+pub extern "C" fn nb_header_size(text: &[u8]) -> usize
+    ensures header { EndsHeader text.now result }
+{
+    c_messages::header_size(text)
+}
+
+/// Puts the prefix that fits of the header of a navigation file of version 4 or 3, and its length
+/// into `used`; 24 where there is no such version, 27 where the date or the leap seconds cannot
+/// stand in a header.
+#[unsafe(no_mangle)]
+pub extern "C" fn nb_header_write(
+    header: &HeaderRaw,
+    version: u32,
+    text: &mut [u8],
+    used: &mut usize,
+) -> u32
+    ensures status { IsVersion version → IsHeader header.now → result ≡ 0 }
+    ensures written { IsVersion version → (words : HeaderWords) → IsHeader header.now
+        → IsSaidBy header.now words
+        → StandsIn text.old text.new used.new (header_text version words) }
+    ensures none { IsVersion version → (IsHeader header.now → ⊥) →
+        (result ≡ 27) × IsLeft text.old text.new used.new }
+    ensures version { (IsVersion version → ⊥) →
+        (result ≡ 24) × IsLeft text.old text.new used.new }
+{
+    c_messages::write_header(header, version, text, used)
+}
+
+/// The week, counted from 1980-01-06, of a time in seconds from 1970-01-01; 0 in no week from 1 to
+/// 16,382.
+#[unsafe(no_mangle)]
+pub extern "C" fn nb_week_of_unix(seconds: u64) -> u32
+    ensures week { result ≡ unix_week seconds }
+{
+    c_messages::week_of_unix(seconds)
 }
 
 /// The version of the library: that of the header that fits it.
