@@ -1,5 +1,7 @@
--- Days of GLONASS: the number of a period of four years, and the day in it. Days are counted from 1980-01-06.
-use Rattle.std.specs.Prelude.{◌≡◌, ℕ, zero, suc, ◌+◌, ◌-◌, ◌*◌, ◌/◌, ◌≤◌, ◌&&◌, nat_le, nat_lt, nat_eq, if◌then◌else◌, Option, Some, None}
+-- Days of GLONASS: the number of a period of four years, and the day in it. Days are counted from
+-- 1980-01-06.
+use Rattle.std.specs.Prelude.{◌≡◌, ℕ, zero, suc, ◌+◌, ◌-◌, ◌*◌, ◌/◌, ◌≤◌, ◌&&◌, nat_le, nat_lt}
+use Rattle.std.specs.Prelude.{nat_eq, if◌then◌else◌, Option, Some, None}
 
 -- 1 January of the year 1992 + 4 n: 2100 is no leap year
 abbrev pub start : ℕ → ℕ
@@ -35,7 +37,8 @@ pub record IsNearestDay (c nt k d : ℕ) : Type 0 where
   pub few : period ≤ k
   pub has : day_of_number period nt ≡ Some d
   pub least : (j e : ℕ) → 1 ≤ j → j ≤ k → day_of_number j nt ≡ Some e → distance c d ≤ distance c e
-  pub first : (j e : ℕ) → 1 ≤ j → j ≤ k → day_of_number j nt ≡ Some e → distance c e ≡ distance c d → d ≤ e
+  pub first : (j e : ℕ) → 1 ≤ j → j ≤ k → day_of_number j nt ≡ Some e → distance c e ≡ distance c d
+      → d ≤ e
 
 -- the period of a day; 45285 is 1 January 2104
 abbrev pub period_of : ℕ → ℕ

@@ -1,5 +1,6 @@
 -- The times of GLONASS frames. Moscow time is UTC and three hours; both count days from 1980-01-06.
-use Rattle.std.specs.Prelude.{◌≡◌, ℕ, ◌+◌, ◌-◌, ◌*◌, ◌/◌, ◌≤◌, ◌&&◌, nat_eq, nat_le, if◌then◌else◌, Option, Some, None}
+use Rattle.std.specs.Prelude.{◌≡◌, ℕ, ◌+◌, ◌-◌, ◌*◌, ◌/◌, ◌≤◌, ◌&&◌, nat_eq, nat_le, if◌then◌else◌}
+use Rattle.std.specs.Prelude.{Option, Some, None}
 use Rattle.gnss_week.specs.Functions.{first_from}
 use Rattle.nav_days.specs.declared.times.FrameTime.{FrameTime}
 use Rattle.nav_days.specs.declared.times.Times.{Times}
@@ -17,16 +18,21 @@ pub record IsFrameTime (t : FrameTime) : Type 0 where
 abbrev pub time_of : FrameTime → ℕ
 time_of t = 3600 * t.hour + 60 * t.minute + 30 * t.half
 
--- the day of the frame: that of its numbers, or without them the nearest to the middle of the reference week
+-- the day of the frame: that of its numbers, or without them the nearest to the middle of the
+-- reference week
 abbrev pub day_of : FrameTime → ℕ → Option ℕ
-day_of t r = if nat_eq t.additional 1 && nat_le 1 t.period then day_of_number t.period t.day else nearest_to (7 * r + 3) t.day 36
+day_of t r = if nat_eq t.additional 1
+    && nat_le 1 t.period then day_of_number t.period t.day else nearest_to (7 * r + 3) t.day 36
 
 -- the time with the quarter of an hour nearest to Moscow time f, the later of two, in UTC
 abbrev pub epoch_at : ℕ → ℕ → ℕ
 epoch_at f quarter = first_from 86400 (f - 43199) (900 * quarter) - 10800
 
 abbrev pub times_on : FrameTime → ℕ → Times
-times_on t d = record { epoch = epoch_at (86400 * d + time_of t) t.quarter; frame = 86400 * d + time_of t - 10800 }
+times_on t d = record {
+  epoch = epoch_at (86400 * d + time_of t) t.quarter;
+  frame = 86400 * d + time_of t - 10800;
+}
 
 abbrev pub times_by : FrameTime → Option ℕ → Option Times
 times_by t None = None
@@ -36,7 +42,8 @@ times_by t (Some d) = Some (times_on t d)
 abbrev pub times_to : FrameTime → ℕ → Option Times
 times_to t r = times_by t (day_of t r)
 
--- the frame tells these times: its numbers are those of the day, and its times of day are the right ones
+-- the frame tells these times: its numbers are those of the day, and its times of day are the
+-- right ones
 pub record IsTimeOf (t : FrameTime) (times : Times) : Type 0 where
   pub range : IsFrameTime t
   pub some : 1 ≤ t.period

@@ -11,24 +11,27 @@ ghost use Rattle.nav_days.specs.Weeks.{IsWeekNear, first_week, number_of_week, w
 /// A week number stands for exactly one week near a reference week.
 pub fn one_week()
     ensures meant { (rule : WeekRule) (r n : ℕ) → IsWeekNear rule r n (week_to rule r n) }
-    ensures only { (rule : WeekRule) (r n v w : ℕ) → IsWeekNear rule r n v → IsWeekNear rule r n w → v ≡ w }
+    ensures only { (rule : WeekRule) (r n v w : ℕ) →
+        IsWeekNear rule r n v → IsWeekNear rule r n w → v ≡ w }
 {}
 
 /// The number of a week near a reference week stands for it.
 pub fn weeks_come_back()
-    ensures { (rule : WeekRule) (r w : ℕ) → first_week rule r ≤ w → w < first_week rule r + 2 ^ rule.bits →
-        week_to rule r (number_of_week rule w) ≡ w }
+    ensures { (rule : WeekRule) (r w : ℕ) → first_week rule r ≤ w →
+        w < first_week rule r + 2 ^ rule.bits → week_to rule r (number_of_week rule w) ≡ w }
 {}
 
 /// The four years of a period begin on 1 January of 1992 + 4 periods.
 pub fn days_are_dates()
-    ensures { (n : ℕ) → 1 ≤ n → n ≤ 36 → first_day +ℤ pos (start n) ≡ days_from_civil (pos (1992 + 4 * n)) 1 1 }
+    ensures { (n : ℕ) → 1 ≤ n → n ≤ 36 →
+        first_day +ℤ pos (start n) ≡ days_from_civil (pos (1992 + 4 * n)) 1 1 }
 {}
 
 /// `nearest_to` gives the nearest day of a number, the earlier of two, where there is one.
 pub fn nearest_days()
     ensures some { (c nt k d : ℕ) → nearest_to c nt k ≡ Some d → IsNearestDay c nt k d }
-    ensures none { (c nt k j d : ℕ) → nearest_to c nt k ≡ None → 1 ≤ j → j ≤ k → day_of_number j nt ≡ Some d → ⊥ }
+    ensures none { (c nt k j d : ℕ) → nearest_to c nt k ≡ None → 1 ≤ j → j ≤ k →
+        day_of_number j nt ≡ Some d → ⊥ }
 {}
 
 /// The times of a frame that was written are read back equal: with its day's numbers always, and

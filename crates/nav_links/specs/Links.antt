@@ -1,10 +1,13 @@
 -- The columns of a record by the numbers of a message, and back.
-use Rattle.std.specs.Prelude.{◌≡◌, ℕ, ◌+◌, ◌*◌, ◌/◌, ◌%◌, ◌^◌, ◌<◌, ◌&&◌, ◌||◌, not, Bool, true, false, List, [], ◌∷◌, get_or, set, take, drop, length, nat_eq, nat_le, nat_lt, ℤ, pos, neg_ℤ, ◌+ℤ◌, ◌-ℤ◌, ◌≤ℤ◌, int_le, int_lt, unsigned_abs}
+use Rattle.std.specs.Prelude.{◌≡◌, ℕ, ◌+◌, ◌*◌, ◌/◌, ◌%◌, ◌^◌, ◌<◌, ◌&&◌, ◌||◌, not, Bool, true}
+use Rattle.std.specs.Prelude.{false, List, [], ◌∷◌, get_or, set, take, drop, length, nat_eq, nat_le}
+use Rattle.std.specs.Prelude.{nat_lt, ℤ, pos, neg_ℤ, ◌+ℤ◌, ◌-ℤ◌, ◌≤ℤ◌, int_le, int_lt, unsigned_abs}
 use Rattle.nav_tables.specs.declared.field.Field.{Field as TableField}
 use Rattle.nav_tables.specs.declared.field.Coding.TheVariants.{Unsigned}
 use Rattle.nav_links.specs.declared.link.Part.{Part}
 use Rattle.nav_links.specs.declared.link.Link.{Link}
-use Rattle.nav_links.specs.declared.link.Link.TheVariants.{Field, Opposite, Raised, Parts, Given, Fixed}
+use Rattle.nav_links.specs.declared.link.Link.TheVariants.{Field, Opposite, Raised, Parts, Given}
+use Rattle.nav_links.specs.declared.link.Link.TheVariants.{Fixed}
 
 -- number k of a list, 0 past its end
 abbrev pub nth : List ℤ → ℕ → ℤ
@@ -23,14 +26,16 @@ abbrev pub column_of : List Part → Link → List ℤ → List ℤ → ℤ
 column_of parts (Field f) numbers given = nth numbers f
 column_of parts (Opposite f) numbers given = neg_ℤ (nth numbers f)
 column_of parts (Raised f plus) numbers given = nth numbers f +ℤ plus
-column_of parts (Parts first count) numbers given = pos (joined (parts_from parts first count) numbers)
+column_of parts (Parts first count) numbers given
+    = pos (joined (parts_from parts first count) numbers)
 column_of parts (Given place) numbers given = nth given place
 column_of parts (Fixed n) numbers given = n
 
 -- the columns that the numbers of a message give
 unfoldable pub columns_of : List Part → List Link → List ℤ → List ℤ → List ℤ
 columns_of parts [] numbers given = []
-columns_of parts (l ∷ ls) numbers given = column_of parts l numbers given ∷ columns_of parts ls numbers given
+columns_of parts (l ∷ ls) numbers given
+    = column_of parts l numbers given ∷ columns_of parts ls numbers given
 
 -- the numbers, those of the parts being the bits of n
 unfoldable pub split : List Part → ℕ → List ℤ → List ℤ
@@ -42,7 +47,8 @@ abbrev pub filled_by : List Part → Link → ℤ → List ℤ → List ℤ
 filled_by parts (Field f) z numbers = set numbers f z
 filled_by parts (Opposite f) z numbers = set numbers f (neg_ℤ z)
 filled_by parts (Raised f plus) z numbers = set numbers f (z -ℤ plus)
-filled_by parts (Parts first count) z numbers = split (parts_from parts first count) (unsigned_abs z) numbers
+filled_by parts (Parts first count) z numbers
+    = split (parts_from parts first count) (unsigned_abs z) numbers
 filled_by parts (Given place) z numbers = numbers
 filled_by parts (Fixed n) z numbers = numbers
 
@@ -61,7 +67,8 @@ width_of (p ∷ ps) = p.width + width_of ps
 -- parts of fields of n, of at most 32 bits together, the highest bits first
 abbrev pub are_parts : ℕ → List Part → Bool
 are_parts n [] = true
-are_parts n (p ∷ ps) = nat_lt p.field n && nat_le (p.width + p.low) 32 && nat_eq p.low (width_of ps) && are_parts n ps
+are_parts n (p ∷ ps) = nat_lt p.field n && nat_le (p.width + p.low) 32
+    && nat_eq p.low (width_of ps) && are_parts n ps
 
 -- whether a field is among these
 abbrev pub is_part : ℕ → List Part → Bool
@@ -85,8 +92,10 @@ say parts (l ∷ ls) k = says parts l k || say parts ls k
 abbrev pub is_link : ℕ → List Part → Link → Bool
 is_link n parts (Field f) = nat_lt f n
 is_link n parts (Opposite f) = nat_lt f n
-is_link n parts (Raised f plus) = nat_lt f n && int_le (pos 0 -ℤ pos 1000000) plus && int_le plus (pos 1000000)
-is_link n parts (Parts first count) = nat_le (first + count) (length parts) && are_parts n (parts_from parts first count)
+is_link n parts (Raised f plus) = nat_lt f n && int_le (pos 0 -ℤ pos 1000000) plus
+    && int_le plus (pos 1000000)
+is_link n parts (Parts first count) = nat_le (first + count) (length parts)
+    && are_parts n (parts_from parts first count)
 is_link n parts (Given place) = nat_lt place 4
 is_link n parts (Fixed m) = true
 
@@ -97,7 +106,9 @@ are_links n parts (l ∷ ls) = is_link n parts l && are_links n parts ls
 -- the numbers of parts have the bits of their parts
 abbrev pub PartsFit : List Part → List ℤ → Type 0
 PartsFit [] numbers = Unit {0}
-PartsFit (p ∷ ps) numbers = (pos 0 ≤ℤ nth numbers p.field) × (unsigned_abs (nth numbers p.field) < 2 ^ p.width) × PartsFit ps numbers
+PartsFit (p ∷ ps) numbers
+    = (pos 0 ≤ℤ nth numbers p.field) ×
+    (unsigned_abs (nth numbers p.field) < 2 ^ p.width) × PartsFit ps numbers
 
 abbrev pub IsFit : List Part → Link → List ℤ → Type 0
 IsFit parts (Field f) numbers = Unit {0}
@@ -128,7 +139,8 @@ abbrev pub is_apart : List Part → Link → List Link → Bool
 is_apart parts (Field f) ls = not (say parts ls f)
 is_apart parts (Opposite f) ls = not (say parts ls f)
 is_apart parts (Raised f plus) ls = not (say parts ls f)
-is_apart parts (Parts first count) ls = parts_once (parts_from parts first count) && parts_apart parts ls (parts_from parts first count)
+is_apart parts (Parts first count) ls = parts_once (parts_from parts first count)
+    && parts_apart parts ls (parts_from parts first count)
 is_apart parts (Given place) ls = true
 is_apart parts (Fixed n) ls = true
 
@@ -142,7 +154,8 @@ abbrev pub IsSaid : List Part → Link → List ℤ → ℤ → Type 0
 IsSaid parts (Field f) given z = Unit {0}
 IsSaid parts (Opposite f) given z = Unit {0}
 IsSaid parts (Raised f plus) given z = Unit {0}
-IsSaid parts (Parts first count) given z = (pos 0 ≤ℤ z) × (unsigned_abs z < 2 ^ width_of (parts_from parts first count))
+IsSaid parts (Parts first count) given z
+    = (pos 0 ≤ℤ z) × (unsigned_abs z < 2 ^ width_of (parts_from parts first count))
 IsSaid parts (Given place) given z = z ≡ nth given place
 IsSaid parts (Fixed n) given z = z ≡ n
 
@@ -161,7 +174,12 @@ AreSmall (z ∷ zs) = (unsigned_abs z < 2 ^ 33) × AreSmall zs
 
 -- field k of a table
 abbrev pub field_at : List TableField → ℕ → TableField
-field_at fields k = get_or fields k (record { width = 0; coding = Unsigned; low = pos 0; high = pos 0 })
+field_at fields k = get_or fields k (record {
+  width = 0;
+  coding = Unsigned;
+  low = pos 0;
+  high = pos 0;
+})
 
 abbrev pub is_middling : TableField → Bool
 is_middling f = int_le (neg_ℤ (pos 8589934591)) f.low && int_le f.high (pos 8589934591)
@@ -169,7 +187,8 @@ is_middling f = int_le (neg_ℤ (pos 8589934591)) f.low && int_le f.high (pos 85
 abbrev pub ranges_fit_parts : List TableField → List Part → Bool
 ranges_fit_parts fields [] = true
 ranges_fit_parts fields (p ∷ ps) =
-    int_le (pos 0) (field_at fields p.field).low && int_lt (field_at fields p.field).high (pos (2 ^ p.width)) && ranges_fit_parts fields ps
+    int_le (pos 0) (field_at fields p.field).low
+    && int_lt (field_at fields p.field).high (pos (2 ^ p.width)) && ranges_fit_parts fields ps
 
 abbrev pub range_fits : List TableField → List Part → Link → Bool
 range_fits fields parts (Field f) = true

@@ -52,7 +52,8 @@ fn push_columns(
     requires room { length columns.old.items + length links.now ≤ 40 }
     requires given { length given.now ≡ 4 }
     requires fit { AreFit parts.now links.now numbers.now }
-    ensures { columns.new.items ≡ columns.old.items ++ columns_of parts.now links.now numbers.now given.now }
+    ensures { columns.new.items
+        ≡ columns.old.items ++ columns_of parts.now links.now numbers.now given.now }
 {
     if let [link, rest @ ..] = links {
         columns.push(column_of(link, parts, numbers, given));

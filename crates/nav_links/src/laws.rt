@@ -6,10 +6,12 @@ ghost use Rattle.nav_links.specs.declared.link.Part.{Part};
 ghost use Rattle.nav_links.specs.Links.{AreFit, AreSaid, are_apart, are_links, columns_of, filled};
 ghost use Rattle.nav_links.specs.Links.{nth, ranges_fit, say};
 
-/// Columns give back the numbers that they are of, where those that no column says were right before.
+/// Columns give back the numbers that they are of, where those that no column says were right
+/// before.
 pub fn numbers_come_back()
     ensures { (parts : List Part) (links : List Link) (numbers given before : List ℤ) →
-        IsTrue (are_links (length before) parts links) → AreFit parts links numbers → length before ≡ length numbers →
+        IsTrue (are_links (length before) parts links) → AreFit parts links numbers →
+        length before ≡ length numbers →
         ((k : ℕ) → say parts links k ≡ false → nth before k ≡ nth numbers k) →
         filled parts links (columns_of parts links numbers given) before ≡ numbers }
 {}
@@ -17,7 +19,8 @@ pub fn numbers_come_back()
 /// The numbers that columns say give these columns back.
 pub fn columns_come_back()
     ensures { (parts : List Part) (links : List Link) (columns given before : List ℤ) →
-        IsTrue (are_links (length before) parts links) → IsTrue (are_apart parts links) → AreSaid parts links given columns →
+        IsTrue (are_links (length before) parts links) → IsTrue (are_apart parts links) →
+        AreSaid parts links given columns →
         columns_of parts links (filled parts links columns before) given ≡ columns }
 {}
 

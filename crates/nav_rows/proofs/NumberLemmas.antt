@@ -1,5 +1,7 @@
 -- The numbers of a message from which its times are taken.
-use Rattle.std.proofs.Common.{◌≡◌, ℕ, suc, ◌-◌, ◌*◌, ◌/◌, ◌^◌, ◌<◌, ◌≤◌, ◌&&◌, true, List, [], ◌∷◌, length, refl, ap, arith, ℤ, pos, negsuc, ◌≤ℤ◌, int_le, unsigned_abs, mul-le-mul}
+use Rattle.std.proofs.Common.{◌≡◌, ℕ, suc, ◌-◌, ◌*◌, ◌/◌, ◌^◌, ◌<◌, ◌≤◌, ◌&&◌, true, List, [], ◌∷◌}
+use Rattle.std.proofs.Common.{length, refl, ap, arith, ℤ, pos, negsuc, ◌≤ℤ◌, int_le, unsigned_abs}
+use Rattle.std.proofs.Common.{mul-le-mul}
 use Rattle.std.specs.Prelude.{nat_le, nat_lt}
 use Rattle.std.proofs.Math.Nat.{mul-div-le, div-le_self, pow-le-pow_right}
 use Rattle.std.proofs.lemmas.Nat.{pow_pos}
@@ -8,23 +10,15 @@ use Rattle.std.proofs.lemmas.Bool.{leb-true, ltb-true}
 use Rattle.std.proofs.lemmas.Bool.Decides.{nat_tests}
 use Rattle.nav_tables.specs.declared.field.Field.{Field as TableField}
 use Rattle.nav_tables.specs.Messages.{AreInRange}
+use Rattle.nav_tables.proofs.Surface.{both, le_z_true, range_length}
 use Rattle.nav_links.specs.Links.{nth, field_at}
-use Rattle.nav_links.proofs.LinkLemmas.{both, inside_at}
+use Rattle.nav_links.proofs.Surface.{inside_at}
 use Rattle.nav_days.specs.Weeks.{first_week, is_week_rule}
 use Rattle.nav_rows.specs.declared.kind.WeekClock.{WeekClock}
 use Rattle.nav_rows.specs.declared.kind.Clock.{Clock}
 use Rattle.nav_rows.specs.declared.kind.Clock.TheVariants.{Frame, Weeks}
 use Rattle.nav_rows.specs.Kinds.{is_within, has_frame, has_week, has_times, is_week_clock}
 use Rattle.nav_rows.specs.Times.{number, IsNumber, IsSatellite, HasFrame, HasWeek, HasTimes}
-
-pub int_le_is : (a b : ℤ) → int_le a b ≡ true → a ≤ℤ b
-int_le_is a b e = grind (arith, nat_tests, ints)
-
-pub lengths : (fs : List TableField) (zs : List ℤ) → AreInRange fs zs → length zs ≡ length fs
-lengths [] [] h = refl
-lengths [] (z ∷ zs) h = absurd h
-lengths (f ∷ fs) [] h = absurd h
-lengths (f ∷ fs) (z ∷ zs) h = ap suc (lengths fs zs h.1)
 
 abs_few : (z : ℤ) (n : ℕ) → pos 0 ≤ℤ z → z ≤ℤ pos n → unsigned_abs z ≤ n
 abs_few (pos m) n a b = omega (arith, ints)
@@ -37,25 +31,39 @@ record IsBelow (zs : List ℤ) (k high : ℕ) : Type 0 where
   pub to : nth zs k ≤ℤ pos high
   pub few : number zs k ≤ high
 
-below : (fs : List TableField) (zs : List ℤ) (k high : ℕ) → is_within fs k high ≡ true → AreInRange fs zs → IsBelow zs k high
+below : (fs : List TableField) (zs : List ℤ) (k high : ℕ) → is_within fs k high ≡ true
+    → AreInRange fs zs → IsBelow zs k high
 below fs zs k high e h =
-    let a = both (nat_lt k (length fs) && int_le (pos 0) (field_at fs k).low) (int_le (field_at fs k).high (pos high)) e in
+    let a = both (nat_lt k (length fs) && int_le (pos 0) (field_at fs k).low)
+    (int_le (field_at fs k).high (pos high)) e in
     let b = both (nat_lt k (length fs)) (int_le (pos 0) (field_at fs k).low) a.0 in
     let few : k < length fs = ltb-true k (length fs) b.0 in
     let i = inside_at fs zs k h few in
-    let x = int_le_is (pos 0) (field_at fs k).low b.1 in
-    let y = int_le_is (field_at fs k).high (pos high) a.1 in
+    let x = le_z_true (pos 0) (field_at fs k).low b.1 in
+    let y = le_z_true (field_at fs k).high (pos high) a.1 in
     let from : pos 0 ≤ℤ nth zs k = omega (arith, ints, x, i.0) in
     let to : nth zs k ≤ℤ pos high = omega (arith, ints, y, i.1) in
-    record { inside = omega (arith, few, lengths fs zs h); from = from; to = to; few = abs_few (nth zs k) high from to }
+    record {
+      inside = omega (arith, few, range_length fs zs h);
+      from = from;
+      to = to;
+      few = abs_few (nth zs k) high from to;
+    }
 
 numbered : (zs : List ℤ) (k n : ℕ) → n ≤ 604799 → IsBelow zs k n → IsNumber zs k
-numbered zs k n few h = record { inside = h.inside; from = h.from; to = omega (arith, ints, few, h.to) }
+numbered zs k n few h = record {
+  inside = h.inside;
+  from = h.from;
+  to = omega (arith, ints, few, h.to);
+}
 
-pub satellite_is : (fs : List TableField) (zs : List ℤ) → is_within fs 1 99 ≡ true → AreInRange fs zs → IsSatellite zs
-satellite_is fs zs e h = let b = below fs zs 1 99 e h in record { number = numbered zs 1 99 (omega arith) b; to = b.to }
+pub satellite_is : (fs : List TableField) (zs : List ℤ) → is_within fs 1 99 ≡ true
+    → AreInRange fs zs → IsSatellite zs
+satellite_is fs zs e h = let b
+    = below fs zs 1 99 e h in record { number = numbered zs 1 99 (omega arith) b; to = b.to }
 
-frame_is : (fs : List TableField) (zs : List ℤ) → has_frame fs ≡ true → AreInRange fs zs → HasFrame zs
+frame_is : (fs : List TableField) (zs : List ℤ) → has_frame fs ≡ true → AreInRange fs zs
+    → HasFrame zs
 frame_is fs zs e h =
     let n2 = is_within fs 32 1 in
     let n3 = is_within fs 35 31 in
@@ -85,7 +93,13 @@ frame_is fs zs e h =
       minute = numbered zs 7 59 (omega arith) minute;
       half = numbered zs 8 1 (omega arith) half;
       quarter = numbered zs 11 95 (omega arith) quarter;
-      range = record { period = period.few; hour = hour.few; minute = minute.few; half = half.few; quarter = quarter.few };
+      range = record {
+        period = period.few;
+        hour = hour.few;
+        minute = minute.few;
+        half = half.few;
+        quarter = quarter.few;
+      };
     }
 
 -- ---- weeks
@@ -102,7 +116,8 @@ pub good_clock : (c : WeekClock) → is_week_clock c ≡ true → IsGoodClock c
 good_clock c e =
     let a = both (is_week_rule c.rule && nat_le c.zero c.rule.zero) (nat_le 1 c.step) e in
     let b = both (is_week_rule c.rule) (nat_le c.zero c.rule.zero) a.0 in
-    let r = both (nat_le 1 c.rule.bits && nat_le c.rule.bits 13 && nat_le c.rule.zero 7000) (nat_le 1 (first_week c.rule 1024)) b.0 in
+    let r = both (nat_le 1 c.rule.bits && nat_le c.rule.bits 13 && nat_le c.rule.zero 7000)
+    (nat_le 1 (first_week c.rule 1024)) b.0 in
     let s = both (nat_le 1 c.rule.bits && nat_le c.rule.bits 13) (nat_le c.rule.zero 7000) r.0 in
     let t = both (nat_le 1 c.rule.bits) (nat_le c.rule.bits 13) s.0 in
     record {
@@ -120,11 +135,13 @@ second_is step n few =
     let most = mul-div-le 604799 step in
     omega arith
 
-week_is : (c : WeekClock) (fs : List TableField) (zs : List ℤ) → has_week c fs ≡ true → AreInRange fs zs → (is_week_clock c ≡ true) × HasWeek c zs
+week_is : (c : WeekClock) (fs : List TableField) (zs : List ℤ) → has_week c fs ≡ true
+    → AreInRange fs zs → (is_week_clock c ≡ true) × HasWeek c zs
 week_is c fs zs e h =
     let last = 604799 / c.step in
     let weeks = 2 ^ c.rule.bits - 1 in
-    let a = both (is_week_clock c && is_within fs c.week weeks && is_within fs c.toe last) (is_within fs c.toc last) e in
+    let a = both (is_week_clock c && is_within fs c.week weeks && is_within fs c.toe last)
+    (is_within fs c.toc last) e in
     let b = both (is_week_clock c && is_within fs c.week weeks) (is_within fs c.toe last) a.0 in
     let d = both (is_week_clock c) (is_within fs c.week weeks) b.0 in
     let g = good_clock c d.0 in
@@ -145,6 +162,7 @@ week_is c fs zs e h =
       },
     )
 
-pub times_are : (clock : Clock) (fs : List TableField) (zs : List ℤ) → has_times clock fs ≡ true → AreInRange fs zs → HasTimes clock zs
+pub times_are : (clock : Clock) (fs : List TableField) (zs : List ℤ) → has_times clock fs ≡ true
+    → AreInRange fs zs → HasTimes clock zs
 times_are Frame fs zs e h = frame_is fs zs e h
 times_are (Weeks c) fs zs e h = week_is c fs zs e h

@@ -1,5 +1,6 @@
 -- Rows of messages.
-use Rattle.std.specs.Prelude.{ℕ, ◌&&◌, ◌<◌, Bool, false, List, [], ◌∷◌, length, ℤ, pos, int_le, Option, Some, None, Result, Ok, Err, if◌then◌else◌, codes}
+use Rattle.std.specs.Prelude.{ℕ, ◌&&◌, ◌<◌, Bool, false, List, [], ◌∷◌, length, ℤ, pos, int_le}
+use Rattle.std.specs.Prelude.{Option, Some, None, Result, Ok, Err, if◌then◌else◌, codes}
 use Rattle.nav_tables.specs.declared.message.TableFault.{TableFault}
 use Rattle.nav_tables.specs.Messages.{message_in}
 use Rattle.nav_links.specs.Links.{nth, columns_of}
@@ -14,7 +15,8 @@ use Rattle.nav_rows.specs.Times.{number, times_told}
 -- the SISA index is one of 126 to 254
 abbrev pub has_spare_sisa : Option ℕ → List ℤ → Bool
 has_spare_sisa None numbers = false
-has_spare_sisa (Some f) numbers = int_le (pos 126) (nth numbers f) && int_le (nth numbers f) (pos 254)
+has_spare_sisa (Some f) numbers = int_le (pos 126) (nth numbers f)
+    && int_le (nth numbers f) (pos 254)
 
 -- the SISA index is there
 abbrev pub SisaInside : Option ℕ → List ℤ → Type 0
@@ -39,11 +41,17 @@ row_at k numbers (Some times) = Ok (record {
 
 abbrev pub row_by : Kind → ℕ → Result (List ℤ) TableFault → Result RowValue RowFault
 row_by k r (Err fault) = Err (Message fault)
-row_by k r (Ok numbers) = if has_spare_sisa k.sisa numbers then Err SpareSisa else row_at k numbers (times_told k.clock numbers r)
+row_by k r (Ok numbers)
+    = if has_spare_sisa k.sisa numbers then Err SpareSisa else row_at k numbers
+    (times_told k.clock numbers r)
 
 -- the records of a kind
 abbrev pub record_kind : Kind → RowKind
-record_kind k = record { class = codes "EPH"; message = k.title.now; rows = split_rows k.layout.rows.now k.layout.columns.now }
+record_kind k = record {
+  class = codes "EPH";
+  message = k.title.now;
+  rows = split_rows k.layout.rows.now k.layout.columns.now;
+}
 
 -- the text of a row's record
 abbrev pub record_text : Kind → RowValue → List ℕ

@@ -1,5 +1,6 @@
 -- The times that the numbers of a message tell.
-use Rattle.std.specs.Prelude.{ℕ, ◌+◌, ◌-◌, ◌*◌, ◌%◌, ◌^◌, ◌<◌, ◌≤◌, List, length, ℤ, pos, ◌≤ℤ◌, unsigned_abs, IsTrue, Option, Some, None}
+use Rattle.std.specs.Prelude.{ℕ, ◌+◌, ◌-◌, ◌*◌, ◌%◌, ◌^◌, ◌<◌, ◌≤◌, List, length, ℤ, pos, ◌≤ℤ◌}
+use Rattle.std.specs.Prelude.{unsigned_abs, IsTrue, Option, Some, None}
 use Rattle.gnss_week.specs.Functions.{moment_near}
 use Rattle.nav_links.specs.Links.{nth}
 use Rattle.nav_days.specs.declared.times.FrameTime.{FrameTime}
@@ -34,10 +35,15 @@ framed (Some t) = Some (record { epoch = t.epoch; week = 0; sent = t.frame % 604
 
 -- the epoch is nearest to toe, in the week w
 abbrev pub times_in_week : WeekClock → ℕ → ℕ → ℕ → RowTimes
-times_in_week c w toe toc = record { epoch = moment_near (604800 * w + c.step * toe) (c.step * toc); week = w - c.zero; sent = 0 }
+times_in_week c w toe toc = record {
+  epoch = moment_near (604800 * w + c.step * toe) (c.step * toc);
+  week = w - c.zero;
+  sent = 0;
+}
 
 abbrev pub weekly : WeekClock → List ℤ → ℕ → RowTimes
-weekly c numbers r = times_in_week c (week_to c.rule r (number numbers c.week)) (number numbers c.toe) (number numbers c.toc)
+weekly c numbers r = times_in_week c (week_to c.rule r (number numbers c.week))
+    (number numbers c.toe) (number numbers c.toc)
 
 -- the times of a message near reference week r
 abbrev pub times_told : Clock → List ℤ → ℕ → Option RowTimes

@@ -1,16 +1,36 @@
 -- Numbers in range have bits, which stand for them.
-use Rattle.std.proofs.Common.{◌≡◌, ℕ, suc, ◌+◌, ◌-◌, ◌*◌, ◌^◌, ◌<◌, ◌≤◌, ◌&&◌, Bool, true, false, ℤ, pos, negsuc, neg_ℤ, ◌≤ℤ◌, nat_abs, bit_and, ◌/◌, ◌%◌, w64, of_z, refl, sym, ap, ◌∙◌, arith}
+use Rattle.std.proofs.Common.{◌≡◌, ℕ, suc, ◌+◌, ◌-◌, ◌*◌, ◌^◌, ◌<◌, ◌≤◌, ◌&&◌, Bool, true, false, ℤ}
+use Rattle.std.proofs.Common.{pos, negsuc, neg_ℤ, ◌≤ℤ◌, nat_abs, bit_and, ◌/◌, ◌%◌, w64, of_z, refl}
+use Rattle.std.proofs.Common.{sym, ap, ◌∙◌, arith}
 use Rattle.std.specs.Prelude.{int_le, nat_le}
-use Rattle.std.proofs.lemmas.Nat.{mod_below, pow_pos}
+use Rattle.std.proofs.Math.Nat.{pow-suc}
+use Rattle.std.proofs.lemmas.Nat.{and_mask, mod_below, pow_pos}
+use Rattle.std.proofs.lemmas.Nat.Bits.{ones_shr}
 use Rattle.std.proofs.lemmas.Int.{ints}
 use Rattle.std.proofs.lemmas.Bool.{lt-ltb, le-ltb, leb-true}
 use Rattle.nav_bits.specs.Signed.{IsSigned, signed_of, unsigned_of}
-use Rattle.nav_bits.proofs.TwosComplement.{masked, pow_double, signed_of-cast}
-use Rattle.nav_bits.proofs.Surface.{unsigned_of-lt, signed_of-same, signed_of-unsigned}
+use Rattle.nav_bits.proofs.Surface.{unsigned_of-lt, signed_of-cast, signed_of-same}
+use Rattle.nav_bits.proofs.Surface.{signed_of-unsigned}
 use Rattle.nav_tables.specs.declared.field.Coding.{Coding}
-use Rattle.nav_tables.specs.declared.field.Coding.TheVariants.{Unsigned, TwosComplement, SignMagnitude, Reserved}
+use Rattle.nav_tables.specs.declared.field.Coding.TheVariants.{Unsigned, TwosComplement}
+use Rattle.nav_tables.specs.declared.field.Coding.TheVariants.{SignMagnitude, Reserved}
 use Rattle.nav_tables.specs.declared.field.Field.{Field}
-use Rattle.nav_tables.specs.Fields.{IsInRange, bits_by, greatest, is_field, least, number_by, sign_magnitude_bits, sign_magnitude_of}
+use Rattle.nav_tables.specs.Fields.{IsInRange, bits_by, greatest, is_field, least, number_by}
+use Rattle.nav_tables.specs.Fields.{sign_magnitude_bits, sign_magnitude_of}
+
+-- w bits hold twice what w - 1 bits hold
+pow_double : (w : ℕ) → 1 ≤ w → 2 ^ w ≡ 2 ^ (w - 1) * 2
+pow_double w h =
+    let e : w ≡ suc (w - 1) = omega arith in
+    ap (λ n. 2 ^ n) e ∙ pow-suc 2 (w - 1)
+
+-- the lowest w of 64 bits
+masked : (x w : ℕ) → w ≤ 64 → bit_and x (18446744073709551615 / 2 ^ (64 - w)) ≡ x % 2 ^ w
+masked x w h =
+    let e : 64 - (64 - w) ≡ w = omega arith in
+    let ones : 18446744073709551615 / 2 ^ (64 - w) ≡ 2 ^ w - 1
+    = ones_shr 64 (64 - w) (omega arith) ∙ ap (λ n. 2 ^ n - 1) e in
+    ap (bit_and x) ones ∙ and_mask x w
 
 pub both : (a b : Bool) → (a && b) ≡ true → (a ≡ true) × (b ≡ true)
 both true true e = (refl, refl)
@@ -29,8 +49,10 @@ pub record IsGood (f : Field) : Type 0 where
 
 pub good : (f : Field) → is_field f ≡ true → IsGood f
 good f e =
-    let a = both (nat_le 1 f.width && nat_le f.width 32 && int_le (least f.coding f.width) f.low) (int_le f.high (greatest f.coding f.width)) e in
-    let b = both (nat_le 1 f.width && nat_le f.width 32) (int_le (least f.coding f.width) f.low) a.0 in
+    let a = both (nat_le 1 f.width && nat_le f.width 32 && int_le (least f.coding f.width) f.low)
+    (int_le f.high (greatest f.coding f.width)) e in
+    let b = both (nat_le 1 f.width && nat_le f.width 32)
+    (int_le (least f.coding f.width) f.low) a.0 in
     let c = both (nat_le 1 f.width) (nat_le f.width 32) b.0 in
     record {
       some = leb-true 1 f.width c.0;
@@ -48,10 +70,15 @@ pub record Has (c : Coding) (w : ℕ) (z : ℤ) : Type 0 where
 pub has : (f : Field) (z : ℤ) → is_field f ≡ true → IsInRange f z → Has f.coding f.width z
 has f z e range =
     let g = good f e in
-    record { some = g.some; low = omega (arith, ints, g.low, range.0); high = omega (arith, ints, g.high, range.1) }
+    record {
+      some = g.some;
+      low = omega (arith, ints, g.low, range.0);
+      high = omega (arith, ints, g.high, range.1);
+    }
 
 pub is_signed : (w : ℕ) (z : ℤ) → Has TwosComplement w z → IsSigned w z
-is_signed w z h = let one : 0 < 2 ^ (w - 1) = pow_pos (w - 1) in (h.low, omega (arith, ints, h.high))
+is_signed w z h = let one : 0 < 2 ^ (w - 1)
+    = pow_pos (w - 1) in (h.low, omega (arith, ints, h.high))
 
 -- sign and magnitude
 sign_low : (w n : ℕ) → n < 2 ^ (w - 1) → sign_magnitude_of w n ≡ pos n
@@ -63,8 +90,10 @@ sign_high w n =
     let back : 2 ^ (w - 1) + n - 2 ^ (w - 1) ≡ n = omega arith in
     rw (le-ltb (2 ^ (w - 1) + n) (2 ^ (w - 1)) at_least) (ap (λ m. neg_ℤ (pos m)) back)
 
-pub sign_back : (w : ℕ) (z : ℤ) → Has SignMagnitude w z → sign_magnitude_of w (sign_magnitude_bits w z) ≡ z
-sign_back w (pos n) h = let one : 0 < 2 ^ (w - 1) = pow_pos (w - 1) in sign_low w n (omega (arith, ints, h.high))
+pub sign_back : (w : ℕ) (z : ℤ) → Has SignMagnitude w z
+    → sign_magnitude_of w (sign_magnitude_bits w z) ≡ z
+sign_back w (pos n) h = let one : 0 < 2 ^ (w - 1)
+    = pow_pos (w - 1) in sign_low w n (omega (arith, ints, h.high))
 sign_back w (negsuc n) h = sign_high w (suc n)
 
 pub sign_bits-lt : (w : ℕ) (z : ℤ) → Has SignMagnitude w z → sign_magnitude_bits w z < 2 ^ w
@@ -96,12 +125,15 @@ number_back Reserved w z h = omega (arith, ints, h.low, h.high)
 pub complement : (w n : ℕ) (z : ℤ) → 1 ≤ w → w ≤ 64 → IsSigned w z → n ≡ of_z w64 z
     → bit_and n (18446744073709551615 / 2 ^ (64 - w)) ≡ unsigned_of w z
 complement w n z some most fits e =
-    let back : signed_of w (n % 2 ^ w) ≡ z = ap (λ m. signed_of w (m % 2 ^ w)) e ∙ signed_of-cast w z some most fits in
+    let back : signed_of w (n % 2 ^ w) ≡ z = ap (λ m. signed_of w (m % 2 ^ w)) e
+    ∙ signed_of-cast w z some most fits in
     masked n w most
-    ∙ signed_of-same w (n % 2 ^ w) (unsigned_of w z) some (mod_below n (2 ^ w) (pow_pos w)) (unsigned_of-lt w z some fits)
+    ∙ signed_of-same w (n % 2 ^ w) (unsigned_of w z) some (mod_below n (2 ^ w) (pow_pos w))
+    (unsigned_of-lt w z some fits)
     (back ∙ sym (signed_of-unsigned w z some fits))
 
-pub abs-lt : (w : ℕ) (z : ℤ) → 1 ≤ w → z ≤ℤ greatest SignMagnitude w → pos 0 ≤ℤ z → nat_abs z < 2 ^ w
+pub abs-lt : (w : ℕ) (z : ℤ) → 1 ≤ w → z ≤ℤ greatest SignMagnitude w → pos 0 ≤ℤ z
+    → nat_abs z < 2 ^ w
 abs-lt w (pos n) some high low =
     let one : 0 < 2 ^ (w - 1) = pow_pos (w - 1) in
     let double : 2 ^ w ≡ 2 ^ (w - 1) * 2 = pow_double w some in

@@ -1,3 +1,4 @@
 pub mod FieldLemmas
 pub mod MessageLemmas
 pub mod LoopLemmas
+pub mod Surface

@@ -1,8 +1,10 @@
 -- A field of a message, and the number that its bits stand for.
-use Rattle.std.specs.Prelude.{◌≡◌, ℕ, suc, ◌+◌, ◌-◌, ◌^◌, ◌&&◌, Bool, ℤ, pos, negsuc, neg_ℤ, ◌≤ℤ◌, int_le, nat_le, nat_lt, unsigned_abs, if◌then◌else◌}
+use Rattle.std.specs.Prelude.{◌≡◌, ℕ, suc, ◌+◌, ◌-◌, ◌^◌, ◌&&◌, Bool, ℤ, pos, negsuc, neg_ℤ, ◌≤ℤ◌}
+use Rattle.std.specs.Prelude.{int_le, nat_le, nat_lt, unsigned_abs, if◌then◌else◌}
 use Rattle.nav_bits.specs.Signed.{signed_of, unsigned_of}
 use Rattle.nav_tables.specs.declared.field.Coding.{Coding}
-use Rattle.nav_tables.specs.declared.field.Coding.TheVariants.{Unsigned, TwosComplement, SignMagnitude, Reserved}
+use Rattle.nav_tables.specs.declared.field.Coding.TheVariants.{Unsigned, TwosComplement}
+use Rattle.nav_tables.specs.declared.field.Coding.TheVariants.{SignMagnitude, Reserved}
 use Rattle.nav_tables.specs.declared.field.Field.{Field}
 
 -- the value of w bits whose first is a sign and whose others are a magnitude
@@ -49,7 +51,8 @@ greatest Reserved w = pos 0
 
 -- 1 to 32 bits, and a range that they have bits for
 abbrev pub is_field : Field → Bool
-is_field f = nat_le 1 f.width && nat_le f.width 32 && int_le (least f.coding f.width) f.low && int_le f.high (greatest f.coding f.width)
+is_field f = nat_le 1 f.width && nat_le f.width 32 && int_le (least f.coding f.width) f.low
+    && int_le f.high (greatest f.coding f.width)
 
 -- the number is in the range of its field
 abbrev pub IsInRange : Field → ℤ → Type 0

@@ -1,5 +1,6 @@
 -- Messages by tables of fields.
-use Rattle.std.specs.Prelude.{ℕ, ◌+◌, ◌*◌, ◌&&◌, Bool, true, List, [], ◌∷◌, length, ℤ, nat_eq, nat_le, nat_lt, Option, Some, None, Result, Ok, Err, if◌then◌else◌}
+use Rattle.std.specs.Prelude.{ℕ, ◌+◌, ◌*◌, ◌&&◌, Bool, true, List, [], ◌∷◌, length, ℤ, nat_eq}
+use Rattle.std.specs.Prelude.{nat_le, nat_lt, Option, Some, None, Result, Ok, Err, if◌then◌else◌}
 use Rattle.nav_bits.specs.Bits.{number_at}
 use Rattle.nav_bits.specs.Fields.{Field as Row, unsigned}
 use Rattle.nav_bits.specs.Packed.{packed}
@@ -20,7 +21,8 @@ are_fields (f ∷ fs) = is_field f && are_fields fs
 
 -- at most 48 fields, which fill the bytes
 abbrev pub is_table : Table → Bool
-is_table t = are_fields t.fields.now && nat_le (length t.fields.now) 48 && nat_le t.bytes 192 && nat_eq (width_of t.fields.now) (8 * t.bytes)
+is_table t = are_fields t.fields.now && nat_le (length t.fields.now) 48 && nat_le t.bytes 192
+    && nat_eq (width_of t.fields.now) (8 * t.bytes)
 
 -- as many numbers as fields, each in its field's range
 abbrev pub AreInRange : List Field → List ℤ → Type 0
@@ -42,12 +44,14 @@ message_bytes t numbers = packed t.bytes (rows t.fields.now numbers)
 -- the numbers of adjacent fields from bit offset at
 unfoldable pub numbers_at : List ℕ → ℕ → List Field → List ℤ
 numbers_at bytes at [] = []
-numbers_at bytes at (f ∷ fs) = number_of f (number_at bytes at f.width) ∷ numbers_at bytes (at + f.width) fs
+numbers_at bytes at (f ∷ fs)
+    = number_of f (number_at bytes at f.width) ∷ numbers_at bytes (at + f.width) fs
 
 -- the bits of each field are those of its number
 unfoldable pub ArePlain : List ℕ → ℕ → List Field → Type 0
 ArePlain bytes at [] = Unit {0}
-ArePlain bytes at (f ∷ fs) = IsPlain f (number_at bytes at f.width) × ArePlain bytes (at + f.width) fs
+ArePlain bytes at (f ∷ fs)
+    = IsPlain f (number_at bytes at f.width) × ArePlain bytes (at + f.width) fs
 
 -- the offset of the first number outside its field's range, counted from k
 unfoldable pub first_outside : ℕ → List Field → List ℤ → Option ℕ
@@ -63,4 +67,5 @@ judged numbers (Some k) = Err (OutOfRange k)
 unfoldable pub message_in : Table → List ℕ → Result (List ℤ) TableFault
 message_in t bytes =
     if nat_lt (length bytes) t.bytes then Err Short
-    else judged (numbers_at bytes 0 t.fields.now) (first_outside 0 t.fields.now (numbers_at bytes 0 t.fields.now))
+    else judged (numbers_at bytes 0 t.fields.now)
+    (first_outside 0 t.fields.now (numbers_at bytes 0 t.fields.now))

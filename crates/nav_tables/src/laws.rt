@@ -12,8 +12,8 @@ pub fn numbers_are_in_range()
 
 /// What is written is read back equal.
 pub fn written_is_read()
-    ensures { (t : Table) (numbers : List ℤ) → IsTrue (is_table t) → AreInRange t.fields.now numbers →
-        message_in t (message_bytes t numbers) ≡ Ok numbers }
+    ensures { (t : Table) (numbers : List ℤ) → IsTrue (is_table t) →
+        AreInRange t.fields.now numbers → message_in t (message_bytes t numbers) ≡ Ok numbers }
 {}
 
 /// What is read is written as the same bytes, where reserved bits are 0 and no 0 has a sign.

@@ -3,7 +3,9 @@ use Rattle.nav_days.proofs.WeekLemmas.{good_rule}
 use Rattle.nav_days.proofs.week.rollover.Goals as goal
 
 pub returns-clause-some : goal.returns-clause-some
-returns-clause-some c = let g = good_rule c.args.rule.now c.requires in omega (arith, g.some, g.most)
+returns-clause-some c = let g
+    = good_rule c.args.rule.now c.requires in omega (arith, g.some, g.most)
 
 pub returns-clause-most : goal.returns-clause-most
-returns-clause-most c = let g = good_rule c.args.rule.now c.requires in omega (arith, g.some, g.most)
+returns-clause-most c = let g
+    = good_rule c.args.rule.now c.requires in omega (arith, g.some, g.most)

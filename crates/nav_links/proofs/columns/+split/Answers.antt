@@ -15,5 +15,7 @@ returns-in-len1-up-clause-value t c =
     let zs = c.args.numbers.now in
     let fits : SFits w64 c.part_of.result = search rules in
     let same = to_z-of_z w64 c.part_of.result fits ∙ c.part_of.ensures in
-    c.split.ensures.value ∙ ap (λ z. split (take (length ps - 1) (drop 1 ps)) c.args.bits (set zs (get_or ps 0 none).field z)) same
+    c.split.ensures.value
+    ∙ ap (λ z. split (take (length ps - 1) (drop 1 ps)) c.args.bits
+    (set zs (get_or ps 0 none).field z)) same
     ∙ sym (split_first ps c.args.bits zs none c.in-len1-up.len_at_least)

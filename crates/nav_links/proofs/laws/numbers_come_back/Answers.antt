@@ -4,4 +4,8 @@ use Rattle.nav_links.proofs.laws.numbers_come_back.Goals as goal
 
 pub returns : goal.returns
 returns c = λ parts links numbers given before good fit count each.
-    right_all (length before) parts links numbers given before good fit (record { count = count; few = refl; each = each })
+    right_all (length before) parts links numbers given before good fit (record {
+      count = count;
+      few = refl;
+      each = each;
+    })

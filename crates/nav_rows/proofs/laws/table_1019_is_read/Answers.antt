@@ -20,10 +20,14 @@ returns-clause-taken c t bytes content f b h =
       (omega (arith, ints, n), omega (arith, ints, n)),
       (
         (omega (arith, ints, m.some), omega (arith, ints, m.most_is)),
-        ((omega (arith, ints), omega (arith, ints, m.toc_is)), ((omega (arith, ints), omega (arith, ints, m.toe_is)), tt)),
+        (
+          (omega (arith, ints), omega (arith, ints, m.toc_is)),
+          ((omega (arith, ints), omega (arith, ints, m.toe_is)), tt),
+        ),
       ),
     ) in
-    taken t bytes good few told ∙ ap (λ fs. Ok (numbers_at bytes 0 fs)) f ∙ ap Ok (returns-clause-numbers c bytes)
+    taken t bytes good few told ∙ ap (λ fs. Ok (numbers_at bytes 0 fs)) f
+    ∙ ap Ok (returns-clause-numbers c bytes)
     ∙ ap (λ k. Ok (numbers_1019 k (message1019_at bytes 0))) n
 
 pub returns-clause-back : goal.returns-clause-back

@@ -12,4 +12,5 @@ write_row-requires-clause-ready g c =
 pub returns : goal.returns
 returns g c =
     let rows = rows_are c.args.kind.now c.requires.kind in
-    rw (← c.as_slice.ensures.value) (c.write_row.ensures (record_kind c.args.kind.now) refl refl rows.columns rows.rows)
+    rw (← c.as_slice.ensures.value)
+    (c.write_row.ensures (record_kind c.args.kind.now) refl refl rows.columns rows.rows)

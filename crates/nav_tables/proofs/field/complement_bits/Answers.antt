@@ -14,4 +14,5 @@ returns-clause-same c =
 pub returns-clause-fits : goal.returns-clause-fits
 returns-clause-fits c =
     let w = c.args.width in
-    subst (λ n. n < 2 ^ w) (sym (returns-clause-same c)) (unsigned_of-lt w c.args.number c.requires.some c.requires.range)
+    subst (λ n. n < 2 ^ w) (sym (returns-clause-same c))
+    (unsigned_of-lt w c.args.number c.requires.some c.requires.range)
