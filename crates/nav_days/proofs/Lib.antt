@@ -1,2 +1,4 @@
 pub mod WeekLemmas
 pub mod DayLemmas
+pub mod FrameLemmas
+pub mod Surface

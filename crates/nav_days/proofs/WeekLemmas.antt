@@ -3,7 +3,7 @@ use Rattle.std.proofs.Common.{◌≡◌, ℕ, ◌+◌, ◌-◌, ◌*◌, ◌/◌
 use Rattle.std.proofs.Common.{Bool, true, false, refl, sym, ap, ◌∙◌, arith, mul-le-mul}
 use Rattle.std.proofs.Math.Nat.{add-mul-mod_self_right}
 use Rattle.std.specs.Prelude.{nat_le}
-use Rattle.std.proofs.Math.Nat.{pow-le-pow_right, mod-add-div'}
+use Rattle.std.proofs.Math.Nat.{mod-eq_of_lt, pow-le-pow_right, mod-add-div'}
 use Rattle.std.proofs.lemmas.Nat.{mod_below, pow_pos}
 use Rattle.std.proofs.lemmas.Bool.{leb-true}
 use Rattle.nav_days.specs.declared.week.WeekRule.{WeekRule}
@@ -101,6 +101,24 @@ pub week_again : (rule : WeekRule) (r w : ℕ) → first_week rule r ≤ w
 week_again rule r w from to =
     near_only rule r (number_of_week rule w) _ w (near_is rule r (number_of_week rule w))
     (number_near rule r w from to)
+
+-- the week of a number has it
+pub number_again : (rule : WeekRule) (r n : ℕ) → n < 2 ^ rule.bits
+    → number_of_week rule (week_to rule r n) ≡ n
+number_again rule r n few =
+    let p = 2 ^ rule.bits in
+    let some : 0 < p = pow_pos rule.bits in
+    let w = week_to rule r n in
+    let s = rule.zero % p in
+    let less : s < p = mod_below rule.zero p some in
+    let same : w % p ≡ (n + rule.zero) % p = (near_is rule r n).same in
+    let whole = mod-add-div' rule.zero p in
+    let of_week = mod-add-div' w p in
+    let of_number = mod-add-div' (n + rule.zero) p in
+    let y = w + p - s in
+    let turned : y + ((n + rule.zero) / p) * p ≡ n + (w / p + rule.zero / p + 1) * p
+    = omega (arith, less, same, whole, of_week, of_number) in
+    same_rest y n ((n + rule.zero) / p) (w / p + rule.zero / p + 1) p turned ∙ mod-eq_of_lt few
 
 -- what a rule of weeks keeps
 pub record IsGoodRule (rule : WeekRule) : Type 0 where

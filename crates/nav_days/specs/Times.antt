@@ -1,10 +1,12 @@
 -- The times of GLONASS frames. Moscow time is UTC and three hours; both count days from 1980-01-06.
-use Rattle.std.specs.Prelude.{◌≡◌, ℕ, ◌+◌, ◌-◌, ◌*◌, ◌/◌, ◌≤◌, ◌&&◌, nat_eq, nat_le, if◌then◌else◌}
-use Rattle.std.specs.Prelude.{Option, Some, None}
+use Rattle.std.specs.Prelude.{◌≡◌, ℕ, ◌+◌, ◌-◌, ◌*◌, ◌/◌, ◌%◌, ◌≤◌, ◌&&◌, Bool, not, nat_eq, nat_le}
+use Rattle.std.specs.Prelude.{nat_lt, if◌then◌else◌, Option, Some, None, Result, Ok, Err}
 use Rattle.gnss_week.specs.Functions.{first_from}
 use Rattle.nav_days.specs.declared.times.FrameTime.{FrameTime}
 use Rattle.nav_days.specs.declared.times.Times.{Times}
-use Rattle.nav_days.specs.Days.{day_of_number, nearest_to}
+use Rattle.nav_days.specs.declared.times.TimeFault.{TimeFault}
+use Rattle.nav_days.specs.declared.times.TimeFault.TheVariants.{Epoch, Sent, Day}
+use Rattle.nav_days.specs.Days.{day_of_number, nearest_to, period_of, start}
 
 -- the numbers of a message are in range
 pub record IsFrameTime (t : FrameTime) : Type 0 where
@@ -49,3 +51,35 @@ pub record IsTimeOf (t : FrameTime) (times : Times) : Type 0 where
   pub some : 1 ≤ t.period
   pub day : day_of_number t.period t.day ≡ Some ((times.frame + 10800) / 86400)
   pub time : times_on t ((times.frame + 10800) / 86400) ≡ times
+
+-- the frame is at a half minute, less than twelve hours from the epoch
+abbrev pub is_sent : ℕ → ℕ → Bool
+is_sent epoch frame = nat_eq (frame % 30) 0 && nat_lt frame (epoch + 43200)
+    && nat_lt epoch (frame + 43200)
+
+-- the day in Moscow is one of 1996 to 2119
+abbrev pub has_day : ℕ → Bool
+has_day frame = nat_le 504489600 frame && nat_lt frame 4417545600
+
+-- the numbers of a frame without additional data, from Moscow times
+abbrev pub frame_told : ℕ → ℕ → FrameTime
+frame_told epoch frame = record {
+  additional = 0;
+  period = period_of (frame / 86400);
+  day = frame / 86400 - start (period_of (frame / 86400)) + 1;
+  hour = frame % 86400 / 3600;
+  minute = frame % 86400 / 60 % 60;
+  half = frame % 86400 / 30 % 2;
+  quarter = epoch % 86400 / 900;
+}
+
+abbrev pub frame_by : ℕ → ℕ → Result FrameTime TimeFault
+frame_by epoch frame =
+    if not (nat_eq (epoch % 900) 0) then Err Epoch
+    else if not (is_sent epoch frame) then Err Sent
+    else if not (has_day frame) then Err Day
+    else Ok (frame_told epoch frame)
+
+-- the numbers of the frame of these times, without additional data, or the first fault
+unfoldable pub frame_in : Times → Result FrameTime TimeFault
+frame_in times = frame_by (times.epoch + 10800) (times.frame + 10800)

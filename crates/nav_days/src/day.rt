@@ -1,4 +1,4 @@
-ghost use Rattle.std.specs.Prelude.{◌≡◌, ◌≤◌, ◌<◌, ◌+◌, MatchOption, Some, None, ℕ};
+ghost use Rattle.std.specs.Prelude.{◌≡◌, ◌≤◌, ◌<◌, ◌+◌, ◌-◌, MatchOption, Some, None, ℕ};
 ghost use Rattle.nav_days.specs.Days.{IsNearestDay, day_of_number, days_of, distance, nearer};
 ghost use Rattle.nav_days.specs.Days.{nearest_to, period_of, start};
 
@@ -77,6 +77,7 @@ pub fn number_of_day(day: u32) -> (u32, u32)
     requires from { 5839 ≤ day }
     requires to { day < 56973 }
     ensures period { result.0 ≡ period_of day }
+    ensures number { result.1 ≡ day - start (period_of day) + 1 }
     ensures few { result.0 ≤ 35 }
     ensures again { day_of_number result.0 result.1 ≡ Some day }
 {

@@ -1,10 +1,11 @@
-ghost use Rattle.std.specs.Prelude.{◌≡◌, ◌≤◌, ◌<◌, ◌+◌, ◌^◌, ◌*◌, ◌/◌, ℕ, pos, Some, None, ◌+ℤ◌};
+ghost use Rattle.std.specs.Prelude.{◌≡◌, ◌≤◌, ◌<◌, ◌+◌, ◌^◌, ◌*◌, ◌/◌, ℕ, pos, Ok, Some, None};
+ghost use Rattle.std.specs.Prelude.{◌+ℤ◌};
 ghost use Rattle.jiff_core.specs.Calendar.{days_from_civil};
 ghost use Rattle.gnss_week.specs.Dates.{first_day};
 ghost use Rattle.nav_days.specs.Days.{IsNearestDay, day_of_number, distance, nearest_to, start};
 ghost use Rattle.nav_days.specs.declared.times.FrameTime.{FrameTime};
 ghost use Rattle.nav_days.specs.declared.times.Times.{Times};
-ghost use Rattle.nav_days.specs.Times.{IsTimeOf, times_to};
+ghost use Rattle.nav_days.specs.Times.{IsTimeOf, frame_in, times_to};
 ghost use Rattle.nav_days.specs.declared.week.WeekRule.{WeekRule};
 ghost use Rattle.nav_days.specs.Weeks.{IsWeekNear, first_week, number_of_week, week_to};
 
@@ -15,10 +16,12 @@ pub fn one_week()
         IsWeekNear rule r n v → IsWeekNear rule r n w → v ≡ w }
 {}
 
-/// The number of a week near a reference week stands for it.
+/// The number of a week near a reference week stands for it, and the week of a number has it.
 pub fn weeks_come_back()
-    ensures { (rule : WeekRule) (r w : ℕ) → first_week rule r ≤ w →
+    ensures week { (rule : WeekRule) (r w : ℕ) → first_week rule r ≤ w →
         w < first_week rule r + 2 ^ rule.bits → week_to rule r (number_of_week rule w) ≡ w }
+    ensures number { (rule : WeekRule) (r n : ℕ) → n < 2 ^ rule.bits →
+        number_of_week rule (week_to rule r n) ≡ n }
 {}
 
 /// The four years of a period begin on 1 January of 1992 + 4 periods.
@@ -32,6 +35,12 @@ pub fn nearest_days()
     ensures some { (c nt k d : ℕ) → nearest_to c nt k ≡ Some d → IsNearestDay c nt k d }
     ensures none { (c nt k j d : ℕ) → nearest_to c nt k ≡ None → 1 ≤ j → j ≤ k →
         day_of_number j nt ≡ Some d → ⊥ }
+{}
+
+/// The numbers that `frame_in` gives are those of a frame without additional data at these times.
+pub fn frames_are_of_times()
+    ensures { (times : Times) (t : FrameTime) → frame_in times ≡ Ok t →
+        IsTimeOf t times × (t.additional ≡ 0) }
 {}
 
 /// The times of a frame that was written are read back equal: with its day's numbers always, and

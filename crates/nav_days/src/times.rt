@@ -1,8 +1,8 @@
-ghost use Rattle.std.specs.Prelude.{◌≡◌, ◌≤◌, ◌<◌, ◌+◌, ◌*◌, ◌-◌, ◌%◌, ◌/◌, IfOk, IfSome};
+ghost use Rattle.std.specs.Prelude.{◌≡◌, ◌≤◌, ◌<◌, ◌+◌, ◌*◌, ◌-◌, ◌%◌, ◌/◌, IfSome};
 ghost use Rattle.std.specs.Prelude.{MatchOption, Some};
 ghost use Rattle.nav_days.specs.Days.{day_of_number};
-ghost use Rattle.nav_days.specs.Times.{IsFrameTime, IsTimeOf, day_of, epoch_at, time_of, times_on};
-ghost use Rattle.nav_days.specs.Times.{times_to};
+ghost use Rattle.nav_days.specs.Times.{IsFrameTime, day_of, epoch_at, frame_in, frame_told};
+ghost use Rattle.nav_days.specs.Times.{has_day, is_sent, time_of, times_on, times_to};
 
 use crate::day::{day_of_number, nearest_day, number_of_day};
 use gnss_week::{Moment, RefWeek};
@@ -35,7 +35,7 @@ pub struct Times {
     pub frame: Moment,
 }
 
-/// Why times are not those of a frame.
+/// Why times are not those of a frame: the first of these that holds, in this order.
 #[derive(Clone, Copy, PartialEq, Eq, Debug)]
 pub enum TimeFault {
     /// The epoch is no quarter of an hour.
@@ -105,24 +105,31 @@ pub fn times_of(time: &FrameTime, reference: RefWeek) -> Option<Times>
     }
 }
 
-/// The times of a frame as its message tells them, without additional data.
-pub fn frame_time(times: &Times) -> Result<FrameTime, TimeFault>
-    ensures { IfOk result (λ t. IsTimeOf t times.now × (t.additional ≡ 0)) }
+// Whether the frame is at a half minute, less than twelve hours from the epoch.
+fn is_sent(epoch: u64, frame: u64) -> bool
+    requires epoch { epoch < 10000000000 }
+    requires frame { frame < 10000000000 }
+    ensures { result ≡ is_sent epoch frame }
 {
-    let epoch = times.epoch.value() + 10_800;
-    let near = times.frame.value() + 10_800;
-    if epoch % 900 != 0 {
-        return Err(TimeFault::Epoch);
-    }
-    if near % 30 != 0 || epoch + 43_199 < near || near + 43_199 < epoch {
-        return Err(TimeFault::Sent);
-    }
-    if near < 504_489_600 || near >= 4_417_545_600 {
-        return Err(TimeFault::Day);
-    }
-    let (period, day) = number_of_day((near / 86_400) as u32);
-    let time = (near % 86_400) as u32;
-    Ok(FrameTime {
+    frame % 30 == 0 && frame < epoch + 43_200 && epoch < frame + 43_200
+}
+
+// Whether the day in Moscow is one of 1996 to 2119.
+fn has_day(frame: u64) -> bool
+    ensures { result ≡ has_day frame }
+{
+    frame >= 504_489_600 && frame < 4_417_545_600
+}
+
+// The numbers of a frame, from Moscow times.
+fn frame_told(epoch: u64, frame: u64) -> FrameTime
+    requires from { 504489600 ≤ frame }
+    requires to { frame < 4417545600 }
+    ensures { result ≡ frame_told epoch frame }
+{
+    let (period, day) = number_of_day((frame / 86_400) as u32);
+    let time = (frame % 86_400) as u32;
+    FrameTime {
         additional: 0,
         period,
         day,
@@ -130,5 +137,26 @@ pub fn frame_time(times: &Times) -> Result<FrameTime, TimeFault>
         minute: time / 60 % 60,
         half: time / 30 % 2,
         quarter: (epoch % 86_400 / 900) as u32,
-    })
+    }
+}
+
+/// The times of a frame as its message tells them, without additional data.
+///
+/// The error is the first fault, in the order of [`TimeFault`].
+#[tactic(auto, unfolding(crate::specs::Times::frame_in))]
+pub fn frame_time(times: &Times) -> Result<FrameTime, TimeFault>
+    ensures value { result ≡ frame_in times.now }
+{
+    let epoch = times.epoch.value() + 10_800;
+    let frame = times.frame.value() + 10_800;
+    if epoch % 900 != 0 {
+        return Err(TimeFault::Epoch);
+    }
+    if !is_sent(epoch, frame) {
+        return Err(TimeFault::Sent);
+    }
+    if !has_day(frame) {
+        return Err(TimeFault::Day);
+    }
+    Ok(frame_told(epoch, frame))
 }

@@ -1,6 +1,6 @@
 -- Columns and numbers give each other.
 use Rattle.std.proofs.Common.{◌≡◌, ◌≢◌, ℕ, zero, suc, ◌+◌, ◌-◌, ◌*◌, ◌/◌, ◌%◌, ◌^◌, ◌<◌, ◌≤◌, ◌&&◌}
-use Rattle.std.proofs.Common.{◌||◌, not, Bool, true, false, List, [], ◌∷◌, length, take, drop}
+use Rattle.std.proofs.Common.{◌||◌, not, Bool, true, false, List, [], ◌∷◌, length, take, drop, ◌++◌}
 use Rattle.std.proofs.Common.{get_or, set, refl, sym, ap, ◌∙◌, subst, arith, ℤ, pos, negsuc, neg_ℤ}
 use Rattle.std.proofs.Common.{◌+ℤ◌, ◌-ℤ◌, ◌≤ℤ◌, ◌<ℤ◌, int_le, int_lt, unsigned_abs}
 use Rattle.std.specs.Prelude.{nat_eq, nat_le, nat_lt}
@@ -430,3 +430,69 @@ fit_all fs parts (l ∷ ls) zs e r h =
     let a = both (is_link (length fs) parts l) (are_links (length fs) parts ls) e in
     let b = both (range_fits fs parts l) (ranges_fit fs parts ls) r in
     (fit_link fs parts l zs a.0 b.0 h, fit_all fs parts ls zs a.1 b.1 h)
+
+-- ---- links behind others
+
+pub columns_append : (parts : List Part) (ls ms : List Link) (zs given : List ℤ)
+    → columns_of parts (ls ++ ms) zs given ≡ columns_of parts ls zs given
+    ++ columns_of parts ms zs given
+unfolding columns_of
+columns_append parts [] ms zs given = refl
+columns_append parts (l ∷ ls) ms zs given =
+    ap (λ cs. column_of parts l zs given ∷ cs) (columns_append parts ls ms zs given)
+
+pub columns_length : (parts : List Part) (ls : List Link) (zs given : List ℤ)
+    → length (columns_of parts ls zs given) ≡ length ls
+unfolding columns_of
+columns_length parts [] zs given = refl
+columns_length parts (l ∷ ls) zs given = ap suc (columns_length parts ls zs given)
+
+-- column k
+pub column_at : (parts : List Part) (ls : List Link) (k : ℕ) (zs given : List ℤ) (d : Link)
+    → k < length ls → nth (columns_of parts ls zs given) k ≡ column_of parts
+    (get_or ls k d) zs given
+unfolding columns_of
+column_at parts [] k zs given d few = absurd (omega arith)
+column_at parts (l ∷ ls) zero zs given d few = refl
+column_at parts (l ∷ ls) (suc k) zs given d few = column_at parts ls k zs given d (omega arith)
+
+pub filled_append : (parts : List Part) (ls ms : List Link) (cs ds zs : List ℤ)
+    → length cs ≡ length ls
+    → filled parts (ls ++ ms) (cs ++ ds) zs ≡ filled parts ms ds (filled parts ls cs zs)
+unfolding filled
+filled_append parts [] ms [] ds zs e = refl
+filled_append parts [] ms (c ∷ cs) ds zs e = absurd (omega arith)
+filled_append parts (l ∷ ls) ms [] ds zs e = absurd (omega arith)
+filled_append parts (l ∷ ls) ms (c ∷ cs) ds zs e =
+    filled_append parts ls ms cs ds (filled_by parts l c zs) (omega arith)
+
+pub filled_length : (parts : List Part) (ls : List Link) (cs zs : List ℤ)
+    → length (filled parts ls cs zs) ≡ length zs
+unfolding filled
+filled_length parts [] cs zs = refl
+filled_length parts (l ∷ ls) [] zs = refl
+filled_length parts (l ∷ ls) (c ∷ cs) zs =
+    filled_length parts ls cs (filled_by parts l c zs) ∙ link_length parts l c zs
+
+pub links_append : (n : ℕ) (parts : List Part) (ls ms : List Link)
+    → are_links n parts (ls ++ ms) ≡ true
+    → (are_links n parts ls ≡ true) × (are_links n parts ms ≡ true)
+links_append n parts [] ms e = (refl, e)
+links_append n parts (l ∷ ls) ms e =
+    let a = both (is_link n parts l) (are_links n parts (ls ++ ms)) e in
+    let b = links_append n parts ls ms a.1 in
+    (rw (a.0, b.0) refl, b.1)
+
+pub fit_append : (parts : List Part) (ls ms : List Link) (zs : List ℤ) → AreFit parts ls zs
+    → AreFit parts ms zs → AreFit parts (ls ++ ms) zs
+fit_append parts [] ms zs a b = b
+fit_append parts (l ∷ ls) ms zs a b = (a.0, fit_append parts ls ms zs a.1 b)
+
+pub said_append : (parts : List Part) (ls ms : List Link) (given cs ds : List ℤ)
+    → AreSaid parts ls given cs → AreSaid parts ms given ds
+    → AreSaid parts (ls ++ ms) given (cs ++ ds)
+said_append parts [] ms given [] ds a b = b
+said_append parts [] ms given (c ∷ cs) ds a b = absurd a
+said_append parts (l ∷ ls) ms given [] ds a b = absurd a
+said_append parts (l ∷ ls) ms given (c ∷ cs) ds a b
+    = (a.0, said_append parts ls ms given cs ds a.1 b)

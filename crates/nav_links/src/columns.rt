@@ -46,10 +46,10 @@ fn push_columns(
     parts: &[Part],
     numbers: &[i64],
     given: &[i64],
-    columns: &mut ArrayVec<i64, 40>,
+    columns: &mut ArrayVec<i64, 29>,
 )
     requires links { IsTrue (are_links (length numbers.now) parts.now links.now) }
-    requires room { length columns.old.items + length links.now ≤ 40 }
+    requires room { length columns.old.items + length links.now ≤ 29 }
     requires given { length given.now ≡ 4 }
     requires fit { AreFit parts.now links.now numbers.now }
     ensures { columns.new.items
@@ -68,9 +68,9 @@ pub fn columns_of(
     parts: &[Part],
     numbers: &[i64],
     given: &[i64],
-) -> ArrayVec<i64, 40>
+) -> ArrayVec<i64, 29>
     requires links { IsTrue (are_links (length numbers.now) parts.now links.now) }
-    requires few { length links.now ≤ 40 }
+    requires few { length links.now ≤ 29 }
     requires given { length given.now ≡ 4 }
     requires fit { AreFit parts.now links.now numbers.now }
     ensures { result.items ≡ columns_of parts.now links.now numbers.now given.now }

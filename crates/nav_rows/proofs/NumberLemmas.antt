@@ -1,13 +1,12 @@
 -- The numbers of a message from which its times are taken.
-use Rattle.std.proofs.Common.{◌≡◌, ℕ, suc, ◌-◌, ◌*◌, ◌/◌, ◌^◌, ◌<◌, ◌≤◌, ◌&&◌, true, List, [], ◌∷◌}
-use Rattle.std.proofs.Common.{length, refl, ap, arith, ℤ, pos, negsuc, ◌≤ℤ◌, int_le, unsigned_abs}
+use Rattle.std.proofs.Common.{◌≡◌, ℕ, ◌-◌, ◌*◌, ◌/◌, ◌^◌, ◌<◌, ◌≤◌, ◌&&◌, true, List}
+use Rattle.std.proofs.Common.{length, arith, ℤ, pos, negsuc, ◌≤ℤ◌, int_le, unsigned_abs}
 use Rattle.std.proofs.Common.{mul-le-mul}
 use Rattle.std.specs.Prelude.{nat_le, nat_lt}
 use Rattle.std.proofs.Math.Nat.{mul-div-le, div-le_self, pow-le-pow_right}
 use Rattle.std.proofs.lemmas.Nat.{pow_pos}
 use Rattle.std.proofs.lemmas.Int.{ints}
 use Rattle.std.proofs.lemmas.Bool.{leb-true, ltb-true}
-use Rattle.std.proofs.lemmas.Bool.Decides.{nat_tests}
 use Rattle.nav_tables.specs.declared.field.Field.{Field as TableField}
 use Rattle.nav_tables.specs.Messages.{AreInRange}
 use Rattle.nav_tables.proofs.Surface.{both, le_z_true, range_length}
@@ -109,12 +108,16 @@ pub record IsGoodClock (c : WeekClock) : Type 0 where
   pub rule : is_week_rule c.rule ≡ true
   pub zero : c.zero ≤ c.rule.zero
   pub step : 1 ≤ c.step
+  pub most : c.step ≤ 604800
   pub bits : c.rule.bits ≤ 13
+  pub late : c.rule.zero ≤ 7000
   pub some : 1 ≤ first_week c.rule 1024
 
 pub good_clock : (c : WeekClock) → is_week_clock c ≡ true → IsGoodClock c
 good_clock c e =
-    let a = both (is_week_rule c.rule && nat_le c.zero c.rule.zero) (nat_le 1 c.step) e in
+    let z = both (is_week_rule c.rule && nat_le c.zero c.rule.zero && nat_le 1 c.step)
+    (nat_le c.step 604800) e in
+    let a = both (is_week_rule c.rule && nat_le c.zero c.rule.zero) (nat_le 1 c.step) z.0 in
     let b = both (is_week_rule c.rule) (nat_le c.zero c.rule.zero) a.0 in
     let r = both (nat_le 1 c.rule.bits && nat_le c.rule.bits 13 && nat_le c.rule.zero 7000)
     (nat_le 1 (first_week c.rule 1024)) b.0 in
@@ -124,9 +127,21 @@ good_clock c e =
       rule = b.0;
       zero = leb-true c.zero c.rule.zero b.1;
       step = leb-true 1 c.step a.1;
+      most = leb-true c.step 604800 z.1;
       bits = leb-true c.rule.bits 13 t.1;
+      late = leb-true c.rule.zero 7000 s.1;
       some = leb-true 1 (first_week c.rule 1024) r.1;
     }
+
+-- the clock of a table with weeks
+pub clock_of : (c : WeekClock) (fs : List TableField) → has_week c fs ≡ true → IsGoodClock c
+clock_of c fs e =
+    let last = 604799 / c.step in
+    let weeks = 2 ^ c.rule.bits - 1 in
+    let a = both (is_week_clock c && is_within fs c.week weeks && is_within fs c.toe last)
+    (is_within fs c.toc last) e in
+    let b = both (is_week_clock c && is_within fs c.week weeks) (is_within fs c.toe last) a.0 in
+    good_clock c (both (is_week_clock c) (is_within fs c.week weeks) b.0).0
 
 -- a time of week in units of some seconds
 second_is : (step n : ℕ) → n ≤ 604799 / step → step * n < 604800

@@ -18,7 +18,7 @@ use Rattle.nav_links.specs.declared.link.Link.TheVariants.{Fixed}
 use Rattle.nav_links.specs.Links.{nth, parts_from, joined, width_of, are_parts, is_link, are_links}
 use Rattle.nav_links.specs.Links.{column_of, columns_of, ranges_fit, range_fits, AreFit}
 use Rattle.nav_tables.proofs.Surface.{both, le_z_true, range_length}
-use Rattle.nav_links.proofs.Surface.{joined-lt, inside_at, fit_parts, fit_all}
+use Rattle.nav_links.proofs.Surface.{joined-lt, inside_at, fit_parts, fit_all, links_append}
 use Rattle.rinex_write.specs.declared.columns.Rule.{Rule}
 use Rattle.rinex_write.specs.declared.columns.Rule.TheVariants.{Plain, OrZero, OrLeast, Ura, Sisa}
 use Rattle.rinex_write.specs.declared.columns.Rule.TheVariants.{Fit, Sent, Unread}
@@ -31,7 +31,7 @@ use Rattle.nav_rows.specs.declared.kind.Clock.{Clock}
 use Rattle.nav_rows.specs.declared.kind.Kind.{Kind}
 use Rattle.nav_rows.specs.declared.times.RowTimes.{RowTimes}
 use Rattle.nav_rows.specs.Kinds.{Range, given_range, range_of, gives_sisa, covers, all_covered}
-use Rattle.nav_rows.specs.Kinds.{has_sisa, IsKind}
+use Rattle.nav_rows.specs.Kinds.{has_sisa, head_links, IsKind}
 use Rattle.nav_rows.specs.Times.{IsSatellite, HasTimes, IsGiven}
 use Rattle.nav_rows.specs.Rows.{record_kind, given_of, has_spare_sisa, SisaInside}
 use Rattle.nav_rows.proofs.NumberLemmas.{satellite_is, times_are}
@@ -178,7 +178,8 @@ all_kept (c ∷ cs) (z ∷ zs) h = (kept c.rule z h.0, all_kept cs zs h.1)
 
 pub ready : (k : Kind) (zs : List ℤ) → IsKind k → AreFields k.layout.columns.now zs
     → AreReady k.layout.columns.now zs
-ready k zs is h = kept_ready k.layout.columns.now zs is.good (all_kept k.layout.columns.now zs h)
+ready k zs is h = kept_ready k.layout.columns.now zs is.lines.good
+    (all_kept k.layout.columns.now zs h)
 
 -- ---- rows of columns
 
@@ -214,7 +215,7 @@ rows_are k is = record {
 
 -- ---- what is known of the numbers of a message
 
-sisa_inside : (sisa : Option ℕ) (n : ℕ) (zs : List ℤ) → has_sisa sisa n ≡ true → length zs ≡ n
+pub sisa_inside : (sisa : Option ℕ) (n : ℕ) (zs : List ℤ) → has_sisa sisa n ≡ true → length zs ≡ n
     → SisaInside sisa zs
 sisa_inside None n zs e h = tt
 sisa_inside (Some f) n zs e h = omega (arith, h, ltb-true f n e)
@@ -228,6 +229,19 @@ pub record AreGood (k : Kind) (zs : List ℤ) : Type 0 where
   pub fields : (t : RowTimes) → IsGiven k.clock t → has_spare_sisa k.sisa zs ≡ false
       → AreFields k.layout.columns.now (columns_of k.parts.now k.links.now zs (given_of t))
 
+-- the links of the columns, and those of satellite and times
+pub front : (k : Kind) → IsKind k
+    → are_links (length k.table.fields.now) k.parts.now k.links.now ≡ true
+front k is =
+    (links_append (length k.table.fields.now) k.parts.now k.links.now
+    (head_links k.clock) is.links).0
+
+pub behind : (k : Kind) → IsKind k
+    → are_links (length k.table.fields.now) k.parts.now (head_links k.clock) ≡ true
+behind k is =
+    (links_append (length k.table.fields.now) k.parts.now k.links.now
+    (head_links k.clock) is.links).1
+
 pub good : (k : Kind) (zs : List ℤ) → IsKind k → AreInRange k.table.fields.now zs → AreGood k zs
 good k zs is h =
     let fs = k.table.fields.now in
@@ -236,8 +250,8 @@ good k zs is h =
       satellite = satellite_is fs zs is.satellite h;
       times = times_are k.clock fs zs is.times h;
       sisa = sisa_inside k.sisa (length fs) zs is.sisa count;
-      links = subst (λ n. are_links n k.parts.now k.links.now ≡ true) (sym count) is.links;
-      fit = fit_all fs k.parts.now k.links.now zs is.links is.fit h;
+      links = subst (λ n. are_links n k.parts.now k.links.now ≡ true) (sym count) (front k is);
+      fit = fit_all fs k.parts.now k.links.now zs (front k is) is.fit h;
       fields = λ t g s. fields_all k.clock k.sisa fs k.parts.now k.links.now k.layout.columns.now
-          zs (given_of t) is.links is.fit is.covered h (given_are k.clock t g) s;
+          zs (given_of t) (front k is) is.fit is.covered h (given_are k.clock t g) s;
     }

@@ -8,6 +8,7 @@ use Rattle.rinex_write.specs.RowTexts.{RowKind, row_record, split_rows}
 use Rattle.rinex_write.specs.Texts.{text_of}
 use Rattle.nav_rows.specs.declared.kind.Kind.{Kind}
 use Rattle.nav_rows.specs.declared.times.RowTimes.{RowTimes}
+use Rattle.nav_rows.specs.declared.row.Row.{Row}
 use Rattle.nav_rows.specs.declared.row.RowFault.{RowFault}
 use Rattle.nav_rows.specs.declared.row.RowFault.TheVariants.{Message, SpareSisa, Day}
 use Rattle.nav_rows.specs.Times.{number, times_told}
@@ -31,6 +32,9 @@ pub record RowValue : Type 0 where
   pub moment : ℕ
   pub columns : List ℤ
 
+abbrev pub value : Row → RowValue
+value row = record { number = row.number; moment = row.moment; columns = row.columns.items }
+
 abbrev pub row_at : Kind → List ℤ → Option RowTimes → Result RowValue RowFault
 row_at k numbers None = Err Day
 row_at k numbers (Some times) = Ok (record {
@@ -53,9 +57,13 @@ record_kind k = record {
   rows = split_rows k.layout.rows.now k.layout.columns.now;
 }
 
+-- the lines of a row's record
+abbrev pub record_of : Kind → RowValue → List (List ℕ)
+record_of k row = row_record (record_kind k) k.letter row.number row.moment row.columns
+
 -- the text of a row's record
 abbrev pub record_text : Kind → RowValue → List ℕ
-record_text k row = text_of (row_record (record_kind k) k.letter row.number row.moment row.columns)
+record_text k row = text_of (record_of k row)
 
 -- the row of a message near a reference week, or why it has none
 abbrev pub row_in : Kind → List ℕ → ℕ → Result RowValue RowFault

@@ -1,7 +1,7 @@
 //! The kinds of ephemerides: what differs between them, as constants.
 
-ghost use Rattle.std.specs.Prelude.{◌≡◌, IsTrue, IfSome};
-ghost use Rattle.nav_rows.specs.Kinds.{IsKind};
+ghost use Rattle.std.specs.Prelude.{◌≡◌, ◌≤◌, ◌+◌, IsTrue, IfSome, codes, length};
+ghost use Rattle.nav_rows.specs.Kinds.{HasName, IsKind, is_titled, is_whole, kind_titled, name_of};
 
 use crate::links::{
     D1_LINKS, D1_PARTS, FDMA_LINKS, FDMA_PARTS, FNAV_LINKS, FNAV_PARTS, NAVIC_LINKS, NAVIC_PARTS,
@@ -11,6 +11,7 @@ use crate::tables::{FIELDS_1020, FIELDS_1041, FIELDS_1042, FIELDS_1044, FIELDS_1
 use nav_days::WeekRule;
 use nav_links::{Link, Part};
 use nav_tables::Table;
+use rinex_read::columns;
 use rinex_write::{
     D1, D1_ROWS, FDMA, FDMA_ROWS, FNAV, FNAV_ROWS, NAVIC, NAVIC_ROWS, QZSS, QZSS_ROWS, RecordLayout,
 };
@@ -65,6 +66,14 @@ pub struct Kind {
     pub prn: u8,
     /// The scale of its epochs.
     pub scale: TimeScale,
+    /// The place of its system in the order of records: GPS, Galileo, GLONASS, BeiDou, QZSS, NavIC.
+    pub system: u8,
+    /// The place of its message type among those of its system.
+    pub message: u8,
+    /// The column with the time of transmission, or of the frame.
+    pub sent: usize,
+    /// Whether its records may lack the last of five lines.
+    pub may_end_early: bool,
     /// How its message tells its times.
     pub clock: Clock,
     /// The field with a SISA index, of which 126 to 254 are spare.
@@ -119,12 +128,17 @@ macro_rules! layout {
 /// GLONASS FDMA.
 pub fn kind_fdma() -> Kind
     ensures kind { IsKind result }
+    ensures name { HasName result (codes "R") (codes "FDMA") }
 {
     Kind {
         letter: b'R',
         title: b"FDMA",
         prn: 0,
         scale: TimeScale::Utc,
+        system: 2,
+        message: 0,
+        sent: 2,
+        may_end_early: true,
         clock: Clock::Frame,
         sisa: None,
         table: message!(FIELDS_1020, 45),
@@ -137,12 +151,18 @@ pub fn kind_fdma() -> Kind
 /// BeiDou D1, of satellites in inclined orbits.
 pub fn kind_d1() -> Kind
     ensures kind { IsKind result }
+    ensures name { HasName result (codes "C") (codes "D1") }
+    ensures whole { IsTrue (is_whole result) }
 {
     Kind {
         letter: b'C',
         title: b"D1",
         prn: 0,
         scale: TimeScale::BeiDou,
+        system: 3,
+        message: 0,
+        sent: 27,
+        may_end_early: false,
         clock: weeks!(13, 1356, 1356, 8, 2, 18, 6),
         sisa: None,
         table: message!(FIELDS_1042, 64),
@@ -155,9 +175,13 @@ pub fn kind_d1() -> Kind
 /// BeiDou D2, of geostationary satellites; but for its title as D1.
 pub fn kind_d2() -> Kind
     ensures kind { IsKind result }
+    ensures name { HasName result (codes "C") (codes "D2") }
+    ensures whole { IsTrue (is_whole result) }
 {
     Kind {
         title: b"D2",
+        system: 3,
+        message: 1,
         ..kind_d1()
     }
 }
@@ -165,12 +189,18 @@ pub fn kind_d2() -> Kind
 /// Galileo F/NAV.
 pub fn kind_fnav() -> Kind
     ensures kind { IsKind result }
+    ensures name { HasName result (codes "E") (codes "FNAV") }
+    ensures whole { IsTrue (is_whole result) }
 {
     Kind {
         letter: b'E',
         title: b"FNAV",
         prn: 0,
         scale: TimeScale::Galileo,
+        system: 1,
+        message: 0,
+        sent: 26,
+        may_end_early: false,
         clock: weeks!(12, 1024, 0, 60, 2, 17, 6),
         sisa: Some(4),
         table: message!(FIELDS_1045, 62),
@@ -183,12 +213,18 @@ pub fn kind_fnav() -> Kind
 /// QZSS LNAV.
 pub fn kind_qzss() -> Kind
     ensures kind { IsKind result }
+    ensures name { HasName result (codes "J") (codes "LNAV") }
+    ensures whole { IsTrue (is_whole result) }
 {
     Kind {
         letter: b'J',
         title: b"LNAV",
         prn: 192,
         scale: TimeScale::Gps,
+        system: 4,
+        message: 0,
+        sent: 27,
+        may_end_early: false,
         clock: weeks!(10, 0, 0, 16, 24, 14, 2),
         sisa: None,
         table: message!(FIELDS_1044, 61),
@@ -201,12 +237,18 @@ pub fn kind_qzss() -> Kind
 /// NavIC LNAV.
 pub fn kind_navic() -> Kind
     ensures kind { IsKind result }
+    ensures name { HasName result (codes "I") (codes "LNAV") }
+    ensures whole { IsTrue (is_whole result) }
 {
     Kind {
         letter: b'I',
         title: b"LNAV",
         prn: 0,
         scale: TimeScale::Gps,
+        system: 5,
+        message: 0,
+        sent: 27,
+        may_end_early: false,
         clock: weeks!(10, 0, 0, 16, 2, 22, 7),
         sisa: None,
         table: message!(FIELDS_1041, 61),
@@ -234,10 +276,62 @@ pub fn kind_of(message: u16, satellite: u8) -> Option<Kind>
 // The kind of a BeiDou satellite.
 fn beidou_kind(satellite: u8) -> Kind
     ensures kind { IsKind result }
+    ensures letter { result.letter ≡ 67 }
 {
     if satellite <= 5 || satellite >= 59 {
         kind_d2()
     } else {
         kind_d1()
+    }
+}
+
+// Whether a title is that of a kind: record type, letter and message type.
+fn is_titled(title: &[u8; 80], letter: u8, message: &[u8]) -> bool
+    requires { length message.now ≤ 4 }
+    ensures { result ≡ is_titled letter message.now title.now }
+{
+    columns(title, 2, 3) == b"EPH".as_slice()
+        && title[6] == letter
+        && columns(title, 10, message.len()) == message
+}
+
+/// The kind of the records with a title of RINEX 4 (`> EPH R05 FDMA`).
+pub fn kind_of_title(title: &[u8; 80]) -> Option<Kind>
+    ensures kind { IfSome result IsKind }
+    ensures name { name_of result ≡ kind_titled title.now }
+{
+    if is_titled(title, b'R', b"FDMA") {
+        return Some(kind_fdma());
+    }
+    if is_titled(title, b'C', b"D1") {
+        return Some(kind_d1());
+    }
+    if is_titled(title, b'C', b"D2") {
+        return Some(kind_d2());
+    }
+    if is_titled(title, b'E', b"FNAV") {
+        return Some(kind_fnav());
+    }
+    if is_titled(title, b'J', b"LNAV") {
+        return Some(kind_qzss());
+    }
+    if is_titled(title, b'I', b"LNAV") {
+        return Some(kind_navic());
+    }
+    None
+}
+
+/// The kind of the records of a system in RINEX 3, which names no message type; of BeiDou that of
+/// the satellite. Galileo's records tell theirs by their data sources.
+pub fn kind_of_letter(letter: u8, satellite: u8) -> Option<Kind>
+    ensures kind { IfSome result IsKind }
+    ensures letter { IfSome result (λ k. k.letter ≡ letter) }
+{
+    match letter {
+        b'R' => Some(kind_fdma()),
+        b'C' => Some(beidou_kind(satellite)),
+        b'J' => Some(kind_qzss()),
+        b'I' => Some(kind_navic()),
+        _ => None,
     }
 }

@@ -22,6 +22,32 @@ macro_rules! part {
     };
 }
 
+// The fields of an orbit from crs to omega_dot, which stand in this order in messages too, between
+// others; the offset of crs.
+macro_rules! with_orbit {
+    ([$($before:expr),*], $crs:literal, [$($after:expr),*]) => {
+        [
+            $($before,)*
+            Link::Field { field: $crs }, // crs
+            Link::Field { field: $crs + 1 }, // delta_n
+            Link::Field { field: $crs + 2 }, // m0
+            Link::Field { field: $crs + 3 }, // cuc
+            Link::Field { field: $crs + 4 }, // e
+            Link::Field { field: $crs + 5 }, // cus
+            Link::Field { field: $crs + 6 }, // root_a
+            Link::Field { field: $crs + 7 }, // toe
+            Link::Field { field: $crs + 8 }, // cic
+            Link::Field { field: $crs + 9 }, // omega0
+            Link::Field { field: $crs + 10 }, // cis
+            Link::Field { field: $crs + 11 }, // i0
+            Link::Field { field: $crs + 12 }, // crc
+            Link::Field { field: $crs + 13 }, // omega
+            Link::Field { field: $crs + 14 }, // omega_dot
+            $($after,)*
+        ]
+    };
+}
+
 /// Where the columns of a GLONASS FDMA ephemeris come from in message 1020.
 pub const FDMA_LINKS: [Link; 19] = [
     Link::Opposite { field: 25 }, // tau
@@ -59,71 +85,51 @@ pub const FDMA_PARTS: [Part; 9] = [
 ];
 
 /// Where the columns of a BeiDou D1 and D2 ephemeris come from in message 1042.
-pub const D1_LINKS: [Link; 29] = [
-    Link::Field { field: 9 }, // af0
-    Link::Field { field: 8 }, // af1
-    Link::Field { field: 7 }, // af2
-    Link::Field { field: 5 }, // aode
-    Link::Field { field: 11 }, // crs
-    Link::Field { field: 12 }, // delta_n
-    Link::Field { field: 13 }, // m0
-    Link::Field { field: 14 }, // cuc
-    Link::Field { field: 15 }, // e
-    Link::Field { field: 16 }, // cus
-    Link::Field { field: 17 }, // root_a
-    Link::Field { field: 18 }, // toe
-    Link::Field { field: 19 }, // cic
-    Link::Field { field: 20 }, // omega0
-    Link::Field { field: 21 }, // cis
-    Link::Field { field: 22 }, // i0
-    Link::Field { field: 23 }, // crc
-    Link::Field { field: 24 }, // omega
-    Link::Field { field: 25 }, // omega_dot
-    Link::Field { field: 4 }, // idot
-    Link::Fixed { number: 0 }, // spare
-    WEEK, // toe_week
-    Link::Fixed { number: 0 }, // spare
-    Link::Field { field: 3 }, // ura
-    Link::Field { field: 28 }, // health
-    Link::Field { field: 26 }, // tgd1
-    Link::Field { field: 27 }, // tgd2
-    NOT_KNOWN, // sent
-    Link::Field { field: 10 }, // aodc
-];
+pub const D1_LINKS: [Link; 29] = with_orbit!(
+    [
+        Link::Field { field: 9 }, // af0
+        Link::Field { field: 8 }, // af1
+        Link::Field { field: 7 }, // af2
+        Link::Field { field: 5 } // aode
+    ],
+    11, // crs
+    [
+        Link::Field { field: 4 }, // idot
+        Link::Fixed { number: 0 }, // spare
+        WEEK, // toe_week
+        Link::Fixed { number: 0 }, // spare
+        Link::Field { field: 3 }, // ura
+        Link::Field { field: 28 }, // health
+        Link::Field { field: 26 }, // tgd1
+        Link::Field { field: 27 }, // tgd2
+        NOT_KNOWN, // sent
+        Link::Field { field: 10 } // aodc
+    ]
+);
 
 /// The parts of its columns.
 pub const D1_PARTS: [Part; 0] = [];
 
 /// Where the columns of a Galileo F/NAV ephemeris come from in message 1045.
-pub const FNAV_LINKS: [Link; 27] = [
-    Link::Field { field: 9 }, // af0
-    Link::Field { field: 8 }, // af1
-    Link::Field { field: 7 }, // af2
-    Link::Field { field: 3 }, // iodnav
-    Link::Field { field: 10 }, // crs
-    Link::Field { field: 11 }, // delta_n
-    Link::Field { field: 12 }, // m0
-    Link::Field { field: 13 }, // cuc
-    Link::Field { field: 14 }, // e
-    Link::Field { field: 15 }, // cus
-    Link::Field { field: 16 }, // root_a
-    Link::Field { field: 17 }, // toe
-    Link::Field { field: 18 }, // cic
-    Link::Field { field: 19 }, // omega0
-    Link::Field { field: 20 }, // cis
-    Link::Field { field: 21 }, // i0
-    Link::Field { field: 22 }, // crc
-    Link::Field { field: 23 }, // omega
-    Link::Field { field: 24 }, // omega_dot
-    Link::Field { field: 5 }, // idot
-    Link::Fixed { number: 258 }, // sources
-    WEEK, // toe_week
-    Link::Field { field: 4 }, // sisa
-    Link::Parts { first: 0, count: 3 }, // health
-    Link::Field { field: 25 }, // bgd_a
-    Link::Fixed { number: 0 }, // bgd_b
-    NOT_KNOWN, // sent
-];
+pub const FNAV_LINKS: [Link; 27] = with_orbit!(
+    [
+        Link::Field { field: 9 }, // af0
+        Link::Field { field: 8 }, // af1
+        Link::Field { field: 7 }, // af2
+        Link::Field { field: 3 } // iodnav
+    ],
+    10, // crs
+    [
+        Link::Field { field: 5 }, // idot
+        Link::Fixed { number: 258 }, // sources
+        WEEK, // toe_week
+        Link::Field { field: 4 }, // sisa
+        Link::Parts { first: 0, count: 3 }, // health
+        Link::Field { field: 25 }, // bgd_a
+        Link::Fixed { number: 0 }, // bgd_b
+        NOT_KNOWN // sent
+    ]
+);
 
 /// The parts of its columns.
 pub const FNAV_PARTS: [Part; 3] = [
@@ -133,37 +139,27 @@ pub const FNAV_PARTS: [Part; 3] = [
 ];
 
 /// Where the columns of a QZSS LNAV ephemeris come from in message 1044.
-pub const QZSS_LINKS: [Link; 29] = [
-    Link::Field { field: 5 }, // af0
-    Link::Field { field: 4 }, // af1
-    Link::Field { field: 3 }, // af2
-    Link::Field { field: 6 }, // iode
-    Link::Field { field: 7 }, // crs
-    Link::Field { field: 8 }, // delta_n
-    Link::Field { field: 9 }, // m0
-    Link::Field { field: 10 }, // cuc
-    Link::Field { field: 11 }, // e
-    Link::Field { field: 12 }, // cus
-    Link::Field { field: 13 }, // root_a
-    Link::Field { field: 14 }, // toe
-    Link::Field { field: 15 }, // cic
-    Link::Field { field: 16 }, // omega0
-    Link::Field { field: 17 }, // cis
-    Link::Field { field: 18 }, // i0
-    Link::Field { field: 19 }, // crc
-    Link::Field { field: 20 }, // omega
-    Link::Field { field: 21 }, // omega_dot
-    Link::Field { field: 22 }, // idot
-    Link::Field { field: 23 }, // l2_code
-    WEEK, // toe_week
-    Link::Fixed { number: 1 }, // l2p
-    Link::Field { field: 25 }, // ura
-    Link::Field { field: 26 }, // health
-    Link::Field { field: 27 }, // tgd
-    Link::Field { field: 28 }, // iodc
-    NOT_KNOWN, // sent
-    Link::Field { field: 29 }, // fit
-];
+pub const QZSS_LINKS: [Link; 29] = with_orbit!(
+    [
+        Link::Field { field: 5 }, // af0
+        Link::Field { field: 4 }, // af1
+        Link::Field { field: 3 }, // af2
+        Link::Field { field: 6 } // iode
+    ],
+    7, // crs
+    [
+        Link::Field { field: 22 }, // idot
+        Link::Field { field: 23 }, // l2_code
+        WEEK, // toe_week
+        Link::Fixed { number: 1 }, // l2p
+        Link::Field { field: 25 }, // ura
+        Link::Field { field: 26 }, // health
+        Link::Field { field: 27 }, // tgd
+        Link::Field { field: 28 }, // iodc
+        NOT_KNOWN, // sent
+        Link::Field { field: 29 } // fit
+    ]
+);
 
 /// The parts of its columns.
 pub const QZSS_PARTS: [Part; 0] = [];

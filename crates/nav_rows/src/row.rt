@@ -8,6 +8,7 @@ ghost use Rattle.rinex_write.specs.Columns.{AreFields};
 ghost use Rattle.nav_rows.specs.Kinds.{IsKind};
 ghost use Rattle.nav_rows.specs.Times.{IsSatellite};
 ghost use Rattle.nav_rows.specs.Rows.{SisaInside, given_of, has_spare_sisa, record_text, row_in};
+ghost use Rattle.nav_rows.specs.Rows.{value};
 
 use crate::kind::Kind;
 use crate::times::{RowTimes, times_told};
@@ -26,7 +27,7 @@ pub struct Row {
     /// The epoch.
     pub moment: Moment,
     /// The columns of its record.
-    pub columns: ArrayVec<i64, 40>,
+    pub columns: ArrayVec<i64, 29>,
 }
 
 /// Why a message gives no row: the first of these that holds, in this order.
@@ -49,7 +50,7 @@ fn satellite_of(numbers: &[i64]) -> u8
 }
 
 // Whether the SISA index is a spare one, where there is one.
-fn has_spare_sisa(sisa: Option<usize>, numbers: &[i64]) -> bool
+pub(crate) fn has_spare_sisa(sisa: Option<usize>, numbers: &[i64]) -> bool
     requires { SisaInside sisa numbers.now }
     ensures { result ≡ has_spare_sisa sisa numbers.now }
 {
@@ -71,8 +72,7 @@ fn given_of(times: &RowTimes) -> [i64; 4]
 /// The error is the first fault, in the order of [`RowFault`].
 pub fn row_of_message(kind: &Kind, payload: &[u8], reference: RefWeek) -> Result<Row, RowFault>
     requires { IsKind kind.now }
-    ensures ok { IfOk result (λ row. row_in kind.now payload.now reference
-        ≡ Ok (record { number = row.number; moment = row.moment; columns = row.columns.items })) }
+    ensures ok { IfOk result (λ row. row_in kind.now payload.now reference ≡ Ok (value row)) }
     ensures fields { IfOk result (λ row. AreFields kind.now.layout.columns.now row.columns.items) }
     ensures err { IfErr result (λ fault. row_in kind.now payload.now reference ≡ Err fault) }
 {
@@ -104,11 +104,7 @@ pub fn write_record<T: Sink>(kind: &Kind, row: &Row, out: &mut T) -> Result<(), 
     requires kind { IsKind kind.now }
     requires fields { AreFields kind.now.layout.columns.now row.now.columns.items }
     ensures { Writes (T.written out.old) (T.written out.new) (T.faults out.old) (T.faults out.new)
-        result (record_text kind.now (record {
-          number = row.now.number;
-          moment = row.now.moment;
-          columns = row.now.columns.items;
-        })) }
+        result (record_text kind.now (value row.now)) }
 {
     let head = RowHead {
         class: *b"EPH",

@@ -59,40 +59,55 @@ macro_rules! reserved {
     };
 }
 
+// The fields of an orbit from crs to omega_dot, as GPS, QZSS and Galileo have them, between others.
+macro_rules! with_orbit {
+    ([$($before:expr),*], $toe:expr, [$($after:expr),*]) => {
+        [
+            $($before,)*
+            signed!(16), // crs
+            signed!(16), // delta_n
+            signed!(32), // m0
+            signed!(16), // cuc
+            unsigned!(32), // e
+            signed!(16), // cus
+            unsigned!(32), // root_a
+            $toe, // toe
+            signed!(16), // cic
+            signed!(32), // omega0
+            signed!(16), // cis
+            signed!(32), // i0
+            signed!(16), // crc
+            signed!(32), // omega
+            signed!(24), // omega_dot
+            $($after,)*
+        ]
+    };
+}
+
 /// The fields of message 1019, GPS ephemeris.
-pub const FIELDS_1019: [Field; 31] = [
-    constant!(12, 1019), // number
-    unsigned!(6, 1, 32), // satellite
-    unsigned!(10), // week
-    unsigned!(4), // ura
-    unsigned!(2), // l2_code
-    signed!(14), // idot
-    unsigned!(8), // iode
-    unsigned!(16, 0, 37_799), // toc
-    signed!(8), // af2
-    signed!(16), // af1
-    signed!(22), // af0
-    unsigned!(10), // iodc
-    signed!(16), // crs
-    signed!(16), // delta_n
-    signed!(32), // m0
-    signed!(16), // cuc
-    unsigned!(32), // e
-    signed!(16), // cus
-    unsigned!(32), // root_a
+pub const FIELDS_1019: [Field; 31] = with_orbit!(
+    [
+        constant!(12, 1019), // number
+        unsigned!(6, 1, 32), // satellite
+        unsigned!(10), // week
+        unsigned!(4), // ura
+        unsigned!(2), // l2_code
+        signed!(14), // idot
+        unsigned!(8), // iode
+        unsigned!(16, 0, 37_799), // toc
+        signed!(8), // af2
+        signed!(16), // af1
+        signed!(22), // af0
+        unsigned!(10) // iodc
+    ],
     unsigned!(16, 0, 37_799), // toe
-    signed!(16), // cic
-    signed!(32), // omega0
-    signed!(16), // cis
-    signed!(32), // i0
-    signed!(16), // crc
-    signed!(32), // omega
-    signed!(24), // omega_dot
-    signed!(8), // tgd
-    unsigned!(6), // health
-    unsigned!(1), // l2p
-    unsigned!(1), // fit
-];
+    [
+        signed!(8), // tgd
+        unsigned!(6), // health
+        unsigned!(1), // l2p
+        unsigned!(1) // fit
+    ]
+);
 
 /// Message 1019, GPS ephemeris.
 pub fn table_1019() -> Table
@@ -220,108 +235,78 @@ pub const FIELDS_1042: [Field; 30] = [
 ];
 
 /// The fields of message 1044, QZSS ephemeris.
-pub const FIELDS_1044: [Field; 31] = [
-    constant!(12, 1044), // number
-    unsigned!(4, 1, 10), // satellite
-    unsigned!(16, 0, 37_799), // toc
-    signed!(8), // af2
-    signed!(16), // af1
-    signed!(22), // af0
-    unsigned!(8), // iode
-    signed!(16), // crs
-    signed!(16), // delta_n
-    signed!(32), // m0
-    signed!(16), // cuc
-    unsigned!(32), // e
-    signed!(16), // cus
-    unsigned!(32), // root_a
+pub const FIELDS_1044: [Field; 31] = with_orbit!(
+    [
+        constant!(12, 1044), // number
+        unsigned!(4, 1, 10), // satellite
+        unsigned!(16, 0, 37_799), // toc
+        signed!(8), // af2
+        signed!(16), // af1
+        signed!(22), // af0
+        unsigned!(8) // iode
+    ],
     unsigned!(16, 0, 37_799), // toe
-    signed!(16), // cic
-    signed!(32), // omega0
-    signed!(16), // cis
-    signed!(32), // i0
-    signed!(16), // crc
-    signed!(32), // omega
-    signed!(24), // omega_dot
-    signed!(14), // idot
-    unsigned!(2), // l2_code
-    unsigned!(10), // week
-    unsigned!(4), // ura
-    unsigned!(6), // health
-    signed!(8), // tgd
-    unsigned!(10), // iodc
-    unsigned!(1), // fit
-    reserved!(3), // filler
-];
+    [
+        signed!(14), // idot
+        unsigned!(2), // l2_code
+        unsigned!(10), // week
+        unsigned!(4), // ura
+        unsigned!(6), // health
+        signed!(8), // tgd
+        unsigned!(10), // iodc
+        unsigned!(1), // fit
+        reserved!(3) // filler
+    ]
+);
 
 /// The fields of message 1045, Galileo F/NAV ephemeris.
-pub const FIELDS_1045: [Field; 29] = [
-    constant!(12, 1045), // number
-    unsigned!(6, 1, 36), // satellite
-    unsigned!(12), // week
-    unsigned!(10), // iodnav
-    unsigned!(8), // sisa
-    signed!(14), // idot
-    unsigned!(14, 0, 10_079), // toc
-    signed!(6), // af2
-    signed!(21), // af1
-    signed!(31), // af0
-    signed!(16), // crs
-    signed!(16), // delta_n
-    signed!(32), // m0
-    signed!(16), // cuc
-    unsigned!(32), // e
-    signed!(16), // cus
-    unsigned!(32), // root_a
+pub const FIELDS_1045: [Field; 29] = with_orbit!(
+    [
+        constant!(12, 1045), // number
+        unsigned!(6, 1, 36), // satellite
+        unsigned!(12), // week
+        unsigned!(10), // iodnav
+        unsigned!(8), // sisa
+        signed!(14), // idot
+        unsigned!(14, 0, 10_079), // toc
+        signed!(6), // af2
+        signed!(21), // af1
+        signed!(31) // af0
+    ],
     unsigned!(14, 0, 10_079), // toe
-    signed!(16), // cic
-    signed!(32), // omega0
-    signed!(16), // cis
-    signed!(32), // i0
-    signed!(16), // crc
-    signed!(32), // omega
-    signed!(24), // omega_dot
-    signed!(10), // bgd_a
-    unsigned!(2), // hs_e5a
-    unsigned!(1), // dvs_e5a
-    reserved!(7), // reserved
-];
+    [
+        signed!(10), // bgd_a
+        unsigned!(2), // hs_e5a
+        unsigned!(1), // dvs_e5a
+        reserved!(7) // reserved
+    ]
+);
 
 /// The fields of message 1046, Galileo I/NAV ephemeris.
-pub const FIELDS_1046: [Field; 32] = [
-    constant!(12, 1046), // number
-    unsigned!(6, 1, 36), // satellite
-    unsigned!(12), // week
-    unsigned!(10), // iodnav
-    unsigned!(8), // sisa
-    signed!(14), // idot
-    unsigned!(14, 0, 10_079), // toc
-    signed!(6), // af2
-    signed!(21), // af1
-    signed!(31), // af0
-    signed!(16), // crs
-    signed!(16), // delta_n
-    signed!(32), // m0
-    signed!(16), // cuc
-    unsigned!(32), // e
-    signed!(16), // cus
-    unsigned!(32), // root_a
+pub const FIELDS_1046: [Field; 32] = with_orbit!(
+    [
+        constant!(12, 1046), // number
+        unsigned!(6, 1, 36), // satellite
+        unsigned!(12), // week
+        unsigned!(10), // iodnav
+        unsigned!(8), // sisa
+        signed!(14), // idot
+        unsigned!(14, 0, 10_079), // toc
+        signed!(6), // af2
+        signed!(21), // af1
+        signed!(31) // af0
+    ],
     unsigned!(14, 0, 10_079), // toe
-    signed!(16), // cic
-    signed!(32), // omega0
-    signed!(16), // cis
-    signed!(32), // i0
-    signed!(16), // crc
-    signed!(32), // omega
-    signed!(24), // omega_dot
-    signed!(10), // bgd_a
-    signed!(10), // bgd_b
-    unsigned!(2), // hs_e5b
-    unsigned!(1), // dvs_e5b
-    unsigned!(2), // hs_e1b
-    unsigned!(1), // dvs_e1b
-    reserved!(2), // reserved
-];
+    [
+        signed!(10), // bgd_a
+        signed!(10), // bgd_b
+        unsigned!(2), // hs_e5b
+        unsigned!(1), // dvs_e5b
+        unsigned!(2), // hs_e1b
+        unsigned!(1), // dvs_e1b
+        reserved!(2) // reserved
+    ]
+);
 
 /// Message 1046, Galileo I/NAV ephemeris.
 pub fn table_1046() -> Table

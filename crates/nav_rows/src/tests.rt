@@ -1,7 +1,13 @@
 //! Messages of each kind and their records, as an independent program writes them.
 
-use crate::kind::kind_of;
-use crate::row::{row_of_message, write_record};
+ghost use Rattle.rinex_write.specs.Columns.{AreFields};
+ghost use Rattle.nav_rows.specs.Kinds.{IsKind};
+
+use crate::encode::message_of_row;
+use crate::kind::{Kind, kind_of};
+use crate::order::are_alike;
+use crate::read::read_record;
+use crate::row::{Row, row_of_message, write_record};
 use crate::tables::table_1046;
 use gnss_week::RefWeek;
 use nav_io::MemSink;
@@ -233,10 +239,171 @@ fn comes_back() -> Option<bool> {
     Some(again == payload)
 }
 
+// The lines of a text, filled with blanks, and how many they are.
+fn lines_of(text: &[u8]) -> ([[u8; 80]; 10], usize) {
+    let mut lines = [[b' '; 80]; 10];
+    let mut line = 0;
+    let mut place = 0;
+    for c in text {
+        if *c == b'\n' {
+            line = if line < 10 { line + 1 } else { line };
+            place = 0;
+        } else if line < 10 && place < 80 {
+            lines[line][place] = *c;
+            place += 1;
+        }
+    }
+    (lines, line)
+}
+
+// Whether a row is the same as another.
+fn is_same(row: &Row, other: &Row) -> bool {
+    row.number == other.number
+        && row.moment.value() == other.moment.value()
+        && row.columns.as_slice() == other.columns.as_slice()
+}
+
+// Whether the record of a row is read as that row.
+fn is_read(kind: &Kind, row: &Row, record: &[u8]) -> bool
+    requires kind { IsKind kind.now }
+    requires fields { AreFields kind.now.layout.columns.now row.now.columns.items }
+{
+    let (lines, count) = lines_of(record);
+    if count < 1 || count > 10 {
+        return false;
+    }
+    let all = &lines[..];
+    match read_record(kind, &all[0], &all[1..count]) {
+        Ok(again) => is_same(row, &again) && are_alike(kind, row, kind, &again),
+        Err(_) => false,
+    }
+}
+
+// Whether the message of a row gives that row near its week.
+fn is_sent(kind: &Kind, row: &Row) -> Option<bool>
+    requires kind { IsKind kind.now }
+    requires fields { AreFields kind.now.layout.columns.now row.now.columns.items }
+{
+    let mut payload = [0; 64];
+    let count = kind.table.bytes;
+    if count > 64 {
+        return None;
+    }
+    message_of_row(kind, row, &mut payload[..count]).ok()?;
+    let near = RefWeek::new(row.moment.week())?;
+    let again = row_of_message(kind, &payload, near).ok()?;
+    Some(is_same(row, &again))
+}
+
+// Random bytes with a message number.
+fn random_payload(state: &mut u64, message: u16) -> [u8; 64] {
+    let mut payload = [0; 64];
+    for i in 0..64 {
+        *state = state
+            .wrapping_mul(6_364_136_223_846_793_005)
+            .wrapping_add(1_442_695_040_888_963_407);
+        payload[i] = (*state >> 56) as u8;
+    }
+    payload[0] = (message / 16 % 256) as u8;
+    payload[1] = (message % 16 * 16) as u8 + payload[1] % 16;
+    payload
+}
+
+// Whether the row of a message comes back by its record and by its message; None where there is
+// none.
+fn comes_back_whole(message: u16, payload: &[u8; 64], alloc: Global) -> Option<bool> {
+    let satellite = payload[1] % 16 * 4 + payload[2] / 64;
+    let kind = kind_of(message, satellite)?;
+    let row = row_of_message(&kind, payload, RefWeek::new(2295)?).ok()?;
+    let mut sink = MemSink::new(alloc, 10_000, Vec::new(alloc)).ok()?;
+    write_record(&kind, &row, &mut sink).ok()?;
+    Some(is_read(&kind, &row, sink.bytes()) && is_sent(&kind, &row)?)
+}
+
+// A message number, and how many of 2,000 random messages at least have a row that comes back.
+struct RandomRow {
+    name: &'static str,
+    message: u16,
+    least: u32,
+}
+
+const RANDOM: [RandomRow; 5] = [
+    RandomRow {
+        name: "GLONASS",
+        message: 1020,
+        least: 100,
+    },
+    RandomRow {
+        name: "NavIC",
+        message: 1041,
+        least: 80,
+    },
+    RandomRow {
+        name: "BeiDou",
+        message: 1042,
+        least: 300,
+    },
+    RandomRow {
+        name: "QZSS",
+        message: 1044,
+        least: 300,
+    },
+    RandomRow {
+        name: "Galileo F/NAV",
+        message: 1045,
+        least: 150,
+    },
+];
+
+// How many rows of random messages come back; 0 where one does not.
+fn random_rows(row: &RandomRow, alloc: Global) -> u32 {
+    let mut state = 1;
+    let mut good = 0;
+    for _ in 0..2_000 {
+        let payload = random_payload(&mut state, row.message);
+        match comes_back_whole(row.message, &payload, alloc) {
+            Some(true) => good = u32::saturating_add(good, 1),
+            Some(false) => return 0,
+            None => {}
+        }
+    }
+    good
+}
+
+// Whether a GLONASS record without its last line is read, the numbers of that line being 0.
+fn is_read_early(row: &MessageRow) -> Option<bool> {
+    let kind = kind_of(row.message, row.satellite)?;
+    let (lines, _) = lines_of(row.record);
+    let all = &lines[..];
+    let whole = read_record(&kind, &all[0], &all[1..6]).ok()?;
+    let early = read_record(&kind, &all[0], &all[1..5]).ok()?;
+    let numbers = whole.columns.as_slice();
+    let columns = early.columns.as_slice();
+    if columns.len() != 19 || numbers.len() != 19 {
+        return None;
+    }
+    let left = [columns[15], columns[16], columns[17], columns[18]];
+    Some(
+        early.number == whole.number
+            && columns[0] == numbers[0]
+            && columns[14] == numbers[14]
+            && left == [0; 4],
+    )
+}
+
+#[test]
+fn random_messages(rt: HostRuntime) {
+    for row in &RANDOM {
+        let good = random_rows(row, rt.alloc());
+        assert!(rt; good >= row.least, "{}", row.name);
+    }
+}
+
 #[test]
 fn records_of_messages(rt: HostRuntime) {
     for row in &MESSAGES {
         assert!(rt; is_record(row, rt.alloc()) == Some(true), "{}", row.name);
     }
     assert!(rt; comes_back() == Some(true));
+    assert!(rt; is_read_early(&MESSAGES[2]) == Some(true));
 }

@@ -1,7 +1,7 @@
 -- Lists of fields and their numbers.
 use Rattle.std.proofs.Common.{◌≡◌, ℕ, suc, ◌+◌, ◌*◌, ◌≤◌, ◌&&◌, Bool, true, false, List, [], ◌∷◌}
 use Rattle.std.proofs.Common.{length, Option, Some, None, Ok, Err, ℤ, refl, sym, ap, ◌∙◌, subst}
-use Rattle.std.proofs.Common.{zero-add, arith}
+use Rattle.std.proofs.Common.{zero-add, arith, pos, ◌≤ℤ◌, if◌then◌else◌}
 use Rattle.std.specs.Prelude.{int_le, nat_le, nat_lt, nat_eq}
 use Rattle.std.proofs.lemmas.Int.{ints}
 use Rattle.std.proofs.lemmas.Bool.{le-ltb, leb-true}
@@ -13,9 +13,10 @@ use Rattle.nav_bits.proofs.Surface.{are_bytes, fields_stand, only_packed}
 use Rattle.nav_tables.specs.declared.field.Field.{Field}
 use Rattle.nav_tables.specs.declared.field.Table.{Table}
 use Rattle.nav_tables.specs.declared.message.TableFault.TheVariants.{Short}
-use Rattle.nav_tables.specs.Fields.{IsInRange, bits_of, is_field, is_in_range, number_of}
+use Rattle.nav_tables.specs.Fields.{IsInRange, bits_of, is_field, is_in_range, number_of, start_of}
 use Rattle.nav_tables.specs.Messages.{AreInRange, ArePlain, are_fields, first_outside, is_table}
-use Rattle.nav_tables.specs.Messages.{judged, message_bytes, message_in, numbers_at, rows, width_of}
+use Rattle.nav_tables.specs.Messages.{judged, message_bytes, message_in, numbers_at, rows, starts}
+use Rattle.nav_tables.specs.Messages.{width_of}
 use Rattle.nav_tables.specs.Mirrors.{pairs}
 use Rattle.nav_tables.proofs.FieldLemmas.{both, good, has, bits-lt, number_back, le_z_true}
 
@@ -187,6 +188,24 @@ read_written t bytes numbers e are plain ok =
     ∙ g.width in
     sym (only_packed t.bytes (rows fs numbers) bytes
     (rows_fit fs numbers g.fields range) full are stand (no_zeros bytes 0 fs numbers))
+
+-- ---- the numbers before any is written
+
+pub starts_length : (fs : List Field) → length (starts fs) ≡ length fs
+unfolding starts
+starts_length [] = refl
+starts_length (f ∷ fs) = ap suc (starts_length fs)
+
+start_by : (f : Field) (z : ℤ) (b : Bool) → int_le f.high f.low ≡ b → b ≡ true → IsInRange f z
+    → (if b then f.low else pos 0) ≡ z
+start_by f z true e is range =
+    let least : f.high ≤ℤ f.low = le_z_true f.high f.low e in
+    omega (arith, ints, least, range.0, range.1)
+start_by f z false e is range = absurd cc
+
+-- the number of a constant field
+pub start_is : (f : Field) (z : ℤ) → int_le f.high f.low ≡ true → IsInRange f z → start_of f ≡ z
+start_is f z e range = start_by f z (int_le f.high f.low) refl e range
 
 -- ---- writing
 

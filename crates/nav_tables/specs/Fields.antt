@@ -64,3 +64,7 @@ is_in_range f z = int_le f.low z && int_le z f.high
 -- the bits are those of a number: no sign before a magnitude of 0, reserved bits 0
 abbrev pub IsPlain : Field → ℕ → Type 0
 IsPlain f n = bits_of f (number_of f n) ≡ n
+
+-- the number of a constant field, else 0
+abbrev pub start_of : Field → ℤ
+start_of f = if int_le f.high f.low then f.low else pos 0

@@ -9,6 +9,7 @@ use Rattle.nav_tables.specs.declared.field.Table.{Table}
 use Rattle.nav_tables.specs.declared.message.TableFault.{TableFault}
 use Rattle.nav_tables.specs.declared.message.TableFault.TheVariants.{Short, OutOfRange}
 use Rattle.nav_tables.specs.Fields.{IsInRange, IsPlain, bits_of, is_field, is_in_range, number_of}
+use Rattle.nav_tables.specs.Fields.{start_of}
 
 -- the width of a list of fields in bits
 abbrev pub width_of : List Field → ℕ
@@ -69,3 +70,8 @@ message_in t bytes =
     if nat_lt (length bytes) t.bytes then Err Short
     else judged (numbers_at bytes 0 t.fields.now)
     (first_outside 0 t.fields.now (numbers_at bytes 0 t.fields.now))
+
+-- the numbers of a message before any is written
+unfoldable pub starts : List Field → List ℤ
+starts [] = []
+starts (f ∷ fs) = start_of f ∷ starts fs

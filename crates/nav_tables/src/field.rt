@@ -3,7 +3,7 @@ ghost use Rattle.nav_bits.specs.Signed.{IsSigned, unsigned_of};
 ghost use Rattle.nav_tables.specs.declared.field.Coding.TheVariants.{SignMagnitude};
 ghost use Rattle.nav_tables.specs.Fields.{IsInRange, bits_of, greatest, is_field, is_in_range};
 ghost use Rattle.nav_tables.specs.Fields.{least, number_of, sign_magnitude_bits};
-ghost use Rattle.nav_tables.specs.Fields.{sign_magnitude_of};
+ghost use Rattle.nav_tables.specs.Fields.{sign_magnitude_of, start_of};
 
 use nav_bits::sign_extended;
 
@@ -110,6 +110,17 @@ pub(crate) fn bits_of(field: &Field, number: i64) -> u64
         Coding::TwosComplement => complement_bits(number, field.width),
         Coding::SignMagnitude => magnitude_bits(number, field.width),
         Coding::Reserved => 0,
+    }
+}
+
+// The number of a constant field, else 0.
+pub(crate) fn start_of(field: &Field) -> i64
+    ensures { result ≡ start_of field.now }
+{
+    if field.high <= field.low {
+        field.low
+    } else {
+        0
     }
 }
 

@@ -11,4 +11,4 @@ mod message;
 
 pub use crate::field::{Coding, Field, Table};
 pub use crate::laws::{numbers_are_in_range, read_is_written, written_is_read};
-pub use crate::message::{TableFault, read_message, write_message};
+pub use crate::message::{TableFault, first_outside, read_message, start_numbers, write_message};

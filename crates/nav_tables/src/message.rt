@@ -1,12 +1,13 @@
-ghost use Rattle.std.specs.Prelude.{◌≡◌, ℕ, ◌*◌, ◌≤◌, IsTrue, IfOk, IfErr, length};
+ghost use Rattle.std.specs.Prelude.{◌≡◌, ℕ, ◌+◌, ◌*◌, ◌≤◌, ◌++◌, IsTrue, IfOk, IfErr, length};
 ghost use Rattle.std.specs.Prelude.{Ok, Err, slice_index, ◌<◌};
 ghost use Rattle.nav_bits.specs.Fields.{AreFields};
 ghost use Rattle.nav_tables.specs.Fields.{IsInRange};
 ghost use Rattle.nav_tables.specs.Messages.{AreInRange, are_fields, first_outside, is_table};
-ghost use Rattle.nav_tables.specs.Messages.{message_bytes, message_in, numbers_at, width_of};
+ghost use Rattle.nav_tables.specs.Messages.{message_bytes, message_in, numbers_at, starts};
+ghost use Rattle.nav_tables.specs.Messages.{width_of};
 ghost use Rattle.nav_tables.specs.Mirrors.{pairs};
 
-use crate::field::{Field, Table, bits_of, is_in_range, number_of};
+use crate::field::{Field, Table, bits_of, is_in_range, number_of, start_of};
 use arrayvec::ArrayVec;
 use nav_bits::{number_in_bytes, put_numbers};
 
@@ -39,8 +40,8 @@ fn numbers_of(fields: &[Field], bytes: &[u8]) -> ArrayVec<i64, 48>
     numbers
 }
 
-// The offset of the first number outside its field's range.
-fn first_outside(fields: &[Field], numbers: &[i64]) -> Option<usize>
+/// The offset of the first number outside its field's range.
+pub fn first_outside(fields: &[Field], numbers: &[i64]) -> Option<usize>
     requires { length numbers.now ≡ length fields.now }
     ensures { result ≡ first_outside 0 fields.now numbers.now }
 {
@@ -91,6 +92,28 @@ fn fit(bytes: &[u8])
     ensures { (i : ℕ) → slice_index bytes.now i < 256 }
 {
     let _length = bytes.len();
+}
+
+// Appends the numbers of constant fields, and 0 for others.
+#[tactic(auto, unfolding(crate::specs::Messages::starts))]
+fn push_starts(fields: &[Field], numbers: &mut ArrayVec<i64, 48>)
+    requires { length numbers.old.items + length fields.now ≤ 48 }
+    ensures { numbers.new.items ≡ numbers.old.items ++ starts fields.now }
+{
+    if let [field, rest @ ..] = fields {
+        numbers.push(start_of(field));
+        push_starts(rest, numbers);
+    }
+}
+
+/// The numbers of a message before any is written: those of constant fields, and 0 for others.
+pub fn start_numbers(table: &Table) -> ArrayVec<i64, 48>
+    requires { IsTrue (is_table table.now) }
+    ensures { result.items ≡ starts table.now.fields.now }
+{
+    let mut numbers = ArrayVec::new();
+    push_starts(table.fields, &mut numbers);
+    numbers
 }
 
 /// Writes a message by its table: the bits of each number, reserved bits 0.
