@@ -582,7 +582,7 @@ size_t nb_header_size(const uint8_t *text, size_t n);
  *
  *     for (at = nb_header_size(text, n); (size = nb_record_size(text + at, n - at, 4, is_end)) > 0; at += size)
  *         if (nb_record_read(text + at, size, 4, &item) == NB_OK) use the item;
- *     read more behind the n - at bytes that are left
+ *     read more after the n - at bytes that are left
  *
  * @param text   bytes from the end of the header, or of a record, on
  * @param n      how many

@@ -252,7 +252,7 @@ fn bare_command<'a>(alloc: Global) -> Result<Command<'a>, AllocError>
 {
     Command::new(alloc, "navconvert")
         .no_binary_name(true)
-        .version("1.0.0")
+        .version("2.0.0")
         .about("Converts files of GNSS broadcast orbits")
         .arg(files_of(alloc))
 }
