@@ -2,7 +2,6 @@
 
 use crate::command::Asked;
 use crate::inputs::{Input, Inputs, opened};
-use crate::telling::tell_file;
 use crate::words::is_broken;
 use file_conversion::{Refusal, STANDARD_OUTPUT, Shown};
 use file_diff::{FileItems, ReadCounts, read_items, write_differences};
@@ -45,6 +44,8 @@ fn has_more(asked: &Asked) -> bool {
         || asked.value("report").is_some()
         || asked.value("long-name").is_some()
         || asked.has("dry-run")
+        || asked.has("check")
+        || asked.has("json")
 }
 
 // Compares two files; whether they have the same items, or the status of a failure.
@@ -76,6 +77,13 @@ fn tell_output(rt: &HostRuntime, fault: Option<ErrorKind>) -> u8 {
         FileFault::ReaderGone => refusal.status(),
         _ => tell_file(rt, STANDARD_OUTPUT, &refusal),
     }
+}
+
+// Says why a file is not compared; the status.
+fn tell_file(rt: &HostRuntime, file: &str, refusal: &Refusal) -> u8 {
+    let shown = Shown(file);
+    let _ = eprintln!(rt; "navconvert: {shown}: {refusal}");
+    refusal.status()
 }
 
 // The result, or the status, where it is said why there is none.
