@@ -433,7 +433,7 @@ static void files(run *it, uint32_t call) {
         PROMISE(size <= n && (size == 0 || from[size - 1] == '\n'));
         got(it, call, size % 99);
         used = size;
-        while ((size = nb_record_size(from + used, n - used, version, is_end)) > 0) {
+        while (used < n && (size = nb_record_size(from + used, n - used, version, is_end)) > 0) {
             PROMISE(size <= n - used && (used + size == n || from[used + size - 1] == '\n'));
             PROMISE(used + size == n || nb_record_size(from + used, size, version, 0) == 0);
             used += size;

@@ -856,22 +856,30 @@ static inline int64_t nb_raw(double value, int bits) {
     return scaled > -4611686018427387904.0 && scaled < 4611686018427387904.0 ? llround(scaled) : most;
 }
 
+#ifdef __cplusplus
+#define NB_CAST(type, it) static_cast<type>(it)
+#else
+#define NB_CAST(type, it) ((type)(it))
+#endif
+
 /** Sets the raw integer nearest to a double at a scale of 2^-bits for a signed field of this width, 1 to 32 bits.
  * @return whether the field can hold it; otherwise, also for a double that is no number, the integer is unchanged */
 static inline bool nb_raw_signed(double value, int bits, int width, int32_t *raw) {
-    const int64_t nearest = nb_raw(value, bits), half = (int64_t)1 << (width - 1);
+    const int64_t nearest = nb_raw(value, bits), one = 1, half = one << (width - 1);
     if (nearest < -half || nearest >= half) return false;
-    *raw = (int32_t)nearest;
+    *raw = NB_CAST(int32_t, nearest);
     return true;
 }
 
 /** The same for an unsigned field. */
 static inline bool nb_raw_unsigned(double value, int bits, int width, uint32_t *raw) {
-    const int64_t nearest = nb_raw(value, bits);
-    if (nearest < 0 || nearest >= (int64_t)1 << width) return false;
-    *raw = (uint32_t)nearest;
+    const int64_t nearest = nb_raw(value, bits), one = 1;
+    if (nearest < 0 || nearest >= one << width) return false;
+    *raw = NB_CAST(uint32_t, nearest);
     return true;
 }
+
+#undef NB_CAST
 
 /**@}*/
 
