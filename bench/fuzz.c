@@ -20,7 +20,7 @@
 #include "navbridge.h"
 #include "refused.h"
 
-enum { SLOTS = 8, ROOM = 1 << 17, MOST = 1 << 15, GUARD = 4096, MARGIN = 64, SAMPLES = 512, WORDS = 8, CALLS = 37 };
+enum { SLOTS = 8, ROOM = 1 << 17, MOST = 1 << 15, GUARD = 4096, MARGIN = 64, SAMPLES = 512, WORDS = 8, CALLS = 40 };
 
 #define PROMISE(it)                                                                 \
     do {                                                                            \
@@ -81,6 +81,7 @@ typedef struct run {
     nb_subframe_bits bits;
     nb_word word;
     nb_page_bits page;
+    nb_row row;
     uint64_t sum;        /* of all that was returned and written */
     uint64_t calls;      /* how many, of all inputs */
     uint8_t *seen;       /* which returned what */
@@ -443,6 +444,49 @@ static void files(run *it, uint32_t call) {
     }
 }
 
+/* Rows of messages of all systems, and of numbers that are none. */
+static void rows(run *it, uint32_t call) {
+    static const uint16_t kinds[] = {1019, 1020, 1041, 1042, 1044, 1045, 1046, 4095};
+    nb_row *row = (nb_row *)(void *)lent(it, 4, &it->row, sizeof it->row);
+    const uint32_t kind = kinds[byte(it) % 8], index = number(it);
+    nb_status status;
+    if (call == 37) {
+        size_t n = bytes(it, PAYLOAD);
+        uint8_t *from;
+        if (n > 2 && byte(it) % 4) {
+            it->data[0] = (uint8_t)(kind >> 4);
+            it->data[1] = (uint8_t)((kind << 4) | (it->data[1] & 15u));
+        }
+        from = lent(it, 1, it->data, n);
+        status = nb_row_from_message(from, n, byte(it) % 8 ? 2295 : four(it), row);
+        got(it, call, status);
+        PROMISE(is_one_of(status, "OK NO_WEEK NO_NUMBER OTHER_MESSAGE SHORT BAD_SATELLITE BAD_FIELD BAD_DAY SPARE_SISA"));
+        PROMISE(status == NB_OK || memcmp(row, &it->row, sizeof *row) == 0);
+        if (status == NB_OK) {
+            uint8_t text[1024];
+            size_t used;
+            PROMISE(row->count <= NB_COLUMNS_MOST && nb_row_rinex(row, text, sizeof text, &used) == NB_OK && used < sizeof text);
+            PROMISE(text[6] == row->letter && nb_row_name(row, row->count - 1)[0] != 0 && nb_row_name(row, row->count)[0] == 0);
+        }
+        it->row = *row;
+    } else if (call == 38) {
+        const size_t room = number(it) * 8 % 1024;
+        uint8_t *to = lent(it, 2, NULL, room);
+        size_t used = 77;
+        const uint32_t value = four(it);
+        memcpy((uint8_t *)row + index * 4 % (sizeof *row - 4), &value, byte(it) % 2 ? sizeof value : 0);
+        status = nb_row_rinex(row, to, room, &used);
+        got(it, call, status);
+        PROMISE(is_one_of(status, "OK NO_ITEM") && kept(it, 2, to, room, status == NB_OK ? used : 0) && (status == NB_OK) == (used > 0));
+    } else {
+        nb_column *column = (nb_column *)(void *)lent(it, 2, NULL, sizeof *column);
+        status = nb_row_column(row, index, column);
+        got(it, call, status);
+        PROMISE(is_one_of(status, "OK NO_ITEM") && kept(it, 2, (uint8_t *)column, sizeof *column, status == NB_OK ? sizeof *column : 0));
+        PROMISE((status == NB_OK) == (nb_row_name(row, index)[0] != 0) || row->satellite > 63);
+    }
+}
+
 /* The frames among bytes, one behind the other, where each is a frame by itself. */
 static void find(const text *in, text *to) {
     size_t at = 0, size;
@@ -705,6 +749,7 @@ static void ran(run *it, const uint8_t *input, size_t n) {
         else if (call == 31) messages(it, call);
         else if (call <= 33) joins(it, call);
         else if (call <= 35) files(it, call);
+        else if (call >= 37) rows(it, call);
         else got(it, call, nb_week_of_unix((uint64_t)four(it) << byte(it) % 33) % 99);
     }
     refuse_next(-1);

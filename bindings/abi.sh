@@ -8,7 +8,7 @@
 #   --write          writes these files from navbridge.h, after an addition
 #
 # In bindings: c/symbols.txt; c/reasons.txt, and of it the sources c/statuses.c, python/navbridge/_statuses.py and
-# rust/src/statuses.rs; c/navbridge.abi. They are compared with navbridge.h, the layouts by abidw and abidiff (Debian:
+# rust/src/statuses.rs; c/columns.c, of the comments of crates/nav_rows/src/links.rt; c/navbridge.abi. They are compared with navbridge.h, the layouts by abidw and abidiff (Debian:
 # abigail-tools) if they are installed. If a symbol, the number or name of a reason or a layout has to change, the shared object
 # needs a new name (SONAME in bindings/c/Makefile).
 #
@@ -86,13 +86,27 @@ row() { sed "s,^\([0-9]*\) NB_\([A-Z0-9_]*\) \(.*\),$1," "$out/reasons.txt"; }
   }' "$out/reasons.txt"
   printf '}\n'
 } > "$out/statuses.rs"
+# of each kind in nav_rows its message and its links, whose comments are the names of its columns
+rows=../../crates/nav_rows/src
+{
+  printf '/* The names of the columns of rows. Made by bindings/abi.sh --write of crates/nav_rows. */\n#include "navbridge.h"\n\n'
+  printf 'static const struct {\n    uint32_t message;\n    const char *names[NB_COLUMNS_MOST];\n} rows[] = {\n'
+  sed -n 's/^ *table: message!(FIELDS_\([0-9]*\), .*/\1/p; s/^ *links: &\([A-Z0-9_]*\),/\1/p' "$rows/kind.rt" | paste - - | sort | while read -r message links; do
+    printf '    {%s,\n     {' "$message"
+    sed -n "/^pub const $links:/,/^];/s,^ .* // \([a-z_0-9]*\).*,\"\1\",p" "$rows/links.rt" | paste -s -d , | sed 's/,/, /g; s/$/}},/' | fold -s -w 120 | sed 's/ *$//; 2,$s/^/      /'
+  done
+  printf '};\n\nconst char *nb_row_name(const nb_row *row, uint32_t index) {\n    size_t i;\n'
+  printf '    for (i = 0; i < sizeof rows / sizeof *rows; i++)\n'
+  printf '        if (rows[i].message == row->message && index < NB_COLUMNS_MOST && rows[i].names[index] != NULL) return rows[i].names[index];\n'
+  printf '    return "";\n}\n'
+} > "$out/columns.c"
 if command -v abidw > /dev/null && command -v abidiff > /dev/null; then
   abidw --no-corpus-path --no-comp-dir-path --no-show-locs --no-architecture "$out/calls.so" > "$out/navbridge.abi" || exit 2
 else
   echo 'layouts: not compared, since abidw or abidiff is not installed'
 fi
 if [ -n "$write" ]; then
-  cp "$out/symbols.txt" "$out/reasons.txt" "$out/statuses.c" .
+  cp "$out/symbols.txt" "$out/reasons.txt" "$out/statuses.c" "$out/columns.c" .
   cp "$out/_statuses.py" ../python/navbridge
   cp "$out/statuses.rs" ../rust/src
   [ ! -e "$out/navbridge.abi" ] || cp "$out/navbridge.abi" .
@@ -102,6 +116,7 @@ diff reasons.txt "$out/reasons.txt" || differs 'the reasons of navbridge.h are n
 for it in statuses.c ../python/navbridge/_statuses.py ../rust/src/statuses.rs; do
   diff "$it" "$out/${it##*/}" || differs "the reasons of navbridge.h are not those of bindings/c/$it; bindings/abi.sh --write"
 done
+diff columns.c "$out/columns.c" || differs 'the columns of crates/nav_rows are not those of bindings/c/columns.c; bindings/abi.sh --write'
 [ -z "$(cut -d ' ' -f 1 "$out/reasons.txt" | sort | uniq -d)" ] || differs 'two reasons have one number'
 [ ! -e "$out/navbridge.abi" ] || abidiff navbridge.abi "$out/navbridge.abi" || differs 'the layouts of navbridge.h are not those of bindings/c/navbridge.abi'
 if [ -n "$library" ]; then

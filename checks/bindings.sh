@@ -96,6 +96,7 @@ for suffix in '' ++; do
   $valgrind "$made/statuses$suffix" bindings/c/reasons.txt || differs "statuses$suffix"
   $valgrind "$made/messages$suffix" $vectors/items.txt $vectors/records.txt || differs "messages$suffix"
   $valgrind "$made/parts$suffix" $vectors/lnav_subframes.txt $vectors/inav_words.txt || differs "parts$suffix"
+  $valgrind "$made/rows$suffix" $vectors/rows.txt || differs "rows$suffix"
   "$made/rooms$suffix" examples/three.navcap examples/expected/three.rnx examples/expected/three.report --from=capture --to=rinex \
     --week=2295 '--date=20240101 000000 UTC' --leap=18 || differs "rooms$suffix"
   "$made/threads$suffix" examples/station.navcap examples/station.rnx --from=capture --to=rinex '--date=20240101 000000 UTC' \

@@ -57,6 +57,8 @@ typedef enum nb_status {
     NB_NO_MESSAGE = 25,    /**< no message carries ionospheric parameters */
     NB_NO_FRAME = 26,      /**< the bytes are not one complete frame with a right checksum */
     NB_NO_HEADER = 27,     /**< the date of the header has control characters, or the leap seconds are 100 or more */
+    NB_BAD_FIELD = 28,     /**< a field of the message is out of its range */
+    NB_BAD_DAY = 29,       /**< the day number of the message is that of no day near the reference week */
 
     NB_RECORD_SATELLITE = 32,   /**< the record has no satellite of its system, or two */
     NB_RECORD_SHORT = 33,       /**< the record ends before the last line of its kind */
@@ -358,6 +360,80 @@ nb_status nb_frame_read(const uint8_t *frame, size_t n, uint32_t week, nb_item *
  * @return NB_OK, NB_NO_ITEM or NB_NO_MESSAGE; without NB_OK nothing is written, and the size is 0
  */
 nb_status nb_message_write(const nb_item *item, uint8_t *frame, size_t room, size_t *used);
+
+/**@}*/
+
+/** @name Ephemerides of all systems
+ * A row holds the ephemeris of any system as the columns of its RINEX record, unscaled integers. Message, title and units are tables of
+ * the library: a further kind of ephemeris needs no new call and no new type. Kinds today: messages 1020 (GLONASS), 1041 (NavIC), 1042
+ * (BeiDou D1 and D2), 1044 (QZSS) and 1045 (Galileo F/NAV).
+ *
+ *     if (nb_row_from_message(payload, n, week, &row) == NB_OK)
+ *         for (i = 0; nb_row_column(&row, i, &column) == NB_OK; i++)
+ *             printf("%s = %.13g\n", nb_row_name(&row, i), nb_column_value(&column, row.columns[i]));
+ */
+/**@{*/
+
+/** The most columns that a row has. */
+#define NB_COLUMNS_MOST 40
+
+/** An ephemeris of any system. */
+typedef struct nb_row {
+    uint64_t epoch;                   /**< the epoch of its record, s from 1980-01-06 in the time scale of the record */
+    uint32_t message;                 /**< the number of its message */
+    uint32_t satellite;               /**< its number in the message; QZSS: 1 to 10 */
+    uint32_t count;                   /**< how many columns its record has */
+    uint8_t letter;                   /**< the letter of its system, as in RINEX; ignored when a record is written */
+    uint8_t title[7];                 /**< the title of its records, such as "FDMA", with a terminating zero; ignored as well */
+    int64_t columns[NB_COLUMNS_MOST]; /**< the integers of the columns */
+} nb_row;
+
+/** What the integer of a column is. */
+typedef enum nb_rule {
+    NB_NUMBER = 0,     /**< the value, in the unit of the column */
+    NB_URA_INDEX = 1,  /**< a URA index, 0 to 15; the record has metres */
+    NB_SISA_INDEX = 2, /**< a SISA index, 0 to 125, or 255 for none; the record has metres */
+    NB_FIT_FLAG = 3,   /**< a fit interval flag; the record has hours */
+    NB_SENT_TIME = 4,  /**< a transmission time, s after the start of the week of toe; 999,900,000 if it is not known */
+    NB_CONSTANT = 5    /**< a constant of the record */
+} nb_rule;
+
+/** The unit of a column: the value is integer * factor * 2^two * 10^ten. */
+typedef struct nb_column {
+    uint32_t factor;   /**< an integer factor */
+    int32_t two;       /**< the exponent of 2 */
+    int32_t ten;       /**< the exponent of 10 */
+    uint32_t is_angle; /**< 1 if the value is in semicircles, and the record in radians */
+    uint32_t rule;     /**< an nb_rule */
+} nb_column;
+
+/**
+ * @brief Reads an ephemeris message of any of the kinds above.
+ * @param week a week near that of the message, 1024 to 8191
+ * @param row  set if NB_OK is returned, otherwise unchanged
+ * @return NB_OK, NB_NO_WEEK, NB_NO_NUMBER (fewer than three bytes), NB_OTHER_MESSAGE, NB_SHORT; NB_BAD_SATELLITE or NB_BAD_FIELD for the first
+ *         field that is out of its range; NB_SPARE_SISA, NB_BAD_DAY. Bytes after the message are ignored.
+ */
+nb_status nb_row_from_message(const uint8_t *payload, size_t n, uint32_t week, nb_row *row);
+
+/**
+ * @brief Writes the record of a row, of RINEX 4.01: its lines, each with LF.
+ * @param used set to its length, at most 704 bytes, which may be more than the buffer: the prefix that fits is written
+ * @return NB_OK; or NB_NO_ITEM if a column is out of its range, if there are more or fewer columns, or if no kind has such messages: then
+ *         nothing is written, and the length is 0
+ */
+nb_status nb_row_rinex(const nb_row *row, uint8_t *text, size_t room, size_t *used);
+
+/**
+ * @brief Returns the unit of a column of a row of this message and satellite.
+ * @param index  from 0
+ * @param column set if NB_OK is returned, otherwise unchanged
+ * @return NB_OK, or NB_NO_ITEM if there is no such column
+ */
+nb_status nb_row_column(const nb_row *row, uint32_t index, nb_column *column);
+
+/** The name of a column of a row of this message, such as "af0"; "" if there is no such column. Never NULL, and not to be released. */
+const char *nb_row_name(const nb_row *row, uint32_t index);
 
 /**@}*/
 
@@ -735,6 +811,8 @@ typedef char nb_check_push[sizeof(nb_push_state) == NB_PUSH_MOST ? 1 : -1];
 typedef char nb_check_item[sizeof(nb_item) == 344 && offsetof(nb_item, gal) == 136 && offsetof(nb_item, ion) == 280 ? 1 : -1];
 typedef char nb_check_subframe[sizeof(nb_subframe) == 160 && offsetof(nb_subframe, ion) == 128 ? 1 : -1];
 typedef char nb_check_subframe_bits[sizeof(nb_subframe_bits) == 38 ? 1 : -1];
+typedef char nb_check_row[sizeof(nb_row) == 352 && offsetof(nb_row, letter) == 20 && offsetof(nb_row, columns) == 32 ? 1 : -1];
+typedef char nb_check_column[sizeof(nb_column) == 20 && offsetof(nb_column, rule) == 16 ? 1 : -1];
 typedef char nb_check_header[sizeof(nb_header) == 20 && offsetof(nb_header, leap) == 19 ? 1 : -1];
 typedef char nb_check_word[sizeof(nb_word) == 152 && offsetof(nb_word, ion) == 136 ? 1 : -1];
 typedef char nb_check_page_bits[sizeof(nb_page_bits) == 30 && offsetof(nb_page_bits, odd) == 15 ? 1 : -1];
@@ -761,6 +839,18 @@ static inline size_t nb_frame_wanted(const uint8_t *bytes, size_t n) {
 
 /** The ratio of a circle's circumference to its diameter, as the standards give it. */
 #define NB_PI 3.1415926535898
+
+#ifdef __cplusplus
+#define NB_CAST(type, it) static_cast<type>(it)
+#else
+#define NB_CAST(type, it) ((type)(it))
+#endif
+
+/** The value of the integer of a column in its unit, angles in radians. */
+static inline double nb_column_value(const nb_column *column, int64_t integer) {
+    const double scaled = ldexp(NB_CAST(double, integer) * column->factor, column->two) * (column->is_angle ? NB_PI : 1);
+    return column->ten < 0 ? scaled / pow(10, -column->ten) : scaled * pow(10, column->ten);
+}
 
 /** An orbit and its clock in SI units, angles in radians. */
 typedef struct nb_orbit {
@@ -855,12 +945,6 @@ static inline int64_t nb_raw(double value, int bits) {
     double scaled = ldexp(value, bits);
     return scaled > -4611686018427387904.0 && scaled < 4611686018427387904.0 ? llround(scaled) : most;
 }
-
-#ifdef __cplusplus
-#define NB_CAST(type, it) static_cast<type>(it)
-#else
-#define NB_CAST(type, it) ((type)(it))
-#endif
 
 /** Sets the raw integer nearest to a double at a scale of 2^-bits for a signed field of this width, 1 to 32 bits.
  * @return whether the field can hold it; otherwise, also for a double that is no number, the integer is unchanged */

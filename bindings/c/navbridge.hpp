@@ -118,6 +118,21 @@ inline result<std::vector<std::uint8_t>> message_write(const nb_item &item) {
         [&](std::uint8_t *at, std::size_t room, std::size_t *used) { return nb_message_write(&item, at, room, used); });
 }
 
+inline result<nb_row> row_from_message(bytes payload, std::uint32_t week) {
+    return detail::value<nb_row>([&](nb_row *it) { return nb_row_from_message(payload.data(), payload.size(), week, it); });
+}
+
+inline result<std::string> row_rinex(const nb_row &row) {
+    return detail::written<std::string>(
+        [&](std::uint8_t *at, std::size_t room, std::size_t *used) { return nb_row_rinex(&row, at, room, used); });
+}
+
+inline result<nb_column> row_column(const nb_row &row, std::uint32_t index) {
+    return detail::value<nb_column>([&](nb_column *it) { return nb_row_column(&row, index, it); });
+}
+
+inline const char *row_name(const nb_row &row, std::uint32_t index) noexcept { return nb_row_name(&row, index); }
+
 inline result<nb_subframe> subframe_read(const nb_subframe_bits &bits, std::uint32_t satellite) {
     return detail::value<nb_subframe>([&](nb_subframe *it) { return nb_subframe_read(&bits, satellite, it); });
 }

@@ -28,6 +28,8 @@ static const struct {
     {NB_NO_MESSAGE, "NB_NO_MESSAGE", "no message carries ionospheric parameters"},
     {NB_NO_FRAME, "NB_NO_FRAME", "the bytes are not one complete frame with a right checksum"},
     {NB_NO_HEADER, "NB_NO_HEADER", "the date of the header has control characters, or the leap seconds are 100 or more"},
+    {NB_BAD_FIELD, "NB_BAD_FIELD", "a field of the message is out of its range"},
+    {NB_BAD_DAY, "NB_BAD_DAY", "the day number of the message is that of no day near the reference week"},
     {NB_RECORD_SATELLITE, "NB_RECORD_SATELLITE", "the record has no satellite of its system, or two"},
     {NB_RECORD_SHORT, "NB_RECORD_SHORT", "the record ends before the last line of its kind"},
     {NB_RECORD_NO_NUMBER, "NB_RECORD_NO_NUMBER", "a number or a part of the date is no number"},

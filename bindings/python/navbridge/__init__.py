@@ -39,6 +39,11 @@ True
 >>> with open("expected/ephemerides.rnx", "rb") as file:
 ...     [record_read(it).satellite for it in records(file)]
 [1, 1]
+>>> row = row_from_message(bytes.fromhex("3fc080af24037ffffe7fffffd1776a03000000000924a3b1035d2ec3200c098019900200" + 28 * "00"), 2295)
+>>> row.letter, row.title, row.satellite, [(it.name, it.integer, it.two) for it in row.columns()][3]
+('R', 'FDMA', 2, ('x', 67108862, -11))
+>>> row_rinex(row).splitlines()[0]
+'> EPH R02 FDMA'
 >>> with Pages() as parts:
 ...     parts.take(page[15:], 1001, gal.satellite), parts.take(page[:15], 1000, gal.satellite)[0].page == page
 ([], True)
@@ -62,8 +67,9 @@ ValueError: Gal.satellite: 37 is not 1 to 36
 """
 
 from ._calls import (
-    E1B, E5B, FRAME_MOST, Conversion, Deframer, Joined, Pages, Push, convert, ephemerides, frame_make, frame_read, frames,
-    header_write, is_frame, message_read, message_write, page_read, page_write, record_read, record_write, records, subframe_read, subframe_write, subframes_join, week_of_unix, words_join,
+    E1B, E5B, FRAME_MOST, Column, Conversion, Deframer, Joined, Pages, Push, Row, convert, ephemerides, frame_make, frame_read, frames,
+    header_write, is_frame, message_read, message_write, page_read, page_write, record_read, record_write, records, row_from_message,
+    row_rinex, subframe_read, subframe_write, subframes_join, week_of_unix, words_join,
 )
 from ._library import Error
 from ._statuses import Status
@@ -75,9 +81,9 @@ from ._values import (
 Error.__module__ = Status.__module__ = __name__
 __version__ = "2.0.0"
 __all__ = [
-    "Conversion", "Deframer", "E1B", "E5B", "Error", "FRAME_MOST", "Gal", "GalHealth", "GalIon", "GalWord1", "GalWord2", "GalWord3",
+    "Column", "Conversion", "Deframer", "E1B", "E5B", "Error", "FRAME_MOST", "Gal", "GalHealth", "GalIon", "GalWord1", "GalWord2", "GalWord3",
     "GalWord4", "Gps", "GpsClock", "GpsIon", "GpsOrbitA", "GpsOrbitB", "GpsSide", "Ion", "Item", "Joined", "Orbit", "PI", "Pages",
-    "Push", "Status", "Subframe", "Word", "array", "convert", "ephemerides", "frame_make", "frame_read", "frames", "header_write",
-    "is_frame", "message_read", "message_write", "page_read", "page_write", "record_read", "record_write", "records", "subframe_read",
+    "Push", "Row", "Status", "Subframe", "Word", "array", "convert", "ephemerides", "frame_make", "frame_read", "frames", "header_write",
+    "is_frame", "message_read", "message_write", "page_read", "page_write", "record_read", "record_write", "records", "row_from_message", "row_rinex", "subframe_read",
     "subframe_write", "subframes_join", "week_of_unix", "words_join",
 ]

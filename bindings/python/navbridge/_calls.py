@@ -10,7 +10,7 @@ from typing import Any, BinaryIO, Callable, Iterator, NamedTuple, Sequence
 
 from ._library import Bytes, Error, done, library, number, view
 from ._statuses import Status
-from ._values import ITEM_SIZE, SUBFRAMES, WORDS, Gal, Gps, Item, Subframe, Word, _kept, _wanted, item_bytes, item_of
+from ._values import ITEM_SIZE, PI, SUBFRAMES, WORDS, Gal, Gps, Item, Subframe, Word, _kept, _wanted, item_bytes, item_of
 
 FRAME_MOST = 1029
 E1B, E5B = 1, 2
@@ -113,6 +113,73 @@ def _written(call: Callable[..., int], *given: Any) -> bytes:
     room, used = ctypes.create_string_buffer(FRAME_MOST), ctypes.c_size_t()
     done(call(*given, room, FRAME_MOST, ctypes.byref(used)))
     return room.raw[: used.value]
+
+
+class _RawRow(ctypes.Structure):
+    """nb_row."""
+
+    _fields_ = [
+        ("epoch", ctypes.c_uint64), ("message", ctypes.c_uint32), ("satellite", ctypes.c_uint32), ("count", ctypes.c_uint32),
+        ("letter", ctypes.c_char), ("title", ctypes.c_char * 7), ("columns", ctypes.c_int64 * 40),
+    ]  # fmt: skip
+
+
+class Column(NamedTuple):
+    """A column of a row: its integer times ``factor``, 2^``two`` and 10^``ten``; semicircles where ``is_angle``. ``rule`` is an nb_rule."""
+
+    name: str
+    integer: int
+    factor: int
+    two: int
+    ten: int
+    is_angle: bool
+    rule: int
+
+    def value(self) -> float:
+        """The value in this unit, angles in radians."""
+        value = self.integer * self.factor * 2.0**self.two * (PI if self.is_angle else 1)
+        return value / 10**-self.ten if self.ten < 0 else value * 10**self.ten
+
+
+class Row(NamedTuple):
+    """The ephemeris of any system as the columns of its record, integers; ``epoch`` is in seconds from 1980-01-06."""
+
+    message: int
+    satellite: int
+    letter: str
+    title: str
+    epoch: int
+    integers: tuple[int, ...]
+
+    def _raw(self) -> _RawRow:
+        count = len(self.integers)
+        if count > 40:
+            raise ValueError(f"integers: at most 40 are wanted, not {count}")
+        numbers = [number(it, "integers", -(2**63), 2**63 - 1) for it in self.integers]
+        raw = _RawRow(number(self.epoch, "epoch", 0, 2**64 - 1), number(self.message, "message"), number(self.satellite, "satellite"), count)
+        raw.columns[:count] = numbers
+        return raw
+
+    def columns(self) -> list[Column]:
+        """Its columns, each with its name and unit."""
+        raw, unit, all = self._raw(), (ctypes.c_int32 * 5)(), []
+        for index, integer in enumerate(self.integers):
+            done(library().nb_row_column(ctypes.byref(raw), index, unit))
+            name = library().nb_row_name(ctypes.byref(raw), index).decode()
+            all.append(Column(name, integer, unit[0], unit[1], unit[2], bool(unit[3]), unit[4]))
+        return all
+
+
+def row_from_message(payload: Any, week: int) -> Row:
+    """The ephemeris in a message of any system that the library has a table of, near this week, 1024 to 8191."""
+    raw = _RawRow()
+    done(library().nb_row_from_message(*view(payload, "payload"), number(week, "week"), ctypes.byref(raw)))
+    return Row(raw.message, raw.satellite, raw.letter.decode(), raw.title.decode(), raw.epoch, tuple(raw.columns[: raw.count]))
+
+
+def row_rinex(row: Row) -> str:
+    """The record of a row in a navigation file of RINEX 4.01."""
+    return _written(library().nb_row_rinex, ctypes.byref(_typed(row, Row)._raw())).decode("ascii")
 
 
 def _typed(value: Any, kind: type) -> Any:

@@ -251,6 +251,18 @@ impl Word {
     }
 }
 
+/// `nb_row`.
+#[repr(C)]
+pub struct Row {
+    pub epoch: u64,
+    pub message: u32,
+    pub satellite: u32,
+    pub count: u32,
+    pub letter: u8,
+    pub title: [u8; 7],
+    pub columns: [i64; 40],
+}
+
 /// `nb_header`.
 #[repr(C)]
 pub struct Header {
@@ -274,7 +286,7 @@ const _: () = assert!(
 const _: () =
     assert!(std::mem::size_of::<IonBoth>() == 64 && std::mem::size_of::<Subframe>() == 160);
 const _: () = assert!(std::mem::size_of::<Word>() == 152 && std::mem::size_of::<Joined>() == 36);
-const _: () = assert!(std::mem::size_of::<Header>() == 20);
+const _: () = assert!(std::mem::size_of::<Header>() == 20 && std::mem::size_of::<Row>() == 352);
 
 // a state is an array of u64, which is aligned; only the library looks at it
 extern "C" {
@@ -302,6 +314,10 @@ extern "C" {
         room: usize,
         used: *mut usize,
     ) -> u32;
+    pub fn nb_row_from_message(payload: *const u8, n: usize, week: u32, row: *mut Row) -> u32;
+    pub fn nb_row_rinex(row: *const Row, text: *mut u8, room: usize, used: *mut usize) -> u32;
+    pub fn nb_row_column(row: *const Row, index: u32, column: *mut crate::Column) -> u32;
+    pub fn nb_row_name(row: *const Row, index: u32) -> *const c_char;
     pub fn nb_subframe_read(bits: *const [u8; 38], satellite: u32, subframe: *mut Subframe) -> u32;
     pub fn nb_subframe_write(subframe: *const Subframe, tow_count: u32, bits: *mut [u8; 38])
         -> u32;

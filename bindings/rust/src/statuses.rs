@@ -22,6 +22,8 @@ reasons! {
     25 NoMessage "no message carries ionospheric parameters"
     26 NoFrame "the bytes are not one complete frame with a right checksum"
     27 NoHeader "the date of the header has control characters, or the leap seconds are 100 or more"
+    28 BadField "a field of the message is out of its range"
+    29 BadDay "the day number of the message is that of no day near the reference week"
     32 RecordSatellite "the record has no satellite of its system, or two"
     33 RecordShort "the record ends before the last line of its kind"
     34 RecordNoNumber "a number or a part of the date is no number"

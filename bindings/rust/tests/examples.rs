@@ -131,6 +131,28 @@ fn parts_of_one_issue_are_joined() {
 }
 
 #[test]
+fn a_row_has_its_columns_by_name() {
+    let mut payload = [0; 61];
+    for (at, byte) in [0x41, 0x11, 0x0f, 0x7f].into_iter().enumerate() {
+        payload[at] = byte;
+    }
+    let mut row = row_from_message(&payload, 2295).unwrap();
+    assert_eq!(
+        (row.letter, &row.title[..], row.satellite),
+        ('I', "LNAV", 4)
+    );
+    let columns = row.columns().unwrap();
+    assert_eq!(
+        (columns.len(), columns[0].0, columns[0].2.two),
+        (28, "af0", -31)
+    );
+    assert!(row_rinex(&row).unwrap().starts_with("> EPH I04 LNAV\n"));
+    row.integers[0] = 1 << 40;
+    assert_eq!(row_rinex(&row), Err(Error::NoItem));
+    assert_eq!(row_from_message(&payload[..60], 2295), Err(Error::Short));
+}
+
+#[test]
 fn what_cannot_be_given_has_a_reason() {
     assert_eq!(convert(&["--from=nothing"], b"").unwrap_err(), Error::NoJob);
     assert_eq!(

@@ -6,6 +6,8 @@
 //! - [`nb_is_frame`], [`nb_frame_make`] and [`nb_frame_read`] judge, make and read a frame;
 //! - [`nb_subframes_join`] and [`nb_words_join`] make ephemerides of subframes and of words;
 //! - [`nb_header_write`], [`nb_header_size`] and [`nb_record_size`] are for files of records;
+//! - [`nb_row_from_message`], [`nb_row_rinex`] and [`nb_row_column`] read and write ephemerides of
+//!   any system as rows of integers;
 //! - [`nb_week_of_unix`] gives the week of a time;
 //! - [`nb_convert`] does a conversion over memory, as the program does it over its streams.
 //!
@@ -21,6 +23,7 @@ mod push;
 
 ghost use Rattle.std.specs.Prelude.{◌≡◌, ◌<◌, ◌≤◌, ◌↔◌, IsTrue, length, map};
 ghost use Rattle.gnss_week.specs.Weeks.{IsReference};
+ghost use Rattle.nav_bits.specs.Bits.{number_at};
 ghost use Rattle.nav_eph.specs.Satellite.{IsSat};
 ghost use Rattle.nav_eph.specs.declared.sat.System.TheVariants.{Gal, Gps};
 ghost use Rattle.lnav_subframe.specs.Reading.{subframe_of};
@@ -42,10 +45,12 @@ ghost use Rattle.c_messages.specs.RecordEnds.{EndsHeader, EndsRecord};
 ghost use Rattle.c_messages.specs.RecordReads.{IsVersion, PutsRead, judged_in};
 ghost use Rattle.c_messages.specs.RecordWrites.{IsHeader, IsSaidBy, PutsRecord, header_text};
 ghost use Rattle.c_messages.specs.Weeks.{unix_week};
+ghost use Rattle.c_rows.specs.Rows.{GivesColumn, ReadsRow, WritesRow};
 ghost use Rattle.navbridge_c.specs.Conversions.{Converts};
 
 use c_messages::{HeaderRaw, PageBits, SubframeBits, SubframeRaw, SubframesRaw, WordRaw, WordsRaw};
 use c_records::ItemRaw;
+use c_rows::{ColumnRaw, RowRaw};
 use std::alloc::Global;
 
 /// Does the job that the words give, as the program `navbridge` does it, from an input in memory to
@@ -332,6 +337,36 @@ pub extern "C" fn nb_week_of_unix(seconds: u64) -> u32
     ensures week { result ≡ unix_week seconds }
 {
     c_messages::week_of_unix(seconds)
+}
+
+/// Puts the row of a payload of an ephemeris message of any system, near a reference week; 16 to 22,
+/// 28 or 29 where there is none.
+#[unsafe(no_mangle)]
+pub extern "C" fn nb_row_from_message(payload: &[u8], week: u32, row: &mut RowRaw) -> u32
+    ensures row { IsReference week → 3 ≤ length payload.now →
+        ReadsRow (number_at payload.now 0 12) payload.now week row.old row.new result }
+    ensures short { IsReference week → length payload.now < 3 →
+        (result ≡ 16) × (row.new ≡ row.old) }
+    ensures week { (IsReference week → ⊥) → (result ≡ 22) × (row.new ≡ row.old) }
+{
+    c_rows::read_row(payload, week, row)
+}
+
+/// Puts the prefix that fits of the record of a row (RINEX 4.01), and its length into `used`; 23
+/// where the numbers stand for no row.
+#[unsafe(no_mangle)]
+pub extern "C" fn nb_row_rinex(row: &RowRaw, text: &mut [u8], used: &mut usize) -> u32
+    ensures row { WritesRow row.now text.old text.new used.new result }
+{
+    c_rows::write_row(row, text, used)
+}
+
+/// Puts the unit of the column with that index of a row; 23 where there is none.
+#[unsafe(no_mangle)]
+pub extern "C" fn nb_row_column(row: &RowRaw, index: u32, column: &mut ColumnRaw) -> u32
+    ensures column { GivesColumn row.now.message index column.old column.new result }
+{
+    c_rows::row_column(row, index, column)
 }
 
 /// The version of the library: that of the header that fits it.
