@@ -54,27 +54,10 @@ def read(path):
         return it.read()
 
 
-# words of the comments in sources, and the words of the glossary that a page has for them; no clause counts writes
-WORDING = [(re.compile(rf"\b{word}\b"), better) for word, better in (
-    (r"(want of memory|where memory is missing)", "lack of memory"), (r"heard", "received"), (r"stamp(s?)", r"time tag\1"), (r"refused", "rejected"),
-    (r"passed over", "skipped"), (r"beside", "next to"), (r"anew", "again"), (r"folders", "directories"), (r"folder", "directory"),
-    (r"Folders", "Directories"), (r"(?<!piece )whole(?! (seconds|numbers?))", "complete"), (r"rooms", "buffers"), (r"(with|no|enough|its|the) room", r"\1 buffer"),
-    (r"(the |a )?(words of (the|a) command line|command-line words)", "the arguments"), (r"command-line word", "argument"),
-    (r"job(s?)", r"conversion\1"), (r"stands for", "encodes"), (r"stand for", "encode"), (r"law(s?)", r"theorem\1"), (r"Law(s?)", r"Theorem\1"),
-    (r"by hand", "manually"), (r"comes back", "is read again"), (r"come back", "are read again"), (r"goes on", "continues"),
-    (r"drawn", "random"), (r"behind", "after"), (r"where (there|it|they|no|none|nothing|one)", r"if \1"), (r"form(s?)(?! exactly)", r"format\1"),
-    (r"halves(?! (up|to))", "page parts"), (r"mirrors", "executable counterparts"), (r", by one write", ""),
-)]
-
-
 def first_sentence(text):
     text = re.sub(r"\[(`[^`]*`)\](\([^)]*\))?", r"\1", " ".join(text.split()))
     found = re.match(r".*?[^.\d][.:](?= [A-Z`]| ?$)", text + " ")
-    text = (found[0] if found else text).rstrip(".: ").replace("|", "\\|")
-    parts = re.split(r"(`[^`]*`)", text)
-    for word, better in WORDING:
-        parts[::2] = [word.sub(better, it) for it in parts[::2]]
-    return "".join(parts)
+    return (found[0] if found else text).rstrip(".: ").replace("|", "\\|")
 
 
 wrong = 0

@@ -8,7 +8,7 @@
     --commands    fails if a program for the commands is missing; without it the commands are then skipped
 
 checks/words.txt has a line for each word that a page should not use: a regular expression, what to write instead, and the count
-in each page that still has it, and a line for long sentences. A higher count fails. Backticks, code blocks and generated parts are left out. The --help of
+in each page that still has it, and a line for long sentences. A higher count fails. Backticks and code blocks are left out. The --help of
 scripts is checked as a page, and of those in examples/ and packaging/ what they print. checks/budget.txt has the words that each page may have, in steps of 50; code blocks count,
 generated parts do not.
 
@@ -66,9 +66,9 @@ def written(text):
     return re.sub(r"<!-- generated:.*?<!-- end -->", lambda it: "\n" * it[0].count("\n"), text, flags=re.S)
 
 
-def prose(path):
-    """The lines without code, links' targets and, of a manual, without macros that name options and files."""
-    text = written(read(path))
+def prose(path, generated=True):
+    """The lines, also generated ones, without code, links' targets and, of a manual, without macros that name options and files."""
+    text = re.sub(r"<!-- .*? -->", "", read(path) if generated else written(read(path)))
     if path.endswith(".1"):
         text = re.sub(r"^\.Bd -literal.*?^\.Ed", lambda it: "\n" * it[0].count("\n"), text, flags=re.M | re.S)
         text = re.sub(r"^\.(Dl|Nm|Fl|Pa|Cm|Li|Op|Xr|\\\").*$", "", text, flags=re.M)
@@ -120,7 +120,7 @@ def words():
         left = {}
         for page in PAGES + MANUALS + list(scripts):
             if word == LONG:
-                places = list(long_sentences(prose(page))) if page in PAGES else []
+                places = list(long_sentences(prose(page, False))) if page in PAGES else []
             else:
                 places = [(at, it) for at, it in enumerate(scripts[page] if page in scripts else prose(page), 1)
                           for found in re.finditer(rf"\b(?:{word})\b", it, re.I) if not found[0].isupper()]

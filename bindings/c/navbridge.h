@@ -2,7 +2,7 @@
  * @file navbridge.h
  * @brief Broadcast orbits of GPS and Galileo: messages, subframes, pages, records and complete conversions, proved.
  *
- * C99 and C++. Link with libnavbridge.a (docs/LIBRARY.md says how it is made); nothing else is needed but the C library, and
+ * C99 and C++. Link with libnavbridge.a (docs/LIBRARY.md explains how to make it); nothing else is needed but the C library, and
  * -lm for the functions of this header that give doubles.
  *
  * Structs hold the integers that were broadcast, unscaled; the comment of each field has its scale and width, and the
@@ -110,8 +110,8 @@ typedef struct nb_bytes {
 
 /** When an ephemeris was sent. */
 typedef struct nb_sent {
-    uint32_t is_known; /**< 0 where it is not known */
-    int32_t second;    /**< s after the start of the week of its toe, -302,400 to 907,199; 0 where it is not known */
+    uint32_t is_known; /**< 0 if it is not known */
+    int32_t second;    /**< s after the start of the week of its toe, -302,400 to 907,199; 0 if it is not known */
 } nb_sent;
 
 /** The clock of a GPS satellite, of subframe 1 (IS-GPS-200, table 20-I). */
@@ -164,7 +164,7 @@ typedef struct nb_gps {
     uint32_t toe_week;   /**< week of toe, counted from 1980-01-06: 1 to 16,382 */
     nb_sent sent;        /**< when it was sent */
     nb_gps_clock clock;  /**< its clock */
-    nb_gps_side side;    /**< what stands beside the clock */
+    nb_gps_side side;    /**< what subframe 1 has next to the clock */
     nb_gps_orbit_a a;    /**< the first half of its orbit */
     nb_gps_orbit_b b;    /**< the second half, of the same issue */
     uint32_t fit;        /**< fit interval flag: 1 bit (IS-GPS-200, 20.3.3.4.3.1) */
@@ -823,7 +823,7 @@ static inline uint32_t nb_parity_word(uint32_t status) {
     return status >= NB_SUBFRAME_PARITY_1 && status <= NB_SUBFRAME_PARITY_10 ? status - NB_SUBFRAME_PARITY_1 + 1 : 0;
 }
 
-/** How many bytes the frame has that begins here, as its header says: 0 where these bytes do not begin with D3, and 3 where
+/** How many bytes the frame has that begins here, as its header states: 0 if these bytes do not begin with D3, and 3 if
  * they are fewer than its header. */
 static inline size_t nb_frame_wanted(const uint8_t *bytes, size_t n) {
     size_t length;
@@ -938,7 +938,7 @@ static inline nb_orbit nb_orbit_of_gal(const nb_gal *g) {
     return o;
 }
 
-/** The raw integer nearest to a double at a scale of 2^-bits: of an angle divide by NB_PI first. It gives back what the
+/** The raw integer nearest to a double at a scale of 2^-bits: of an angle divide by NB_PI first. It returns what the
  * functions above made a double of. A number past 2^62 is 2^62, which no field has: nb_raw_signed() and nb_raw_unsigned() test this. */
 static inline int64_t nb_raw(double value, int bits) {
     const int64_t most = 4611686018427387904;

@@ -1,8 +1,8 @@
 /**
  * @file navbridge.hpp
- * @brief The calls of navbridge.h for C++17: values in place of rooms, and states that give back what they hold.
+ * @brief The calls of navbridge.h for C++17: values in place of buffers, and states that release what they hold.
  *
- * A call that may be refused gives a result: its value, or the nb_status that says why there is none. Nothing here throws but
+ * A call that can fail returns a result: its value, or the nb_status with the reason why there is none. Nothing here throws but
  * std::bad_alloc, and what the caller's own functions throw; no exception passes through the library. States are moved, not
  * copied, and are for one thread at a time.
  */
@@ -49,7 +49,7 @@ public:
     nb_status status() const noexcept { return status_; }
     /** Its nb_status_text(). */
     const char *what() const noexcept { return nb_status_text(status_); }
-    /** The value; one that says nothing where there is a reason. */
+    /** The value; one without meaning if there is a reason. */
     Value &operator*() noexcept { return value_; }
     const Value &operator*() const noexcept { return value_; }
     Value *operator->() noexcept { return &value_; }
@@ -98,7 +98,7 @@ inline std::uint32_t week_of_unix(std::uint64_t seconds) noexcept { return nb_we
 
 inline bool is_frame(bytes frame) noexcept { return nb_is_frame(frame.data(), frame.size()); }
 
-/** The frame of a payload; empty where it has more than 1,023 bytes. */
+/** The frame of a payload; empty if it has more than 1,023 bytes. */
 inline std::vector<std::uint8_t> frame_make(bytes payload) {
     std::vector<std::uint8_t> frame(NB_FRAME_MOST);
     frame.resize(nb_frame_make(payload.data(), payload.size(), frame.data(), frame.size()));
@@ -202,7 +202,7 @@ class deframer {
 public:
     deframer() : state_(std::make_unique<nb_deframer>()) { nb_deframer_init(state_.get()); }
 
-    /** Calls use(bytes) for each frame that these bytes decide, behind those that were fed before; the bytes are of that call. */
+    /** Calls use(bytes) for each frame that these bytes decide, after those that were fed before; the bytes are of that call. */
     template <class Use> void feed(bytes piece, Use use) {
         std::size_t at = 0, taken = 1;
         decided(use);
@@ -213,7 +213,7 @@ public:
         }
     }
 
-    /** No byte follows: calls use(bytes) for each frame behind an incomplete one. */
+    /** No byte follows: calls use(bytes) for each frame after an incomplete one. */
     template <class Use> void finish(Use use) {
         nb_deframer_finish(state_.get());
         decided(use);
@@ -255,7 +255,7 @@ private:
 /** A conversion whose input is pushed in pieces of any size, and whose output is taken as it comes. */
 class push {
 public:
-    /** Says nothing; for a result without one. */
+    /** Without meaning; for a result without one. */
     push() noexcept = default;
 
     static result<push> open(const std::vector<std::string_view> &words) {

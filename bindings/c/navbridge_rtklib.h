@@ -8,7 +8,7 @@
  * An eph_t that is made so is the one that RTKLIB's decode_rtcm3() makes of the same message, with these differences:
  * - its doubles are exact products with powers of two, of which RTKLIB has decimals that may differ in the last bits;
  * - toc is at most half a week from toe, where RTKLIB takes it to lie in toe's week;
- * - ttr is when the ephemeris was sent, and zero where that is not known, where RTKLIB has the time of the receiver.
+ * - ttr is when the ephemeris was sent, and zero if that is not known; RTKLIB has the time of the receiver then.
  */
 #ifndef NAVBRIDGE_RTKLIB_H
 #define NAVBRIDGE_RTKLIB_H
@@ -53,7 +53,7 @@ static inline void nb_rtklib_orbit(const nb_orbit *o, uint32_t week, const nb_se
     eph->tgd[1] = o->group[1];
 }
 
-/** The eph_t of an ephemeris of GPS. Its fit is RTKLIB's: 4 (hours), or 0 where the flag says more than that. */
+/** The eph_t of an ephemeris of GPS. Its fit is RTKLIB's: 4 (hours), or 0 if the flag means more than that. */
 static inline void nb_rtklib_of_gps(const nb_gps *g, eph_t *eph) {
     nb_orbit o = nb_orbit_of_gps(g);
     memset(eph, 0, sizeof *eph);
@@ -81,7 +81,7 @@ static inline void nb_rtklib_of_gal(const nb_gal *g, eph_t *eph) {
     nb_rtklib_orbit(&o, g->toe_week, &g->sent, eph);
 }
 
-/** The eph_t of an item; 0, and nothing, where it is no ephemeris. */
+/** The eph_t of an item; 0, and nothing, if it is no ephemeris. */
 static inline int nb_rtklib_of_item(const nb_item *item, eph_t *eph) {
     if (item->kind == NB_GPS) nb_rtklib_of_gps(&item->gps, eph);
     if (item->kind == NB_GALILEO) nb_rtklib_of_gal(&item->gal, eph);
@@ -92,7 +92,7 @@ static inline int nb_rtklib_of_item(const nb_item *item, eph_t *eph) {
 
 /** @name From eph_t
  * Each number is the raw integer nearest to the double, so an eph_t that was made of a message or a struct gives its numbers
- * back. Where one does not fit into its 32 bits the answer is 0; whether it fits into the width that its field has, and the rest,
+ * back. If one does not fit into its 32 bits the result is 0; whether it fits into the width that its field has, and the rest,
  * is judged by the calls that write the struct. */
 /**@{*/
 
@@ -103,7 +103,7 @@ static inline int32_t nb_rtklib_signed(double value, int bits, int *fits) {
     return raw < INT32_MIN || raw > INT32_MAX ? 0 : (int32_t)raw;
 }
 
-/** The same of an angle, which is taken once round where that makes it fit. */
+/** The same of an angle, to which a full circle is added or subtracted if that makes it fit. */
 static inline int32_t nb_rtklib_angle(double value, int bits, int *fits) {
     int64_t raw = nb_raw(value / SC2RAD, bits);
     if (bits == 31 && raw > INT32_MAX) raw -= (int64_t)1 << 32;
@@ -135,7 +135,7 @@ static inline nb_sent nb_rtklib_sent(const eph_t *eph, int week) {
     return sent;
 }
 
-/** The ephemeris of GPS that an eph_t is; 0 where it is of another system, or a number does not fit. */
+/** The ephemeris of GPS that an eph_t is; 0 if it is of another system, or a number does not fit. */
 static inline int nb_gps_of_rtklib(const eph_t *eph, nb_gps *g) {
     int satellite, week, fits = satsys(eph->sat, &satellite) == SYS_GPS;
     memset(g, 0, sizeof *g);
@@ -174,7 +174,7 @@ static inline int nb_gps_of_rtklib(const eph_t *eph, nb_gps *g) {
     return fits;
 }
 
-/** The ephemeris of Galileo that an eph_t is; 0 where it is of another system or of F/NAV, or a number does not fit. */
+/** The ephemeris of Galileo that an eph_t is; 0 if it is of another system or of F/NAV, or a number does not fit. */
 static inline int nb_gal_of_rtklib(const eph_t *eph, nb_gal *g) {
     int satellite, week, fits = satsys(eph->sat, &satellite) == SYS_GAL && !(eph->code & 1 << 1);
     memset(g, 0, sizeof *g);
@@ -213,7 +213,7 @@ static inline int nb_gal_of_rtklib(const eph_t *eph, nb_gal *g) {
     return fits;
 }
 
-/** The item of an eph_t of GPS or Galileo I/NAV; 0 where it is none. */
+/** The item of an eph_t of GPS or Galileo I/NAV; 0 if it is none. */
 static inline int nb_item_of_rtklib(const eph_t *eph, nb_item *item) {
     int system = satsys(eph->sat, NULL);
     memset(item, 0, sizeof *item);

@@ -1,4 +1,4 @@
--- When bytes are a capture, and what each of its lines stands for, in terms of the capture format.
+-- When bytes are a capture, and what each of its lines encodes, in terms of the capture format.
 use Rattle.std.specs.Prelude.{◌≡◌, ◌⊎◌, ℕ, true, false, List, [], ◌∷◌, Option, Some}
 use Rattle.nav_io.specs.Lines.{Line, lines_by}
 use Rattle.capture_lines.specs.Heads.{IsHead}
@@ -20,11 +20,11 @@ pub record IsCapture (week : Option ℕ) (bytes : List ℕ) (c : Capture) : Type
   pub window : c.window ≡ head.window
   pub week_is : week_for week head.week ≡ Some c.week
 
--- the line stands for the item; a line of more than 2,200 bytes is malformed
+-- the line encodes the item; a line of more than 2,200 bytes is malformed
 abbrev pub IsItemOf : Line → LineItem → Type 0
 IsItemOf line item = ((line.long ≡ true) × (item ≡ Malformed)) ⊎ ((line.long ≡ false) × StandsFor item line.text)
 
--- the lines stand for the items, one each and in order
+-- the lines encode the items, one each and in order
 abbrev pub StandFor : List Line → List LineItem → Type 0
 StandFor [] [] = Unit {0}
 StandFor (line ∷ lines) (item ∷ items) = IsItemOf line item × StandFor lines items

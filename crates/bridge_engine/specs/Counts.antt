@@ -1,11 +1,11 @@
--- What is read of the counts of a job that is done.
+-- What is read of the counts of a conversion that is done.
 use Rattle.std.specs.Prelude.{ℕ, Option, None, Some}
 use Rattle.outlets.specs.declared.times.Times.{Times}
 use Rattle.captures.specs.declared.seed_target.SeedCounts.TheVariants.{Written, Counted}
 use Rattle.bridge_engine.specs.declared.done.Done.{Done}
 use Rattle.bridge_engine.specs.declared.done.Done.TheVariants.{Frames, Capture, Stream, File, Sent, Merged, Covered, Generated}
 
--- how many items were made: whole periods, items, or those kept in a merge
+-- how many items were made: complete periods, items, or those in a merged file
 abbrev pub made_of : Done → Option ℕ
 made_of (Frames counts) = None
 made_of (Capture counts) = Some counts.whole
@@ -17,7 +17,7 @@ made_of (Covered counts) = Some counts.items
 made_of (Generated (Written bytes)) = None
 made_of (Generated (Counted counts)) = Some counts.whole
 
--- how many frames, lines or records were refused
+-- how many frames, lines or records were rejected
 abbrev pub refused_of : Done → Option ℕ
 refused_of (Frames counts) = None
 refused_of (Capture counts) = Some counts.refused

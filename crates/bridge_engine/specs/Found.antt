@@ -1,4 +1,4 @@
--- Parsed option values against rows of the table of jobs. Only private functions cite these.
+-- Parsed option values against rows of the table of conversions. Only private functions cite these.
 use Rattle.std.specs.Prelude.{◌≡◌, ℕ, List}
 use Rattle.bridge_engine.specs.declared.values.Values.{Values}
 use Rattle.bridge_engine.specs.Job.{Row, Target}

@@ -1,4 +1,4 @@
--- The job that a command line asks for: the table of jobs.
+-- The conversion that a command line asks for: the table of conversions.
 use Rattle.std.specs.Prelude.{◌≡◌, ◌≤◌, ◌^◌, ◌<◌, ℕ, List, codes, take, drop, length, slice_index, IsTrue, Option, None, Some}
 use Rattle.std.specs.Str.Parse.{digits_value}
 use Rattle.std.specs.Char.{is_ascii_digit}
@@ -67,14 +67,16 @@ pub record ReadsAs (given : OptionsGiven) (values : Values) : Type 0 where
   pub seed : Reads IsSeedText given.seed values.seed
   pub sats : Reads IsSatsText given.sats values.sats
 
--- a row of the table of jobs: the words after `--from` and `--to`, and the other options. `Some` is an option that the job
--- requires and `None` one that it excludes; a variable of type `Option` is an option that it may have.
+-- a row of the table of conversions: the values of `--from` and `--to`, and the other options.
+-- `Some` is an option that the conversion requires and `None` one that it excludes; a variable of
+-- type `Option` is an option that it may have.
 pub record Row : Type 0 where
   pub from : List ℕ
   pub to : List ℕ
   pub values : Values
 
--- what is written: the word after `--to`, and the leap seconds and date of the RINEX header, where it has one
+-- what is written: the value of `--to`, and the leap seconds and date of the RINEX header, if it
+-- has one
 pub record Target : Type 0 where
   pub word : List ℕ
   pub leap : Option ℕ
@@ -130,7 +132,8 @@ seed_row job = record {
   values = record { week = Some job.week; leap = None; date = None; seed = Some job.seed; sats = Some job.sats };
 }
 
--- the table of jobs: a week is optional for a capture, and required for ephemerides of a stream, a file sent and a seed
+-- the table of conversions: a week is optional for a capture, and required for ephemerides of a
+-- stream, a file sent and a seed
 abbrev pub row_of : Job → Row
 row_of StreamToFrames = row (codes "stream") (plain (codes "frames")) None
 row_of (Capture job) = row (codes "capture") (capture_target job.to) job.week
@@ -143,18 +146,18 @@ row_of (Merge words) = row (codes "rinex") (headed (codes "merged") words) None
 row_of Cover = row (codes "rinex") (plain (codes "cover")) None
 row_of (Seed job) = seed_row job
 
--- the options are exactly those of the job's row, with its values
+-- the options are exactly those of the conversion's row, with its values
 pub record Asks (given : OptionsGiven) (job : Job) : Type 0 where
   pub from : given.from ≡ Some (row_of job).from
   pub to : given.to ≡ Some (row_of job).to
   pub values : ReadsAs given (row_of job).values
 
--- the command line asks for this job
+-- the arguments name this conversion
 pub record IsJob (words : List (List ℕ)) (job : Job) : Type 0 where
   pub given : OptionsGiven
   pub options : GiveValues words given
   pub asks : Asks given job
 
--- the command line asks for some job
+-- the arguments name some conversion
 abbrev pub GivesJob : List (List ℕ) → Type 0
 GivesJob words = (job : Job) × IsJob words job

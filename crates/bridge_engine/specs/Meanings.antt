@@ -1,4 +1,4 @@
--- The output and report of each job, as functions of its input bytes.
+-- The output and report of each conversion, as functions of its input bytes.
 use Rattle.std.specs.Prelude.{ℕ, List, Option}
 use Rattle.rinex_read.specs.Forms.{rinex4}
 use Rattle.rinex_read.specs.Form3.{rinex3}
@@ -18,7 +18,7 @@ use Rattle.bridge_engine.specs.declared.done.Done.TheVariants as dones
 use Rattle.bridge_engine.specs.declared.job.Job.{Job}
 use Rattle.bridge_engine.specs.declared.job.Job.TheVariants.{StreamToFrames, Capture, Stream, Rinex, Rinex3, SendRinex, SendRinex3, Merge, Cover, Seed}
 
--- the meaning of a job: what it makes of the bytes of its input, and what it counts in them
+-- the meaning of a conversion: what it makes of the bytes of its input, and what it counts in them
 abbrev pub done_of : Job → Meaning Done
 done_of StreamToFrames = giving dones.Frames frames_meaning
 done_of (Capture job) = giving dones.Capture (capture_meaning job.to job.week)
@@ -35,7 +35,8 @@ done_of (Seed job) = giving dones.Generated (seed_meaning job.to job.seed job.sa
 abbrev pub meaning_of : Job → Meaning (Unit {0})
 meaning_of job = uncounted (done_of job)
 
--- after a fault, how what was written and reported relates to the whole input; stated for captures only
+-- after an error, how what was written and reported relates to the complete input; stated for
+-- captures only
 abbrev pub IsAhead : Job → Option (List ℕ) → Option (List ℕ) → Option (List ℕ) → Option (List ℕ) → Option (List ℕ)
     → Option (List ℕ) → Type 0
 IsAhead (Capture job) left left_new written written_new reported reported_new =

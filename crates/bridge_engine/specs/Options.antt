@@ -1,4 +1,4 @@
--- The options that the words of a command line spell, and their values.
+-- The options that the arguments spell, and their values.
 use Rattle.std.specs.Prelude.{◌≡◌, ◌⊎◌, ℕ, List, [], ◌∷◌, ◌++◌, codes, Contains, Option, None, Some}
 
 -- an option: its name and its value

@@ -1,4 +1,4 @@
-//! The `clap` command that parses the command-line words.
+//! The `clap` command that parses the arguments.
 
 ghost use Rattle.std.specs.Prelude.{◌≡◌, IfOk, false, map};
 ghost use Rattle.clap.specs.Words.{app_of, rule_of};

@@ -1,4 +1,4 @@
-//! What a job that is done has counted.
+//! What a conversion that is done has counted.
 
 ghost use Rattle.std.specs.Prelude.{◌≡◌, Err, IsOkAnd, MatchResult};
 ghost use Rattle.bridge_engine.specs.Counts.{made_of, refused_of, times_in};
@@ -10,7 +10,7 @@ use one_run::BridgeFault;
 use outlets::Times;
 use streams::{FrameCounts, StreamCounts};
 
-/// What a job that is done has counted.
+/// What a conversion that is done has counted.
 #[derive(Clone, Copy)]
 pub enum Done {
     /// The frames of a stream.
@@ -32,8 +32,8 @@ pub enum Done {
 }
 
 impl Done {
-    /// How many items were made: whole periods, items, or those kept in a merge; `None` of frames,
-    /// and of a generated capture that was written.
+    /// How many items were made: complete periods, items, or those in a merged file; `None` of
+    /// frames, and of a generated capture that was written.
     pub fn made(&self) -> Option<u64>
         ensures { result ≡ made_of self.now }
     {
@@ -50,7 +50,7 @@ impl Done {
         }
     }
 
-    /// How many frames, lines or records were refused; `None` as of [`Done::made`].
+    /// How many frames, lines or records were rejected; `None` as of [`Done::made`].
     pub fn refused(&self) -> Option<u64>
         ensures { result ≡ refused_of self.now }
     {
@@ -67,7 +67,7 @@ impl Done {
         }
     }
 
-    /// The first and the last epoch of the ephemerides among the items; `None` where there is no
+    /// The first and the last epoch of the ephemerides among the items; `None` if there is no
     /// ephemeris, of a file that is sent, and as of [`Done::made`].
     pub fn times(&self) -> Option<Times>
         ensures { result ≡ times_in self.now }

@@ -45,7 +45,7 @@ pub enum Job {
 /// A conversion of a capture.
 #[derive(Clone, Copy)]
 pub struct CaptureJob {
-    /// The reference week, where the command line names one.
+    /// The reference week, if the arguments name one.
     pub week: Option<RefWeek>,
     /// What it is converted to.
     pub to: CaptureTo,
@@ -73,12 +73,12 @@ pub struct SeedJob {
     pub to: SeedTo,
 }
 
-/// The job that the words ask for: they spell the options of one row of the table of jobs, in any
-/// order, each once and each in its range. `None` where there is no such row.
+/// The conversion that the arguments name: they spell the options of one row of the table of
+/// conversions, in any order, each once and each in its range. `None` if there is no such row.
 ///
 /// # Errors
 ///
-/// `AllocError` when there is no memory to parse the words.
+/// `AllocError` when there is no memory to parse the arguments.
 pub fn job_of(alloc: Global, words: &[String]) -> Result<Option<Job>, AllocError>
     ensures { IfOk result (λ r. MatchOption r (¬ GivesJob (map string_bytes words.now))
         (IsJob (map string_bytes words.now))) }

@@ -1,4 +1,4 @@
-//! Laws of the definitions, each on a function with an empty body.
+//! Theorems about the definitions, each on a function with an empty body.
 
 ghost use Rattle.std.specs.Prelude.{◌≡◌, ◌↔◌, ℕ, List, Option, Some};
 ghost use Rattle.nav_io.specs.Lines.{Line};
@@ -9,14 +9,14 @@ ghost use Rattle.bridge_engine.specs.CaptureBytes.{IsCapture, StandFor};
 ghost use Rattle.bridge_engine.specs.declared.job.Job.{Job};
 ghost use Rattle.bridge_engine.specs.Job.{IsJob};
 
-/// A command line asks for at most one job.
+/// Arguments name at most one conversion.
 pub fn words_give_one_job()
     ensures { (words : List (List ℕ)) (job other : Job)
         → IsJob words job → IsJob words other → job ≡ other }
 {}
 
-/// `capture_of` finds a capture exactly where the bytes are one, and each line is read as the item
-/// that it stands for: bytes are at most one capture, and its lines stand for one list of items.
+/// `capture_of` finds a capture exactly if the bytes are one, and each line is read as the item
+/// that it encodes: bytes are at most one capture, and its lines encode one list of items.
 pub fn captures_are_told()
     ensures capture { (week : Option ℕ) (bytes : List ℕ) (c : Capture)
         → (capture_of week bytes ≡ Some c) ↔ IsCapture week bytes c }

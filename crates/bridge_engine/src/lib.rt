@@ -1,13 +1,13 @@
-//! The conversions of `navbridge` as jobs: a command line names a job, which reads an input and
-//! writes an output and a report.
+//! The conversions of `navbridge`: the arguments name one, which reads an input and writes an
+//! output and a report.
 //!
-//! [`bridge`] parses the command line, runs the job and returns its status. [`job_of`] only parses:
-//! a [`Job`] is a row of the table of jobs with the values of its options, which [`options_of`]
-//! reads as `--name value` or `--name=value`, each name at most once and in any order. The output
-//! and the report of a job are functions of the input bytes that it read: `specs/Meanings.antt`
-//! states them, one line for each job, and `specs/Job.antt` the table.
+//! [`bridge`] parses the command line, runs the conversion and returns its status. [`job_of`] only
+//! parses: a [`Job`] is a row of the table of conversions with the values of its options, which
+//! [`options_of`] reads as `--name value` or `--name=value`, each name at most once and in any
+//! order. The output and the report of a conversion are functions of the input bytes that it read:
+//! `specs/Meanings.antt` states them, one line for each conversion, and `specs/Job.antt` the table.
 //!
-//! The runs behind the jobs are re-exported here for other programs.
+//! The runs of the conversions are re-exported here for other programs.
 //!
 //! ```rust
 //! use bridge_engine::bridge;

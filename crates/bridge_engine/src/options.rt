@@ -1,4 +1,4 @@
-//! The options that the command-line words spell, and their values.
+//! The options that the arguments spell, and their values.
 
 ghost use Rattle.std.specs.Prelude.{◌≡◌, MatchOption, IfOk, map, option_map, codes};
 ghost use Rattle.std.specs.List.{list_any};
@@ -13,12 +13,12 @@ use clap::ArgMatches;
 use clap::error::ErrorKind;
 use std::alloc::{AllocError, Global};
 
-/// The texts of the option values, by option name; `None` where the option is absent.
+/// The texts of the option values, by option name; `None` if the option is absent.
 #[derive(Clone, Copy, PartialEq, Eq)]
 pub struct Found<'a> {
-    /// The form that is read.
+    /// The format that is read.
     pub from: Option<&'a str>,
-    /// The form that is written.
+    /// The format that is written.
     pub to: Option<&'a str>,
     /// The GPS reference week.
     pub week: Option<&'a str>,
@@ -32,12 +32,12 @@ pub struct Found<'a> {
     pub sats: Option<&'a str>,
 }
 
-/// The values of the options that the words spell; `None` where they spell no options or repeat a
+/// The values of the options that the arguments spell; `None` if they spell no options or repeat a
 /// name.
 ///
 /// # Errors
 ///
-/// `AllocError` when there is no memory to parse the words.
+/// `AllocError` when there is no memory to parse the arguments.
 pub fn options_of<'a>(alloc: Global, words: &'a [String]) -> Result<Option<Found<'a>>, AllocError>
     ensures { IfOk result (λ r. MatchOption r
         ((given : OptionsGiven) → ¬ GiveValues (map string_bytes words.now) given)

@@ -1,4 +1,4 @@
-//! One job, from its input to its output and its report.
+//! One conversion, from its input to its output and its report.
 
 ghost use Rattle.std.specs.Prelude.{OnErr};
 ghost use Rattle.one_run.specs.Runs.{Ran};
@@ -13,7 +13,8 @@ use one_run::BridgeFault;
 use std::alloc::Global;
 use streams::{run_frames, run_stream};
 
-/// Runs a job: reads the input to its end, and writes and reports what the job makes of its bytes.
+/// Runs a conversion: reads the input to its end, and writes the output and the report for its
+/// bytes.
 pub fn run_job<S: Source, T: Sink, U: Sink>(
     alloc: Global,
     job: &Job,

@@ -1,4 +1,4 @@
-//! The top call: the command-line words, an input, an output and a report give a status.
+//! The top call: the arguments, an input, an output and a report give a status.
 
 ghost use Rattle.std.specs.Prelude.{◌≡◌, ◌⊎◌, ℕ, List, Option, Some, map, IfSome};
 ghost use Rattle.std.specs.String.{string_bytes};
@@ -27,30 +27,30 @@ use nav_io::{Sink, Source};
 use one_run::Status;
 use std::alloc::{AllocError, Global};
 
-/// Runs the job that the command-line words ask for, and returns the status.
+/// Runs the conversion that the arguments name, and returns the status.
 ///
 /// | Status | Meaning |
 /// |---|---|
-/// | 0 | the input, if the job reads one, was read to its end, and all output was written |
-/// | 2 | the words ask for no job; nothing is read or written |
-/// | 3 | only when a read failed: the input's fault count rose, or is at its maximum |
-/// | 4 | only when a write failed: the output's fault count rose, or is at its maximum |
-/// | 5 | exactly when the first line of a capture, or the header of a navigation file, is refused and nothing failed before |
+/// | 0 | the input, if the conversion reads one, was read to its end, and all output was written |
+/// | 2 | the arguments name no conversion; nothing is read or written |
+/// | 3 | only when a read failed: the input's error count rose, or is at its maximum |
+/// | 4 | only when a write failed: the output's error count rose, or is at its maximum |
+/// | 5 | exactly when the first line of a capture, or the header of a navigation file, is rejected and nothing failed before |
 /// | 6 | out of memory |
-/// | 7 | only when a write to the report failed: its fault count rose, or is at its maximum |
+/// | 7 | only when a write to the report failed: its error count rose, or is at its maximum |
 /// | 8 | only when 4,294,967,295 bytes of input were read and there was one more |
 ///
-/// The first line of a capture is accepted for the reference week of the command line, where it
-/// names one. The header of a navigation file must be that of the RINEX version that `--from`
-/// names.
+/// The first line of a capture is accepted for the reference week of the command line, if it names
+/// one. The header of a navigation file must be that of the RINEX version that `--from` names.
 ///
-/// Parsing the words takes memory: where they ask for no job, the status is 2, or 6 when that
-/// memory is missing. Jobs that convert or send a navigation file, and from a stream to frames,
+/// Parsing the arguments takes memory: if they ask for no conversion, the status is 2, or 6 if out
+/// of memory. Conversions that convert or send a navigation file, and from a stream to frames,
 /// allocate no more: when one ends with 6, nothing was read or written.
 ///
 /// After 3, 4, 6, 7 and 8 the output is a prefix of what the bytes read would give; after 3 in a
-/// capture it is exactly what the complete lines close. The jobs `--from stream --to frames` and
-/// `--from seed --to capture` write nothing to the report. Jobs from a seed read nothing.
+/// capture it is exactly what the complete lines close. The conversions `--from stream --to frames`
+/// and `--from seed --to capture` write nothing to the report. Conversions from a seed read
+/// nothing.
 pub fn bridge<S: Source, T: Sink, U: Sink>(
     alloc: Global,
     words: &[String],

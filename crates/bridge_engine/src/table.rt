@@ -1,5 +1,5 @@
-//! The table of jobs as code: the job whose row has the given `--from` and `--to` words and option
-//! values.
+//! The table of conversions as code: the conversion whose row has the given values of `--from`,
+//! `--to` and the other options.
 
 ghost use Rattle.std.specs.Prelude.{◌≡◌, ◌↔◌, None, Some, MatchOption, IsFalse, codes};
 ghost use Rattle.rinex_write.specs.declared.words.HeaderWords.{HeaderWords};

@@ -13,7 +13,7 @@ use crate::Found;
 use gnss_week::RefWeek;
 use nav_vectors::Sats;
 
-/// The values of the options other than `--from` and `--to`; `None` where the option is absent.
+/// The values of the options other than `--from` and `--to`; `None` if the option is absent.
 #[derive(Clone, Copy)]
 pub struct Values {
     /// The reference week, against which truncated week numbers are resolved.

@@ -1,4 +1,4 @@
--- What contracts see of a sink of fixed room.
+-- What contracts see of a sink of fixed size.
 use Rattle.std.specs.Prelude.{ℕ, List}
 
 -- the bytes written, and the count of writes that failed

@@ -11,11 +11,11 @@ use Rattle.c_records.specs.declared.item_raw.ItemRaw.{ItemRaw}
 use Rattle.c_records.specs.Items.{raw_item}
 use Rattle.c_records.specs.Rooms.{IsLeft, StandsIn}
 
--- the bytes are one whole frame with a right checksum, and nothing else
+-- the bytes are one complete frame with a right checksum, and nothing else
 abbrev pub IsFrame : List ℕ → Type 0
 IsFrame bytes = (0 < length bytes) × (frame_size bytes ≡ length bytes)
 
--- the number of a fault
+-- the number of an error
 abbrev pub message_status : MessageFault → ℕ
 message_status NoNumber = 16
 message_status (OtherMessage number) = 17
@@ -24,12 +24,14 @@ message_status BadSat = 19
 message_status BadTime = 20
 message_status SpareSisa = 21
 
--- the item of a payload is put and the answer is 0, or nothing is put and the answer is the number of the fault
+-- the item of a payload is put and the result is 0, or nothing is put and the result is the number
+-- of the error
 abbrev pub PutsMessage : Result NavItem MessageFault → ItemRaw → ItemRaw → ℕ → Type 0
 PutsMessage (Ok item) old new status = (status ≡ 0) × (new ≡ raw_item item old)
 PutsMessage (Err fault) old new status = (status ≡ message_status fault) × (new ≡ old)
 
--- the frame of the message of an ephemeris stands in the room and the answer is 0; ionospheric parameters have no message
+-- the frame of the message of an ephemeris is in the buffer and the result is 0; ionospheric
+-- parameters have no message
 abbrev pub WritesFrame : NavItem → List ℕ → List ℕ → ℕ → ℕ → Type 0
 WritesFrame (Gps e) old new used status = (status ≡ 0) × StandsIn old new used (frame_bytes (bytes_1019 e))
 WritesFrame (Gal e) old new used status = (status ≡ 0) × StandsIn old new used (frame_bytes (bytes_1046 e))

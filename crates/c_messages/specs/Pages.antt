@@ -45,11 +45,11 @@ ArePair page = (kind_of (even_in page) ≡ Even) × (kind_of (odd_in page) ≡ O
 abbrev pub BelongTogether : PageBits → Type 0
 BelongTogether page = HasRightCrc (even_in page) (odd_in page)
 
--- the parts of the word of the page, or its first fault
+-- the parts of the word of the page, or its first error
 abbrev pub word_read : PageBits → Satellite → Result WordParts WordFault
 word_read page sat = reading_of (word_of (even_in page) (odd_in page)) sat 0
 
--- the number of a fault
+-- the number of an error
 abbrev pub word_status : WordFault → ℕ
 word_status (OtherWord number) = 68
 word_status WrongSat = 69
@@ -66,12 +66,13 @@ raw_body (GalHealth health tag) old = record old { number = 5; wn = wn_of tag; s
 raw_body (GalIon ion wn second) old = record old { ion = raw_gal_ion ion }
 raw_body _ old = old
 
--- the same of the second part of a word, where it has one
+-- the same of the second part of a word, if it has one
 abbrev pub raw_second : Option Part → WordRaw → WordRaw
 raw_second None old = old
 raw_second (Some part) old = raw_body part.body old
 
--- the parts of a word are put and the answer is 0, or nothing is put and the answer is the number of the fault
+-- the parts of a word are put and the result is 0, or nothing is put and the result is the number
+-- of the error
 abbrev pub PutsWord : Result WordParts WordFault → WordRaw → WordRaw → ℕ → Type 0
 PutsWord (Ok parts) old new status = (status ≡ 0) × (new ≡ raw_second parts.second (raw_body parts.first.body old))
 PutsWord (Err fault) old new status = (status ≡ word_status fault) × (new ≡ old)
@@ -118,7 +119,7 @@ abbrev pub IsPageOf : Option WordOut → ℕ → PageBits → Type 0
 IsPageOf None satellite new = ⊥
 IsPageOf (Some content) satellite new = new ≡ page_bits (word_bytes content satellite)
 
--- the answer is parts, and the numbers that are put of them over these stand for that content
+-- the result is parts, and the numbers that are put of them over these encode that content
 abbrev pub IsReadAs : Result WordParts WordFault → WordRaw → Option WordOut → Type 0
 IsReadAs (Ok parts) old content = content_in (raw_second parts.second (raw_body parts.first.body old)) ≡ content
 IsReadAs (Err fault) old content = ⊥

@@ -1,4 +1,5 @@
--- Where the header of a file of records and each of its records end, in the bytes of it that have come so far.
+-- If the header of a file of records and each of its records end, in the bytes of it that have come
+-- so far.
 use Rattle.std.specs.Prelude.{◌≡◌, ◌<◌, ◌≤◌, ◌⊎◌, ◌+◌, ◌++◌, ℕ, Bool, true, false, List, [], ◌∷◌, length, take, drop, Ok, Err}
 use Rattle.rinex_read.specs.Files.{Body, header_passed, up_to_next}
 use Rattle.rinex_read.specs.Forms.{Form, begins}
@@ -22,7 +23,7 @@ MayFollow is_end following = is_end ≡ true → following ≡ []
 -- So many bytes of a text are its first record: the lines up to the next that begins one, whatever follows, or up to the end.
 pub record EndsRecord (f : Form) (text : List ℕ) (is_end : Bool) (size : ℕ) : Type 0 where
   pub within : size ≤ length text
-  -- its lines are the first of the file, and those behind it the others
+  -- its lines are the first of the file, and those after it the others
   pub lines : 0 < size → (following : List ℕ) → MayFollow is_end following
       → lines_of (text ++ following) ≡ lines_of (take size text) ++ lines_of (drop size text ++ following)
   pub one : AreOfOne f (lines_of (take size text))

@@ -31,7 +31,7 @@ reason_status Fit = 39
 reason_status EpochStep = 40
 reason_status EpochFar = 41
 
--- the item of a record is put and the answer is 0, or nothing is put and the answer says why
+-- the item of a record is put and the result is 0, or nothing is put and the result states why
 abbrev pub PutsRead : Judged → ItemRaw → ItemRaw → ℕ → Type 0
 PutsRead (judgments.Item item) old new status = (status ≡ 0) × (new ≡ raw_item item old)
 PutsRead (judgments.Refused reason) old new status = (status ≡ reason_status reason) × (new ≡ old)

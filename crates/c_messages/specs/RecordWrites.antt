@@ -12,7 +12,7 @@ use Rattle.c_messages.specs.declared.record_writes.HeaderRaw.{HeaderRaw}
 abbrev pub is_shown : ℕ → Bool
 is_shown byte = nat_le 32 byte
 
--- the date can stand in a line, and the leap seconds in two columns
+-- the date can are in a line, and the leap seconds in two columns
 abbrev pub IsHeader : HeaderRaw → Type 0
 IsHeader header = IsTrue (list_all is_shown header.date) × (header.leap < 100)
 
@@ -32,7 +32,7 @@ header_text version words = text_of (header_lines_by (version_columns version) w
 abbrev pub record_text : ℕ → NavItem → List ℕ
 record_text version item = if version == 4 then text_of (item_lines item) else text_of (item3_lines item)
 
--- the record stands in the room and the answer is 0; version 3 has none for ionospheric parameters
+-- the record is in the buffer and the result is 0; version 3 has none for ionospheric parameters
 abbrev pub PutsRecord : ℕ → Option NavItem → List ℕ → List ℕ → ℕ → ℕ → Type 0
 PutsRecord version None old new used status = ⊥
 PutsRecord version (Some item) old new used status = (status ≡ 0) × StandsIn old new used (record_text version item)

@@ -15,7 +15,7 @@ use Rattle.c_messages.specs.Tags.{second_of}
 use Rattle.c_messages.specs.declared.subframe_raw.SubframeRaw.{SubframeRaw}
 use Rattle.c_messages.specs.declared.subframe_raw.SubframeBits.{SubframeBits}
 
--- the number of a fault: of the parity of word 1 to 10 that is 49 to 58
+-- the number of an error: of the parity of word 1 to 10 that is 49 to 58
 abbrev pub subframe_status : LnavFault → ℕ
 subframe_status Preamble = 48
 subframe_status (Parity word) = 48 + word
@@ -32,7 +32,8 @@ raw_subframe (GpsB b) old = record old { number = 3; b = raw_orbit_b b }
 raw_subframe (GpsIon ion second) old = record old { number = 4; second = second; ion = raw_gps_ion ion }
 raw_subframe _ old = old
 
--- the part of a subframe is put and the answer is 0, or nothing is put and the answer is the number of the fault
+-- the part of a subframe is put and the result is 0, or nothing is put and the result is the number
+-- of the error
 abbrev pub PutsSubframe : Result Part LnavFault → SubframeRaw → SubframeRaw → ℕ → Type 0
 PutsSubframe (Ok part) old new status = (status ≡ 0) × (new ≡ raw_subframe part.body old)
 PutsSubframe (Err fault) old new status = (status ≡ subframe_status fault) × (new ≡ old)
@@ -56,7 +57,7 @@ abbrev pub IsSubframeOf : Option SubframeOut → ℕ → SubframeBits → Type 0
 IsSubframeOf None tow_count new = ⊥
 IsSubframeOf (Some content) tow_count new = new ≡ record { bytes = subframe_bytes content tow_count }
 
--- the answer is a part, and the numbers that are put of it over these stand for that content
+-- the result is a part, and the numbers that are put of it over these encode that content
 abbrev pub IsReadAs : Result Part LnavFault → SubframeRaw → Option SubframeOut → Type 0
 IsReadAs (Ok part) old content = content_in (raw_subframe part.body old) ≡ content
 IsReadAs (Err fault) old content = ⊥

@@ -1,4 +1,4 @@
-//! A sink of fixed room.
+//! A sink of fixed size.
 
 ghost use Rattle.std.specs.Prelude.{◌≡◌, ◌+◌, ◌<◌, ◌≤◌, ◌++◌, [], length};
 
@@ -49,7 +49,7 @@ impl Fixed {
         }
     }
 
-    /// The bytes so far. After a fault there are 1,024.
+    /// The bytes so far. After an error there are 1,024.
     pub fn bytes(&self) -> &[u8]
         ensures bytes { result.now ≡ self.now.bytes }
         ensures full { 0 < self.now.faults → 1024 ≤ length self.now.bytes }
@@ -65,7 +65,7 @@ impl Sink for Fixed {
 
     ghost faults = { λ s. s.faults };
 
-    /// Appends the piece whole, or the prefix that there is room for, and fails.
+    /// Appends the complete piece, or the prefix that fits, and fails.
     #[tactic(auto, using(crate::proofs::Prefixes::appended_whole))]
     fn write(&mut self, piece: &[u8]) -> Result<(), Failed> {
         let count = piece.len().min(ROOM - self.bytes.len());

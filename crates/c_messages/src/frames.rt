@@ -9,14 +9,14 @@ use arrayvec::ArrayVec;
 use c_records::put;
 use rtcm_frame::{frame_of, write_frame};
 
-/// Whether these bytes are one whole frame with a right checksum, and nothing else.
+/// Whether these bytes are one complete frame with a right checksum, and nothing else.
 pub fn is_frame(bytes: &[u8]) -> bool
     ensures { IsTrue result ↔ IsFrame bytes.now }
 {
     frame_of(bytes).is_some()
 }
 
-/// Puts the frame of a payload of at most 1,023 bytes, and tells its size; 0 exactly where the
+/// Puts the frame of a payload of at most 1,023 bytes, and returns its size; 0 exactly if the
 /// payload is longer.
 pub fn make_frame(payload: &[u8], into: &mut [u8]) -> usize
     ensures frame { length payload.now ≤ 1023 →

@@ -172,7 +172,7 @@ fn gal_joined(reference: RefWeek, satellite: u32, raw: &WordsRaw) -> Option<NavI
 /// transmission time are those of subframe 1, near a reference week, 1024 to 8191; the week of toe
 /// is that in which toe is nearest to it.
 ///
-/// 0; or 22 where the week is none, 62 where there is no such satellite, 23 where these are not
+/// 0; or 22 if there is no such week, 62 if there is no such satellite, 23 if these are not
 /// subframes 1 to 3 of one issue with each field in its range, and then nothing is put.
 pub fn join_subframes(raw: &SubframesRaw, satellite: u32, week: u32, into: &mut ItemRaw) -> u32
     ensures joined { IsReference week → IsSat Gps satellite → AreOfIssue satellite raw.now →

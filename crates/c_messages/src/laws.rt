@@ -1,4 +1,5 @@
-//! Laws of what is written and read. Each function does nothing; its contract is the law.
+//! Theorems about what is written and read. Each function does nothing; its contract is the
+//! theorem.
 
 ghost use Rattle.std.specs.Prelude.{◌≡◌, ◌<◌, ℕ, List, Ok, Some};
 ghost use Rattle.nav_eph.specs.Ranges.{IsItem};

@@ -1,11 +1,12 @@
-//! Messages as they are sent and as they are filed, over bytes and rooms of bytes that C hands in,
-//! from and to structs of raw integers that C can lay out:
+//! Messages as they are sent and as they are filed, over bytes and buffers that C hands in, from
+//! and to structs of raw integers that C can lay out:
 //!
 //! - messages 1019 and 1046 of RTCM 10403.3 and their frames;
 //! - subframes of the GPS LNAV message, and pages of the Galileo I/NAV message;
 //! - records of RINEX navigation message files.
 //!
-//! A call that is refused gives the number of the reason, and writes nothing. None takes memory.
+//! A call whose input is rejected returns the number of the reason, and writes nothing. None takes
+//! memory.
 #![tactic(auto)]
 
 mod fixed;

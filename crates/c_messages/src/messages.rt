@@ -34,8 +34,8 @@ fn status_of(fault: &MessageFault) -> u32
 /// Puts the ephemeris in a payload of message 1019 or 1046, whose full week is the one near a
 /// reference week, 1024 to 8191. Its transmission time is unknown.
 ///
-/// 0; or the number of the payload's first fault, 16 to 21, or 22 where the week is none, and then
-/// nothing is put.
+/// 0; or the number of the payload's first error, 16 to 21, or 22 if there is no such week, and
+/// then nothing is put.
 pub fn read_message(payload: &[u8], week: u32, into: &mut ItemRaw) -> u32
     ensures message { IsReference week →
         PutsMessage (item_of_payload week payload.now) into.old into.new result }
@@ -54,10 +54,10 @@ pub fn read_message(payload: &[u8], week: u32, into: &mut ItemRaw) -> u32
     }
 }
 
-/// Puts the ephemeris of message 1019 or 1046 of a whole frame, as [`read_message`] puts that of its
-/// payload.
+/// Puts the ephemeris of message 1019 or 1046 of a complete frame, as [`read_message`] puts that of
+/// its payload.
 ///
-/// 26 where the bytes are not one whole frame with a right checksum and nothing else, and then
+/// 26 if the bytes are not one complete frame with a right checksum and nothing else, and then
 /// nothing is put.
 pub fn read_frame(bytes: &[u8], week: u32, into: &mut ItemRaw) -> u32
     ensures message { IsFrame bytes.now → IsReference week →
@@ -92,10 +92,10 @@ fn put_frame(item: &NavItem, into: &mut [u8], used: &mut usize) -> u32
     }
 }
 
-/// Puts the frame of the message of an ephemeris, 1019 or 1046, and tells its size.
+/// Puts the frame of the message of an ephemeris, 1019 or 1046, and returns its size.
 ///
-/// 0; or 23 where the numbers stand for no item, or 25 where they are ionospheric parameters, which
-/// no message carries, and then nothing is put.
+/// 0; or 23 if the numbers encode no item, or 25 if they are ionospheric parameters, which no
+/// message carries, and then nothing is put.
 pub fn write_message(raw: &ItemRaw, into: &mut [u8], used: &mut usize) -> u32
     ensures item { IsItemIn (item_in raw.now) →
         WritesMessage (item_in raw.now) into.old into.new used.new result }

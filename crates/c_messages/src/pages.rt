@@ -114,9 +114,9 @@ fn put_word(even: &Half, odd: &Half, sat: Sat, into: &mut WordRaw) -> u32
 /// Puts the content of the word of a page received from that Galileo satellite, 1 to 36 (Galileo OS
 /// SIS ICD, 4.3.2.3 and 4.3.5).
 ///
-/// 0; or 62 where there is no such satellite, 65 for an alert page, 66 where the parts are not an
-/// even one and an odd one, 67 where the CRC is wrong, or the number of the word's first fault, 68
-/// to 71; and then nothing is put.
+/// 0; or 62 if there is no such satellite, 65 for an alert page, 66 if the parts are not an even
+/// one and an odd one, 67 if the CRC is wrong, or the number of the word's first error, 68 to 71;
+/// and then nothing is put.
 pub fn read_page(page: &PageBits, satellite: u32, into: &mut WordRaw) -> u32
     ensures satellite { (IsSat Gal satellite → ⊥) → (result ≡ 62) × (into.new ≡ into.old) }
     ensures alert { IsSat Gal satellite → IsAlert page.now →
@@ -161,8 +161,8 @@ fn page_of(word: &Bits<16>) -> PageBits
 
 /// Puts the page of a word with this content, sent by that Galileo satellite, 1 to 36.
 ///
-/// 0; or 62 where there is no such satellite, or 23 where the numbers stand for no word, and then
-/// nothing is put.
+/// 0; or 62 if there is no such satellite, or 23 if the numbers encode no word, and then nothing is
+/// put.
 pub fn write_page(raw: &WordRaw, satellite: u32, into: &mut PageBits) -> u32
     ensures satellite { (IsSat Gal satellite → ⊥) → (result ≡ 62) × (into.new ≡ into.old) }
     ensures none { IsSat Gal satellite → (IsContent (content_in raw.now) → ⊥) →

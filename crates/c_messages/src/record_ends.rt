@@ -1,4 +1,4 @@
-//! Where the header of a file of records and each of its records end, in the bytes of it that have
+//! If the header of a file of records and each of its records end, in the bytes of it that have
 //! come so far.
 
 ghost use Rattle.std.specs.Prelude.{◌≡◌, ◌+◌, ◌<◌, ◌≤◌, ◌↔◌, IsTrue, codes, length};
@@ -44,9 +44,9 @@ fn size_in<F: FileForm>(text: &[u8], is_end: bool) -> usize
 }
 
 /// How many bytes the first record of these has: its first line and the lines up to the next that
-/// begins a record, in a file of version 4 with `>`, of version 3 in its first column. 0 where more
-/// bytes may come, and no further line that has ended begins one; where none is left; and where
-/// there is no such version.
+/// begins a record, in a file of version 4 with `>`, of version 3 in its first column. 0 if more
+/// bytes may come, and no further line that has ended begins one; if none is left; and if there is
+/// no such version.
 pub fn record_size(text: &[u8], version: u32, is_end: bool) -> usize
     ensures version4 { version ≡ 4 → EndsRecord rinex4 text.now is_end result }
     ensures version3 { version ≡ 3 → EndsRecord rinex3 text.now is_end result }
@@ -76,8 +76,8 @@ fn is_label(text: &[u8]) -> bool
     text == b"END OF HEADER".as_slice()
 }
 
-/// How many bytes the header of a file has, with the line that ends it; 0 where no line that has
-/// ended does.
+/// How many bytes the header of a file has, with the line that ends it; 0 if no line that has ended
+/// does.
 pub fn header_size(text: &[u8]) -> usize
     ensures { EndsHeader text.now result }
 {

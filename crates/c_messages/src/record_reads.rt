@@ -55,8 +55,8 @@ fn put_judged(judged: &Judged, into: &mut ItemRaw) -> u32
 /// Puts the item that the text of one record of a navigation file gives: of version 4 (RINEX 4.01)
 /// with its title line, of version 3 (RINEX 3.05) without.
 ///
-/// 0; or the number of the first reason for which it is refused, 32 to 41, 42 for a record of
-/// another kind, or 24 where there is no such version; and then nothing is put.
+/// 0; or the number of the first reason for which it is rejected, 32 to 41, 42 for a record of
+/// another kind, or 24 if there is no such version; and then nothing is put.
 pub fn read_record(text: &[u8], version: u32, into: &mut ItemRaw) -> u32
     ensures read { IsVersion version → PutsRead (judged_in version text.now) into.old into.new result }
     ensures version { (IsVersion version → ⊥) → (result ≡ 24) × (into.new ≡ into.old) }

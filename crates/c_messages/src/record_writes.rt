@@ -114,11 +114,11 @@ fn header_of(words: &HeaderWords, version: u32) -> Fixed
     }
 }
 
-/// Puts the header of a navigation file, each line with LF, and tells how long it is: of version 4
+/// Puts the header of a navigation file, each line with LF, and returns its length: of version 4
 /// (RINEX 4.01) or 3 (RINEX 3.05).
 ///
-/// 0; or 24 where there is no such version, or 27 where the date has bytes below 32 or there are
-/// 100 leap seconds or more, and then nothing is put.
+/// 0; or 24 if there is no such version, or 27 if the date has bytes below 32 or there are 100 leap
+/// seconds or more, and then nothing is put.
 pub fn write_header(header: &HeaderRaw, version: u32, into: &mut [u8], used: &mut usize) -> u32
     ensures status { IsVersion version → IsHeader header.now → result ≡ 0 }
     ensures written { IsVersion version → (words : HeaderWords) → IsHeader header.now
@@ -142,12 +142,12 @@ pub fn write_header(header: &HeaderRaw, version: u32, into: &mut [u8], used: &mu
     }
 }
 
-/// Puts the record of an item, each line with LF, and tells how long it is: of version 4 (RINEX
-/// 4.01) with its title line, of version 3 (RINEX 3.05) without; ionospheric parameters have no
-/// record in version 3, and its length is 0.
+/// Puts the record of an item, each line with LF, and returns its length: of version 4 (RINEX 4.01)
+/// with its title line, of version 3 (RINEX 3.05) without; ionospheric parameters have no record in
+/// version 3, and its length is 0.
 ///
-/// 0; or 24 where there is no such version, or 23 where the numbers stand for no item, and then
-/// nothing is put.
+/// 0; or 24 if there is no such version, or 23 if the numbers encode no item, and then nothing is
+/// put.
 pub fn write_record(raw: &ItemRaw, version: u32, into: &mut [u8], used: &mut usize) -> u32
     ensures written { IsVersion version → IsItemIn (item_in raw.now) →
         PutsRecord version (item_in raw.now) into.old into.new used.new result }

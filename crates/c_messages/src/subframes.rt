@@ -68,8 +68,8 @@ fn put_body(body: &Body, into: &mut SubframeRaw)
 /// Puts the content of a subframe received from that GPS satellite, 1 to 32 (IS-GPS-200, figure
 /// 20-1); one with inverted polarity is inverted first.
 ///
-/// 0; or the number of the subframe's first fault, 48 to 61, or 62 where there is no such
-/// satellite, and then nothing is put.
+/// 0; or the number of the subframe's first error, 48 to 61, or 62 if there is no such satellite,
+/// and then nothing is put.
 pub fn read_subframe(bits: &SubframeBits, satellite: u32, into: &mut SubframeRaw) -> u32
     ensures subframe { IsSat Gps satellite → PutsSubframe
         (subframe_of bits.now.bytes (record { system = Gps; number = satellite }) 0)
@@ -136,8 +136,8 @@ fn content_of(raw: &SubframeRaw) -> Option<SubframeOut>
 /// Puts the subframe with this content and this TOW count, the start of the next subframe in units
 /// of 6 s from the start of the week (IS-GPS-200, 20.3.3.2). `second` is not looked at.
 ///
-/// 0; or 63 where the TOW count is 100,800 or more, or 23 where the numbers stand for no subframe,
-/// and then nothing is put.
+/// 0; or 63 if the TOW count is 100,800 or more, or 23 if the numbers encode no subframe, and then
+/// nothing is put.
 pub fn write_subframe(raw: &SubframeRaw, tow_count: u32, into: &mut SubframeBits) -> u32
     ensures written { tow_count < 100800 → IsContent (content_in raw.now) →
         (result ≡ 0) × IsSubframeOf (content_in raw.now) tow_count into.new }

@@ -7,7 +7,7 @@ ghost use Rattle.c_messages.specs.Weeks.{unix_week};
 const GPS_EPOCH: u64 = 315_964_800;
 
 /// The week, counted from 1980-01-06, of a Unix time in seconds from 1970-01-01; leap seconds are
-/// not counted. 0 where it is in no week from 1 to 16,382.
+/// not counted. 0 if it is in no week from 1 to 16,382.
 pub fn week_of_unix(seconds: u64) -> u32
     ensures { result ≡ unix_week seconds }
 {

@@ -1,4 +1,4 @@
--- When the raw numbers of an item are the only ones that stand for it.
+-- When the raw numbers of an item are the only ones that encode it.
 use Rattle.std.specs.Prelude.{◌≡◌, ◌⊎◌, pos}
 use Rattle.c_records.specs.declared.sent_raw.SentRaw.{SentRaw}
 use Rattle.c_records.specs.declared.item_raw.ItemRaw.{ItemRaw}

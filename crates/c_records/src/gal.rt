@@ -14,7 +14,7 @@ use crate::sent::{raw_sent, sent_of};
 use gnss_week::Week;
 use nav_eph::{GalEph, GalHealth, GalWord1, GalWord2, GalWord3, GalWord4, System};
 
-/// The value of these numbers; `None` where one is out of its range.
+/// The value of these numbers; `None` if one is out of its range.
 pub fn word1_of(raw: &GalWord1Raw) -> Option<GalWord1>
     ensures exactly { IsSome result ↔ IsGalWord1 (word1_in raw.now) }
     ensures same { IfSome result (λ value. value ≡ word1_in raw.now) }
@@ -46,7 +46,7 @@ pub fn raw_word1(value: &GalWord1) -> GalWord1Raw
     }
 }
 
-/// The value of these numbers; `None` where one is out of its range.
+/// The value of these numbers; `None` if one is out of its range.
 pub fn word2_of(raw: &GalWord2Raw) -> Option<GalWord2>
     ensures exactly { IsSome result ↔ IsGalWord2 (word2_in raw.now) }
     ensures same { IfSome result (λ value. value ≡ word2_in raw.now) }
@@ -78,7 +78,7 @@ pub fn raw_word2(value: &GalWord2) -> GalWord2Raw
     }
 }
 
-/// The value of these numbers; `None` where one is out of its range.
+/// The value of these numbers; `None` if one is out of its range.
 pub fn word3_of(raw: &GalWord3Raw) -> Option<GalWord3>
     ensures exactly { IsSome result ↔ IsGalWord3 (word3_in raw.now) }
     ensures same { IfSome result (λ value. value ≡ word3_in raw.now) }
@@ -119,7 +119,7 @@ pub fn raw_word3(value: &GalWord3) -> GalWord3Raw
     }
 }
 
-/// The value of these numbers; `None` where one is out of its range.
+/// The value of these numbers; `None` if one is out of its range.
 pub fn word4_of(raw: &GalWord4Raw) -> Option<GalWord4>
     ensures exactly { IsSome result ↔ IsGalWord4 (word4_in raw.now) }
     ensures same { IfSome result (λ value. value ≡ word4_in raw.now) }
@@ -157,7 +157,7 @@ pub fn raw_word4(value: &GalWord4) -> GalWord4Raw
     }
 }
 
-/// The value of these numbers; `None` where one is out of its range.
+/// The value of these numbers; `None` if one is out of its range.
 pub fn health_of(raw: &GalHealthRaw) -> Option<GalHealth>
     ensures exactly { IsSome result ↔ IsGalHealth (health_in raw.now) }
     ensures same { IfSome result (λ value. value ≡ health_in raw.now) }
@@ -192,7 +192,7 @@ pub fn raw_health(value: &GalHealth) -> GalHealthRaw
     }
 }
 
-/// The ephemeris of these numbers; `None` where one is out of its range, or they are inconsistent.
+/// The ephemeris of these numbers; `None` if one is out of its range, or they are inconsistent.
 pub fn gal_of(raw: &GalRaw) -> Option<GalEph>
     ensures exactly { IsSome result ↔ IsGalItem (gal_in raw.now) }
     ensures same { IfSome result (λ value. value ≡ gal_in raw.now) }

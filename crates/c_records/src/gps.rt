@@ -13,7 +13,7 @@ use crate::sent::{raw_sent, sent_of};
 use gnss_week::Week;
 use nav_eph::{GpsClock, GpsEph, GpsOrbitA, GpsOrbitB, GpsSide, System};
 
-/// The value of these numbers; `None` where one is out of its range.
+/// The value of these numbers; `None` if one is out of its range.
 pub fn clock_of(raw: &GpsClockRaw) -> Option<GpsClock>
     ensures exactly { IsSome result ↔ IsGpsClock (clock_in raw.now) }
     ensures same { IfSome result (λ value. value ≡ clock_in raw.now) }
@@ -48,7 +48,7 @@ pub fn raw_clock(value: &GpsClock) -> GpsClockRaw
     }
 }
 
-/// The value of these numbers; `None` where one is out of its range.
+/// The value of these numbers; `None` if one is out of its range.
 pub fn side_of(raw: &GpsSideRaw) -> Option<GpsSide>
     ensures exactly { IsSome result ↔ IsGpsSide (side_in raw.now) }
     ensures same { IfSome result (λ value. value ≡ side_in raw.now) }
@@ -77,7 +77,7 @@ pub fn raw_side(value: &GpsSide) -> GpsSideRaw
     }
 }
 
-/// The value of these numbers; `None` where one is out of its range.
+/// The value of these numbers; `None` if one is out of its range.
 pub fn orbit_a_of(raw: &GpsOrbitARaw) -> Option<GpsOrbitA>
     ensures exactly { IsSome result ↔ IsGpsOrbitA (orbit_a_in raw.now) }
     ensures same { IfSome result (λ value. value ≡ orbit_a_in raw.now) }
@@ -121,7 +121,7 @@ pub fn raw_orbit_a(value: &GpsOrbitA) -> GpsOrbitARaw
     }
 }
 
-/// The value of these numbers; `None` where one is out of its range.
+/// The value of these numbers; `None` if one is out of its range.
 pub fn orbit_b_of(raw: &GpsOrbitBRaw) -> Option<GpsOrbitB>
     ensures exactly { IsSome result ↔ IsGpsOrbitB (orbit_b_in raw.now) }
     ensures same { IfSome result (λ value. value ≡ orbit_b_in raw.now) }
@@ -165,7 +165,7 @@ pub fn raw_orbit_b(value: &GpsOrbitB) -> GpsOrbitBRaw
     }
 }
 
-/// The ephemeris of these numbers; `None` where one is out of its range, or they are inconsistent.
+/// The ephemeris of these numbers; `None` if one is out of its range, or they are inconsistent.
 pub fn gps_of(raw: &GpsRaw) -> Option<GpsEph>
     ensures exactly { IsSome result ↔ IsGpsItem (gps_in raw.now) }
     ensures same { IfSome result (λ value. value ≡ gps_in raw.now) }

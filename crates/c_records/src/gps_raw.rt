@@ -20,7 +20,7 @@ pub struct GpsClockRaw {
     pub tgd: i32,
 }
 
-/// What subframe 1 says beside the clock (IS-GPS-200, 20.3.3.3.1).
+/// What subframe 1 has next to the clock (IS-GPS-200, 20.3.3.3.1).
 #[repr(C)]
 #[derive(Clone, Copy)]
 pub struct GpsSideRaw {
@@ -94,7 +94,7 @@ pub struct GpsRaw {
     pub sent: SentRaw,
     /// Its clock.
     pub clock: GpsClockRaw,
-    /// What stands beside the clock.
+    /// What subframe 1 has next to the clock.
     pub side: GpsSideRaw,
     /// The first half of its orbit.
     pub a: GpsOrbitARaw,

@@ -12,7 +12,7 @@ use crate::sat::sat_of;
 use gnss_week::Moment;
 use nav_eph::{GalIon, GpsIon, IonContent, IonEph, System};
 
-/// The parameters with these numbers; `None` where one is out of its range.
+/// The parameters with these numbers; `None` if one is out of its range.
 pub fn gps_ion_of(raw: &GpsIonRaw) -> Option<GpsIon>
     ensures exactly { IsSome result ↔ IsGpsIon (gps_ion_in raw.now) }
     ensures same { IfSome result (λ value. value ≡ gps_ion_in raw.now) }
@@ -53,7 +53,7 @@ pub fn raw_gps_ion(value: &GpsIon) -> GpsIonRaw
     }
 }
 
-/// The parameters with these numbers; `None` where one is out of its range.
+/// The parameters with these numbers; `None` if one is out of its range.
 pub fn gal_ion_of(raw: &GalIonRaw) -> Option<GalIon>
     ensures exactly { IsSome result ↔ IsGalIon (gal_ion_in raw.now) }
     ensures same { IfSome result (λ value. value ≡ gal_ion_in raw.now) }
@@ -82,8 +82,8 @@ pub fn raw_gal_ion(value: &GalIon) -> GalIonRaw
     }
 }
 
-/// The item of the GPS parameters; `None` exactly where a number is out of its range, or the time
-/// is in no week from 1 to 16,382.
+/// The item of the GPS parameters; `None` exactly if a number is out of its range, or the time is
+/// in no week from 1 to 16,382.
 pub fn ion_of_gps(raw: &IonRaw) -> Option<IonEph>
     ensures exactly { IsSome result ↔ IsIonItem (gps_ion_item raw.now) }
     ensures same { IfSome result (λ value. value ≡ gps_ion_item raw.now) }
@@ -94,8 +94,8 @@ pub fn ion_of_gps(raw: &IonRaw) -> Option<IonEph>
     IonEph::new(sat, moment, IonContent::Gps(parameters))
 }
 
-/// The item of the Galileo parameters; `None` exactly where a number is out of its range, or the
-/// time is in no week from 1 to 16,382.
+/// The item of the Galileo parameters; `None` exactly if a number is out of its range, or the time
+/// is in no week from 1 to 16,382.
 pub fn ion_of_gal(raw: &IonRaw) -> Option<IonEph>
     ensures exactly { IsSome result ↔ IsIonItem (gal_ion_item raw.now) }
     ensures same { IfSome result (λ value. value ≡ gal_ion_item raw.now) }
@@ -106,8 +106,8 @@ pub fn ion_of_gal(raw: &IonRaw) -> Option<IonEph>
     IonEph::new(sat, moment, IonContent::Gal(parameters))
 }
 
-/// Puts the numbers of an item, and tells its kind: 3 for GPS, 4 for Galileo. The parameters of the
-/// other system stay.
+/// Puts the numbers of an item, and returns its kind: 3 for GPS, 4 for Galileo. The parameters of
+/// the other system stay.
 pub fn put_ion(value: &IonEph, raw: &mut IonRaw) -> u32
     ensures kind { result ≡ ion_kind value.now.content }
     ensures raw { raw.new ≡ raw_ion value.now raw.old }

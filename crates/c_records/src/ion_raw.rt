@@ -44,8 +44,8 @@ pub struct IonRaw {
     pub moment: u64,
     /// The number of the satellite, of the system of the parameters.
     pub satellite: u32,
-    /// The parameters, where they are of GPS.
+    /// The parameters, if they are of GPS.
     pub gps: GpsIonRaw,
-    /// The parameters, where they are of Galileo.
+    /// The parameters, if they are of Galileo.
     pub gal: GalIonRaw,
 }

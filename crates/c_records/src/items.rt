@@ -18,8 +18,8 @@ const GPS_IONOSPHERE: u32 = 3;
 
 const GALILEO_IONOSPHERE: u32 = 4;
 
-/// The item of these numbers; `None` where the kind is none of the four, a number is out of its
-/// range, or they are inconsistent.
+/// The item of these numbers; `None` if the kind is none of the four, a number is out of its range,
+/// or they are inconsistent.
 pub fn item_of(raw: &ItemRaw) -> Option<NavItem>
     ensures exactly { IsSome result ↔ IsItemIn (item_in raw.now) }
     ensures same { IfSome result (λ item. item_in raw.now ≡ Some item) }

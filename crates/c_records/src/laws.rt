@@ -1,4 +1,4 @@
-//! Laws of the raw numbers.
+//! Theorems about the raw numbers.
 
 ghost use Rattle.std.specs.Prelude.{◌≡◌, Some};
 ghost use Rattle.nav_eph.specs.Ranges.{IsItem};
@@ -7,13 +7,13 @@ ghost use Rattle.c_records.specs.Items.{item_in, raw_item};
 ghost use Rattle.c_records.specs.Laws.{IsPlain};
 ghost use Rattle.c_records.specs.declared.item_raw.ItemRaw.{ItemRaw};
 
-/// The numbers that were put for an item stand for it.
+/// The numbers that were put for an item encode it.
 pub fn items_come_back()
     ensures { (item : NavItem) (old : ItemRaw) → IsItem item →
         item_in (raw_item item old) ≡ Some item }
 {}
 
-/// Numbers that stand for an item are those that are put for it.
+/// Numbers that encode an item are those that are put for it.
 pub fn numbers_come_back()
     ensures { (item : NavItem) (raw : ItemRaw) → IsPlain raw → item_in raw ≡ Some item →
         raw_item item raw ≡ raw }

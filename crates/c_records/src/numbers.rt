@@ -1,5 +1,5 @@
 //! Integers of fixed width, from and to the 32-bit integers that C has. A signed number is taken by
-//! reference, so that a contract names it as it stands in its struct.
+//! reference, so that a contract names it as it is in its struct.
 
 ghost use Rattle.std.specs.Prelude.{◌≡◌, ◌^◌, ◌<◌};
 ghost use Rattle.std.specs.Prelude.{◌≤◌, ◌↔◌, IsSome, IfSome};

@@ -9,7 +9,7 @@ pub const NO_FRAME: u32 = 26;
 /// The week is not a reference week.
 pub const NO_WEEK: u32 = 22;
 
-/// The numbers stand for no item, subframe, word or row.
+/// The numbers encode no item, subframe, word or row.
 pub const NO_ITEM: u32 = 23;
 
 /// There is no such version of navigation files.

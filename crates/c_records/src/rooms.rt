@@ -1,10 +1,10 @@
-//! Texts that are put into rooms of bytes.
+//! Texts that are put into buffers.
 
 ghost use Rattle.std.specs.Prelude.{◌≡◌};
 ghost use Rattle.c_records.specs.Rooms.{StandsIn};
 
-/// Puts the prefix of a text that there is room for, and tells how long the whole text is. What
-/// stands behind it stays.
+/// Puts the prefix of a text that fits into the buffer, and returns the length of the complete
+/// text. What is after it is unchanged.
 pub fn put(text: &[u8], into: &mut [u8]) -> usize
     ensures { StandsIn into.old into.new result text.now }
 {

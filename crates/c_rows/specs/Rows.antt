@@ -18,7 +18,7 @@ use Rattle.c_rows.specs.declared.row_raw.RowRaw.{RowRaw}
 
 -- ---- read
 
--- the number of a fault; field 1 is the satellite
+-- the number of an error; field 1 is the satellite
 abbrev pub row_status : RowFault → ℕ
 row_status (Message Short) = 18
 row_status (Message (OutOfRange field)) = if field == 1 then 19 else 28
@@ -35,7 +35,8 @@ pub record IsRowOf (k : Kind) (of : ℕ) (row : RowValue) (raw : RowRaw) : Type 
   pub count : raw.count ≡ length row.columns
   pub columns : take raw.count raw.columns ≡ row.columns
 
--- the row of a message is put and the answer is 0, or nothing is put and the answer is the number of the fault
+-- the row of a message is put and the result is 0, or nothing is put and the result is the number
+-- of the error
 abbrev pub PutsRow : Kind → ℕ → Result RowValue RowFault → RowRaw → RowRaw → ℕ → Type 0
 PutsRow k message (Ok row) old new status = (status ≡ 0) × IsRowOf k message row new
 PutsRow k message (Err fault) old new status = (status ≡ row_status fault) × (new ≡ old)
@@ -58,7 +59,7 @@ pub record IsRowIn (k : Kind) (raw : RowRaw) (row : Row) : Type 0 where
   pub moment : row.moment ≡ raw.epoch
   pub columns : row.columns.items ≡ take raw.count raw.columns
 
--- the record of the row stands in the room and the answer is 0; or the numbers stand for no row
+-- the record of the row is in the buffer and the result is 0; or the numbers encode no row
 abbrev pub WritesRow : RowRaw → List ℕ → List ℕ → ℕ → ℕ → Type 0
 WritesRow raw old new used status =
     ((status ≡ 23) × IsLeft old new used)

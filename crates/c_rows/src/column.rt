@@ -37,7 +37,7 @@ fn raw_column(column: &Column) -> ColumnRaw
 }
 
 /// Puts the unit of the column with that index of the kind of a row, by its message and satellite;
-/// 23 where there is none.
+/// 23 if there is none.
 pub fn row_column(row: &RowRaw, index: u32, into: &mut ColumnRaw) -> u32
     ensures { GivesColumn row.now.message index into.old into.new result }
 {

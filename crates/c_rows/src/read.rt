@@ -59,10 +59,10 @@ fn raw_row(kind: &Kind, message: u32, row: &Row) -> RowRaw
 /// Puts the row of a payload of a message of one of the kinds of [`nav_rows`], whose full week or
 /// day is the one near a reference week, 1024 to 8191.
 ///
-/// 0; or 22 where the week is none; 16 where the payload has fewer than three bytes, 17 where no
-/// kind has its number, 18 where it is shorter than the message, 19 where its satellite and 28 where
-/// another number is out of range, 21 for a spare SISA index, 29 for a day that does not exist; and
-/// then nothing is put.
+/// 0; or 22 if there is no such week; 16 if the payload has fewer than three bytes, 17 if no kind
+/// has its number, 18 if it is shorter than the message, 19 if its satellite and 28 if another
+/// number is out of range, 21 for a spare SISA index, 29 for a day that does not exist; and then
+/// nothing is put.
 pub fn read_row(payload: &[u8], week: u32, into: &mut RowRaw) -> u32
     ensures row { IsReference week → 3 ≤ length payload.now →
         ReadsRow (number_at payload.now 0 12) payload.now week into.old into.new result }

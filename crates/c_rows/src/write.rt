@@ -91,11 +91,11 @@ fn record_of(kind: &Kind, row: &Row) -> Fixed
     }
 }
 
-/// Puts the record of a row (RINEX 4.01), each line with LF, and tells how long it is. `letter` and
+/// Puts the record of a row (RINEX 4.01), each line with LF, and returns its length. `letter` and
 /// `title` are not looked at.
 ///
-/// 0; or 23 where no kind has such messages, the numbers are not in the ranges of its columns, or
-/// the epoch is in no week, and then nothing is put.
+/// 0; or 23 if no kind has such messages, the numbers are not in the ranges of its columns, or the
+/// epoch is in no week, and then nothing is put.
 pub fn write_row(raw: &RowRaw, into: &mut [u8], used: &mut usize) -> u32
     ensures { WritesRow raw.now into.old into.new used.new result }
 {

@@ -30,7 +30,8 @@ frames_given (Gave frame ∷ calls) = frame ∷ frames_given calls
 frames_given (GaveNone ∷ calls) = frames_given calls
 frames_given (Finished ∷ calls) = frames_given calls
 
--- The calls lead from one state to another, each as its clauses say. Where no byte follows none is taken.
+-- The calls lead from one state to another, each as its clauses state. If no byte follows none is
+-- taken.
 abbrev pub Leads : DeframerState → List Call → DeframerState → Type 0
 Leads before [] after = before ≡ after
 Leads before (Fed bytes ∷ calls) after = (before.finished ≡ true → bytes ≡ []) × Leads (fed before bytes) calls after

@@ -33,21 +33,23 @@ fed state bytes = record { rest = state.rest ++ bytes; finished = state.finished
 abbrev pub ended : DeframerState → DeframerState
 ended state = record { rest = state.rest; finished = true }
 
--- What is left where a frame of this size was given: the bytes behind the first frame. Where none was, which size 0 tells: those
--- from the first incomplete frame on, and none where no byte follows.
+-- What is left if a frame of this size was given: the bytes after the first frame. If none was,
+-- which size 0 reports: those from the first incomplete frame on, and none if no byte follows.
 abbrev pub left : DeframerState → ℕ → DeframerState
 left state size = record {
   rest = if nat_lt 0 size then after_first state.rest else if state.finished then [] else undecided state.rest;
   finished = state.finished;
 }
 
--- How many bytes of a piece are taken: at least one where there is one and bytes may be fed, else none.
+-- How many bytes of a piece are taken: at least one if there is one and bytes may be fed, else
+-- none.
 pub record Feeds (state : DeframerState) (piece : List ℕ) (taken : ℕ) : Type 0 where
   pub within : taken ≤ length piece
   pub some : MayFeed state → 0 < length piece → 0 < taken
   pub none : (MayFeed state → ⊥) → taken ≡ 0
 
--- The next frame stands in the room, and its size is told; or there is none, which size 0 tells, and nothing is put.
+-- The next frame is in the buffer, and its size is returned; or there is none, which size 0
+-- reports, and nothing is put.
 pub record Gives (state : DeframerState) (old new : List ℕ) (size : ℕ) : Type 0 where
   pub frame : 0 < size → (whole : List ℕ) × TakesFrame (not state.finished) state.rest whole (left state size).rest × StandsIn old new size whole
   pub none : size ≡ 0 → TakesNone (not state.finished) state.rest (left state size).rest × (new ≡ old)

@@ -1,4 +1,5 @@
--- What a run makes of the bytes that a conversion hands to it, whatever its job. Private functions cite these.
+-- What a run makes of the bytes that a conversion hands to it, whatever its conversion. Private
+-- functions cite these.
 use Rattle.std.specs.Prelude.{◌≡◌, ◌≢◌, ◌≤◌, ℕ, List, ◌++◌, length, None, IfSome}
 use Rattle.nav_io.specs.Prefix.{IsPrefix}
 use Rattle.one_run.specs.declared.fault.BridgeFault.{BridgeFault}
@@ -13,8 +14,9 @@ abbrev pub GoesOn : Run → Run → List ℕ → List ℕ → List ℕ → List 
 GoesOn run run_new piece output output_new report report_new =
     (job : Job) (bytes : List ℕ) → IsRunOf run job bytes output report → IsRunOf run_new job (bytes ++ piece) output_new report_new
 
--- A run of this job was cut short by a fault, which is none of a read: what `bytes` decide was written, and of what the whole gives
--- no more than a prefix was written and reported.
+-- A run of this conversion was ended early by an error, which is none of a read: what `bytes`
+-- decide was written, and of what the complete input gives no more than a prefix was written and
+-- reported.
 pub record IsCut (job : Job) (bytes whole written reported : List ℕ) (fault : BridgeFault) : Type 0 where
   pub read : fault ≢ ReadFault
   pub form : fault ≡ NotThisForm → (meaning_of job).counts whole ≡ None
@@ -23,7 +25,7 @@ pub record IsCut (job : Job) (bytes whole written reported : List ℕ) (fault : 
   pub output : IsPrefix written ((meaning_of job).whole.output whole)
   pub report : IsPrefix reported ((meaning_of job).whole.report whole)
 
--- a piece was not taken whole
+-- a piece was not taken complete
 abbrev pub BreaksOff : Run → List ℕ → List ℕ → List ℕ → List ℕ → List ℕ → BridgeFault → Type 0
 BreaksOff run piece output output_new report report_new fault =
     (job : Job) (bytes more : List ℕ) → IsRunOf run job bytes output report

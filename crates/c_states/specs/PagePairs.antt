@@ -13,9 +13,10 @@ use Rattle.c_states.specs.declared.pages.JoinedPage.{JoinedPage}
 
 -- what contracts see
 pub record PagesState : Type 0 where
-  -- the parts that are kept
+  -- the parts that are retained
   pub halves : Keeping
-  -- the words that the last part made with its partners and that were not given yet, and the stamp of their odd parts
+  -- the words that the last part made with its partners and that were not given yet, and the time
+  -- tag of their odd parts
   pub words : List (List ℕ)
   pub stamp : ℕ
 
@@ -34,33 +35,35 @@ pub record IsEmpty (s : PagesState) (seconds : ℕ) : Type 0 where
 abbrev pub signal_in : ℕ → Option Signal
 signal_in number = if number == 1 then Some E1b else if number == 2 then Some E5b else None
 
--- A part is taken: the words that it makes with those that were kept are to be given, and it is kept with those that are recent.
+-- A part is taken: the words that it makes with those that were retained are to be given, and it is
+-- retained with those that are recent.
 pub record TakesPart (old new : PagesState) (taken : StampedHalf) : Type 0 where
   pub words : (Contains old.halves.kept taken → ⊥) → AreWordsWith (Contains old.halves.kept) taken new.words
-  -- one that is kept already makes no words
+  -- one that is retained already makes no words
   pub again : Contains old.halves.kept taken → new.words ≡ []
   pub stamp : new.words ≢ [] → new.stamp ≡ stamp_by (kind_of taken.half) taken.stamp
   pub kept : (other : StampedHalf) → Contains new.halves.kept other ↔ IsKeptWith old.halves taken new.halves.greatest other
   pub greatest : new.halves.greatest ≡ max old.halves.greatest taken.stamp
   pub window : new.halves.window ≡ old.halves.window
 
--- the answer, where the part is taken or there is no memory for it
+-- the result, if the part is taken or there is no memory for it
 abbrev pub TakesOrNot : PagesState → PagesState → StampedHalf → ℕ → Type 0
 TakesOrNot old new taken answer = ((answer ≡ 0) × TakesPart old new taken) ⊎ ((answer ≡ 6) × (new ≡ old))
 
--- the same by the signal, where there is one with that number
+-- the same by the signal, if there is one with that number
 abbrev pub TakesBySignal : PagesState → PagesState → List ℕ → ℕ → ℕ → Option Signal → ℕ → Type 0
 TakesBySignal old new part stamp satellite None answer = (answer ≡ 72) × (new ≡ old)
 TakesBySignal old new part stamp satellite (Some signal) answer =
     TakesOrNot old new (stamped stamp (record { system = Gal; number = satellite }) signal (kept_of (number_at part 0 120))) answer
 
--- A part of 120 bits, received from a Galileo satellite on a signal at a stamp, is taken, with this answer.
+-- A part of 120 bits, received from a Galileo satellite on a signal at a time tag, is taken, with
+-- this result.
 pub record TakesBits (old new : PagesState) (part : List ℕ) (stamp satellite signal answer : ℕ) : Type 0 where
   pub no_satellite : (IsSat Gal satellite → ⊥) → (answer ≡ 62) × (new ≡ old)
   pub alert : IsSat Gal satellite → number_at part 1 1 ≡ 1 → (answer ≡ 65) × (new ≡ old)
   pub taken : IsSat Gal satellite → (number_at part 1 1 ≡ 1 → ⊥) → TakesBySignal old new part stamp satellite (signal_in signal) answer
 
--- what is left where the first word was given
+-- what is left if the first word was given
 abbrev pub one_given : PagesState → List (List ℕ) → PagesState
 one_given s words = record { halves = s.halves; words = words; stamp = s.stamp }
 

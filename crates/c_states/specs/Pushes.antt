@@ -23,29 +23,30 @@ pub record PushState : Type 0 where
   -- all that was reported, and how many bytes of it were taken
   pub report : List ℕ
   pub told : ℕ
-  -- 0 where bytes may be pushed, else what each further push answers
+  -- 0 if bytes may be pushed, else what each further push returns
   pub status : ℕ
 
--- no job, and nothing kept; each further push answers so
+-- no conversion, and nothing retained; each further push returns so
 abbrev pub without_job : ℕ → PushState
 without_job status = record { run = Idle; output = []; taken = 0; report = []; told = 0; status = status }
 
--- no job was opened
+-- no conversion was opened
 abbrev pub closed : PushState
 closed = without_job 12
 
--- a job whose input can be pushed
+-- a conversion whose input can be pushed
 abbrev pub CanBePushed : Job → Type 0
 CanBePushed (jobs.Capture job) = Unit {0}
 CanBePushed (jobs.Stream job) = Unit {0}
 CanBePushed job = ⊥
 
--- how many bytes of the input are too many, of a job whose input can be pushed
+-- how many bytes of the input are too many, of a conversion whose input can be pushed
 abbrev pub too_many : Job → ℕ
 too_many (jobs.Capture job) = 2 ^ 32
 too_many job = 2 ^ 64
 
--- the run is that of the job and goes on, these bytes were pushed, and this was written and reported of them
+-- the run is that of the conversion and continues, these bytes were pushed, and this was written
+-- and reported of them
 abbrev pub IsRunOf : Run → Job → List ℕ → List ℕ → List ℕ → Type 0
 IsRunOf (Capture run) (jobs.Capture job) bytes output report =
     (run.to ≡ target_of job.to) × (run.week ≡ job.week) × IsCapturePushed run bytes (Some []) (Some output) (Some []) (Some report)
@@ -54,20 +55,23 @@ IsRunOf (Stream run) (jobs.Stream job) bytes output report =
     × IsPushed run bytes (Some []) (Some output) (Some []) (Some report)
 IsRunOf run job bytes output report = ⊥
 
--- The conversion is at this job, and these bytes were pushed: exactly what they decide, whatever follows, was written and reported.
+-- The conversion runs, and these bytes were pushed: exactly what they decide, whatever follows, was
+-- written and reported.
 pub record IsAt (s : PushState) (job : Job) (bytes : List ℕ) : Type 0 where
   pub status : s.status ≡ 0
   pub made : IfSome (meaning_of job).flushed (λ texts. (s.output ≡ texts.output bytes) × (s.report ≡ texts.report bytes))
   pub run : IsRunOf s.run job bytes s.output s.report
 
--- The conversion of these bytes is whole: all that the job makes of them was written and reported.
+-- The conversion of these bytes is complete: all that the conversion makes of them was written and
+-- reported.
 pub record HasMade (s : PushState) (job : Job) (bytes : List ℕ) : Type 0 where
   pub status : s.status ≡ 11
   pub output : s.output ≡ (meaning_of job).whole.output bytes
   pub report : s.report ≡ (meaning_of job).whole.report bytes
 
--- The conversion was cut short: what `bytes` decide was written, and of what the whole gives no more than a prefix was written
--- and reported. With the answer 5 the whole is not of the form that the job reads, and with 8 it is too long.
+-- The conversion was ended early: what `bytes` decide was written, and of what the complete input
+-- gives no more than a prefix was written and reported. With the result 5 the complete input is not
+-- of the form that the conversion reads, and with 8 it is too long.
 pub record IsCutAt (s : PushState) (job : Job) (bytes whole : List ℕ) (answer : ℕ) : Type 0 where
   pub form : answer ≡ 5 → (meaning_of job).counts whole ≡ None
   pub long : answer ≡ 8 → too_many job ≤ length whole
@@ -75,7 +79,7 @@ pub record IsCutAt (s : PushState) (job : Job) (bytes whole : List ℕ) (answer 
   pub output : IsPrefix s.output ((meaning_of job).whole.output whole)
   pub report : IsPrefix s.report ((meaning_of job).whole.report whole)
 
--- what was written and reported stays, and more stands behind it
+-- what was written and reported stays, and more is after it
 abbrev pub Grows : PushState → PushState → Type 0
 Grows old new = IsPrefix old.output new.output × IsPrefix old.report new.report
 
@@ -83,31 +87,32 @@ Grows old new = IsPrefix old.output new.output × IsPrefix old.report new.report
 abbrev pub KeepsTaken : PushState → PushState → Type 0
 KeepsTaken old new = (new.taken ≡ old.taken) × (new.told ≡ old.told)
 
--- A job begins a conversion: bytes may be pushed, and none was; or there is no memory, or its input cannot be pushed.
+-- A conversion begins: bytes may be pushed, and none was; or there is no memory, or its input
+-- cannot be pushed.
 abbrev pub Begins : Job → PushState → Type 0
 Begins job new = (IsAt new job [] × (new.taken ≡ 0) × (new.told ≡ 0)) ⊎ (new ≡ without_job 6) ⊎ ((new ≡ without_job 10) × ¬ CanBePushed job)
 
--- Words open a conversion, with this answer.
+-- Words open a conversion, with this result.
 pub record Opens (words : List (List ℕ)) (new : PushState) (answer : ℕ) : Type 0 where
   -- bytes may be pushed, and none was
   pub done : answer ≡ 0 → (job : Job) × IsJob words job × IsAt new job []
-  -- the words give no job
+  -- the arguments name no conversion
   pub no_job : answer ≡ 2 → ¬ GivesJob words
-  -- the input of their job cannot be pushed
+  -- the input of their conversion cannot be pushed
   pub not_pushed : answer ≡ 10 → (job : Job) × IsJob words job × ¬ CanBePushed job
   -- a word is no text, and only there
   pub no_text : (answer ≡ 9) ↔ (¬ All IsUtf8 words)
-  -- these answers and 6, for want of memory, are all
+  -- these results and 6, if out of memory, are all
   pub known : (answer ≡ 0) ⊎ (answer ≡ 2) ⊎ (answer ≡ 6) ⊎ (answer ≡ 9) ⊎ (answer ≡ 10)
   pub status : new.status ≡ answer
   pub none : (new.taken ≡ 0) × (new.told ≡ 0)
 
--- A piece is pushed, with this answer.
+-- A piece is pushed, with this result.
 pub record Pushes (old : PushState) (piece : List ℕ) (new : PushState) (answer : ℕ) : Type 0 where
   -- what it decides was written and reported
   pub done : (job : Job) (bytes : List ℕ) → IsAt old job bytes → answer ≡ 0 → IsAt new job (bytes ++ piece)
   pub grows : (job : Job) (bytes : List ℕ) → IsAt old job bytes → answer ≡ 0 → Grows old new
-  -- it was not taken whole
+  -- it was not taken complete
   pub cut : (job : Job) (bytes more : List ℕ) → IsAt old job bytes → answer ≢ 0 → IsCutAt new job bytes ((bytes ++ piece) ++ more) answer
   -- the form is another one, there was no memory, or the input is too long
   pub known : (job : Job) (bytes : List ℕ) → IsAt old job bytes → (answer ≡ 0) ⊎ (answer ≡ 5) ⊎ (answer ≡ 6) ⊎ (answer ≡ 8)
@@ -116,7 +121,7 @@ pub record Pushes (old : PushState) (piece : List ℕ) (new : PushState) (answer
   pub again : old.status ≢ 0 → (answer ≡ old.status) × (new ≡ old)
   pub keeps : KeepsTaken old new
 
--- The input ends, with this answer.
+-- The input ends, with this result.
 pub record Finishes (old new : PushState) (answer : ℕ) : Type 0 where
   -- all was written and reported
   pub done : (job : Job) (bytes : List ℕ) → IsAt old job bytes → answer ≡ 0 → HasMade new job bytes
@@ -128,7 +133,8 @@ pub record Finishes (old new : PushState) (answer : ℕ) : Type 0 where
   pub again : old.status ≢ 0 → (answer ≡ old.status) × (new ≡ old)
   pub keeps : KeepsTaken old new
 
--- So many bytes behind those that were taken stand in the room: all that there are, or as many as fit.
+-- So many bytes after those that were taken are in the buffer: all that there are, or as many as
+-- fit.
 pub record Takes (made : List ℕ) (taken : ℕ) (old new : List ℕ) (count : ℕ) : Type 0 where
   pub most : count ≡ min (length new) (length made - taken)
   pub stands : StandsIn old new count (take count (drop taken made))

@@ -2,12 +2,12 @@
 use Rattle.std.specs.Prelude.{ℕ, List, [], drop, Option, None, Some}
 use Rattle.inav_page.specs.Keeping.{Words}
 
--- the words behind those that were given
+-- the words after those that were given
 abbrev pub words_in : Option Words → ℕ → List (List ℕ)
 words_in None given = []
 words_in (Some joined) given = drop given joined.words
 
--- their stamp, of no meaning without words
+-- their time tag, of no meaning without words
 abbrev pub stamp_in : Option Words → ℕ
 stamp_in None = 0
 stamp_in (Some joined) = joined.stamp

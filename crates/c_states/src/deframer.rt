@@ -13,9 +13,8 @@ pub fn new() -> Deframer
     Deframer::new()
 }
 
-/// Feeds bytes from the start of a piece, as many as there is room for, and tells how many: at
-/// least one, but none where the piece is empty, a frame is decided that was not taken, or `finish`
-/// was called.
+/// Feeds bytes from the start of a piece, as many as fit, and returns how many: at least one, but
+/// none if the piece is empty, a frame is decided that was not taken, or `finish` was called.
 pub fn feed(state: &mut Deframer, piece: &[u8]) -> usize
     ensures fed { state.new ≡ fed state.old (take result piece.now) }
     ensures feeds { Feeds state.old piece.now result }
@@ -26,8 +25,8 @@ pub fn feed(state: &mut Deframer, piece: &[u8]) -> usize
     state.feed_some(piece)
 }
 
-/// Puts the prefix that there is room for of the next frame, consumes the bytes up to its end, and
-/// tells its size, 6 to 1,029; 0 where no frame is decided, and after `finish` where there is none.
+/// Puts the prefix that fits of the next frame, consumes the bytes up to its end, and returns its
+/// size, 6 to 1,029; 0 if no frame is decided, and after `finish` if there is none.
 pub fn next(state: &mut Deframer, frame: &mut [u8]) -> usize
     ensures left { state.new ≡ left state.old result }
     ensures gives { Gives state.old frame.old frame.new result }
@@ -38,7 +37,7 @@ pub fn next(state: &mut Deframer, frame: &mut [u8]) -> usize
     }
 }
 
-/// Says that no byte follows.
+/// Ends the input: no byte follows.
 pub fn finish(state: &mut Deframer)
     ensures { state.new ≡ ended state.old }
 {

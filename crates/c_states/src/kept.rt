@@ -5,7 +5,7 @@ ghost use Rattle.std.specs.Prelude.{◌≡◌, []};
 use nav_io::{Failed, Sink};
 use std::alloc::Global;
 
-/// What was written. It fails for want of memory alone.
+/// What was written. It fails only if out of memory.
 #[derive(Drop)]
 pub struct Kept {
     /// The bytes that were written.
@@ -32,7 +32,7 @@ impl Sink for Kept {
 
     ghost faults = { λ s. s.faults };
 
-    /// Appends the piece whole, or fails and appends nothing.
+    /// Appends the complete piece, or fails and appends nothing.
     fn write(&mut self, piece: &[u8]) -> Result<(), Failed> {
         if self.bytes.extend_from_slice(piece).is_ok() {
             return Ok(());

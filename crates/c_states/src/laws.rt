@@ -1,4 +1,4 @@
-//! A law of the definitions. The function does nothing; its contract is the law.
+//! A theorem about the definitions. The function does nothing; its contract is the theorem.
 
 ghost use Rattle.std.specs.Prelude.{◌≡◌, ℕ, List, [], ◌++◌, true};
 ghost use Rattle.rtcm_frame.specs.Frames.{frames};

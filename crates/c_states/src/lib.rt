@@ -1,10 +1,10 @@
-//! States that stand in memory of C's, and safe steps over them. Each leaves a state that stands in
-//! a relation to the one before and to its answer, or is a function of them, so that a contract
-//! over memory can name it.
+//! States in memory of the C caller, and safe steps over them. Each leaves a state that is related
+//! to the one before and to what it returns, or is a function of them, so that a contract over
+//! memory can name it.
 //!
 //! - [`deframer`]: the frames of a stream that comes in pieces (RTCM 10403.3, the transport layer);
 //! - [`pages`]: the parts of Galileo I/NAV pages, joined to pages as they come in any order;
-//! - [`push`]: a whole conversion whose input comes in pieces, as the program does it over its
+//! - [`push`]: a complete conversion whose input comes in pieces, as the program does it over its
 //!   streams.
 //!
 //! ```rust

@@ -30,7 +30,7 @@ pub struct PartBits {
 pub struct JoinedPage {
     /// Its parts; reserved and tail bits are 0.
     pub page: PageBits,
-    /// The stamp of its odd part, in seconds.
+    /// The time tag of its odd part, in seconds.
     pub stamp: u32,
 }
 
@@ -56,8 +56,8 @@ impl Model for PagePairs {
     } };
 }
 
-/// No page part was taken. A part is kept while its stamp is at most the window and one second
-/// below the greatest; a window below 60 seconds is taken as 60, and above 14,400 as 14,400.
+/// No page part was taken. A part is retained while its time tag is at most the window and one
+/// second below the greatest; a window below 60 seconds is taken as 60, and above 14,400 as 14,400.
 pub fn new(alloc: Global, window: u32) -> PagePairs
     ensures { IsEmpty result window }
 {
@@ -81,10 +81,10 @@ fn signal_of(number: u32) -> Option<Signal>
 }
 
 /// Takes a page part of 120 bits, received from a Galileo satellite on signal 1 (E1-B) or 2 (E5b-I)
-/// at a stamp in seconds, and answers 0: `next` then gives the words that it makes.
+/// at a time tag in seconds, and returns 0: `next` then gives the words that it makes.
 ///
-/// 6 for want of memory, 62 where there is no such satellite, 65 for a part of an alert page, 72
-/// where there is no such signal, and then nothing is changed.
+/// 6 if out of memory, 62 if there is no such satellite, 65 for a part of an alert page, 72 if
+/// there is no such signal, and then nothing is changed.
 pub fn take(state: &mut PagePairs, part: &PartBits, stamp: u32, satellite: u32, signal: u32) -> u32
     ensures { TakesBits state.old state.new part.now.bytes stamp satellite signal result }
 {
@@ -121,7 +121,7 @@ fn page_of(word: &Bits<16>) -> PageBits
     }
 }
 
-/// Puts the page of the next word that the last part made, and answers 1; 0 where there is none.
+/// Puts the page of the next word that the last part made, and returns 1; 0 if there is none.
 pub fn next(state: &mut PagePairs, page: &mut JoinedPage) -> u32
     ensures { GivesPage state.old state.new page.old page.new state.old.words result }
 {
@@ -140,7 +140,7 @@ pub fn next(state: &mut PagePairs, page: &mut JoinedPage) -> u32
     1
 }
 
-/// Gives all memory back: no part is kept, and the window is of 60 seconds.
+/// Releases all memory: no part is retained, and the window is of 60 seconds.
 pub fn close(state: &mut PagePairs)
     ensures { IsEmpty state.new 60 }
 {

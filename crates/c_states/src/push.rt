@@ -117,7 +117,7 @@ impl Model for Conversion {
     } };
 }
 
-/// A conversion that does no job yet.
+/// A conversion that is not open yet.
 pub fn new(alloc: Global) -> Conversion
     ensures { result ≡ closed }
 {
@@ -132,11 +132,11 @@ pub fn new(alloc: Global) -> Conversion
     }
 }
 
-/// The job that the words give.
+/// The conversion that the arguments name.
 ///
 /// # Errors
 ///
-/// `NoJob` where they give none, `NoText` where a word is not UTF-8, `NoMemory`.
+/// `NoJob` if they give none, `NoText` if an argument is not UTF-8, `NoMemory`.
 pub fn job_in(alloc: Global, words: &[&[u8]]) -> Result<Job, Status>
     ensures job { IfOk result (IsJob (map (λ word. word.now) words.now)) }
     ensures texts { IfOk result (λ _. All IsUtf8 (map (λ word. word.now) words.now)) }
@@ -185,9 +185,9 @@ fn begin(state: &mut Conversion, job: &Job)
     }
 }
 
-/// Opens the conversion that the words ask for, whatever was done before, and answers 0; or 2 where
-/// they give no job, 6 for want of memory, 9 where a word is not UTF-8, and 10 where the input of
-/// their job cannot be pushed.
+/// Opens the conversion that the arguments name, whatever was done before, and returns 0; or 2 if
+/// they give no conversion, 6 if out of memory, 9 if an argument is not UTF-8, and 10 if the input
+/// of their conversion cannot be pushed.
 pub fn open(state: &mut Conversion, words: &[&[u8]]) -> u32
     ensures { Opens (map (λ word. word.now) words.now) state.new result }
 {
@@ -221,9 +221,9 @@ fn answer_of(fault: BridgeFault) -> u32
     }
 }
 
-/// Pushes a piece of the input, and answers 0; or 5 where the first line of a capture is refused, 6
-/// for want of memory, and 8 where a capture has 2^32 bytes, or a stream 2^64. Each answer but 0 is
-/// that of each further call; where no job was opened it is 12, and behind `finish` 11.
+/// Pushes a piece of the input, and returns 0; or 5 if the first line of a capture is rejected, 6
+/// if out of memory, and 8 if a capture has 2^32 bytes, or a stream 2^64. Each return but 0 is that
+/// of each further call; if no conversion was opened it is 12, and after `finish` 11.
 pub fn push(state: &mut Conversion, piece: &[u8]) -> u32
     ensures { Pushes state.old piece.now state.new result }
 {
@@ -242,8 +242,8 @@ pub fn push(state: &mut Conversion, piece: &[u8]) -> u32
     }
 }
 
-/// Says that no byte follows, and answers 0; or 5 or 6 as `push`. Each further call answers 11,
-/// or again what was answered before.
+/// Ends the input, and returns 0; or 5 or 6 as `push`. Each further call returns 11, or again what
+/// was returned before.
 pub fn finish(state: &mut Conversion) -> u32
     ensures { Finishes state.old state.new result }
 {
@@ -276,8 +276,7 @@ fn put_behind(made: &[u8], taken: usize, room: &mut [u8]) -> usize
     put(&waiting[..count], room)
 }
 
-/// Puts what waits of the output into a room, as many bytes as there is room for, and tells how
-/// many.
+/// Puts pending output into a buffer, as many bytes as fit, and returns how many.
 pub fn take(state: &mut Conversion, room: &mut [u8]) -> usize
     ensures takes { Takes state.old.output state.old.taken room.old room.new result }
     ensures state { state.new ≡ taken_more state.old result }
@@ -287,8 +286,7 @@ pub fn take(state: &mut Conversion, room: &mut [u8]) -> usize
     count
 }
 
-/// Puts what waits of the report into a room, as many bytes as there is room for, and tells how
-/// many.
+/// Puts the pending report into a buffer, as many bytes as fit, and returns how many.
 pub fn take_report(state: &mut Conversion, room: &mut [u8]) -> usize
     ensures takes { Takes state.old.report state.old.told room.old room.new result }
     ensures state { state.new ≡ told_more state.old result }
@@ -298,7 +296,7 @@ pub fn take_report(state: &mut Conversion, room: &mut [u8]) -> usize
     count
 }
 
-/// Gives all memory back; no job is open then.
+/// Releases all memory; no conversion is open then.
 pub fn close(state: &mut Conversion)
     ensures { state.new ≡ closed }
 {

@@ -1,4 +1,4 @@
-//! The words of a conversion, as texts.
+//! The arguments of a conversion, as texts.
 
 ghost use Rattle.std.specs.Prelude.{◌≡◌, ◌↔◌, All, IfOk, IsTrue, IsUtf8, map};
 ghost use Rattle.std.specs.String.{string_bytes};
@@ -16,7 +16,7 @@ fn is_text(word: &[u8]) -> bool
     }
 }
 
-/// Whether each word is a text, in UTF-8.
+/// Whether each argument is a text, in UTF-8.
 pub fn are_texts(words: &[&[u8]]) -> bool
     ensures { IsTrue result ↔ All IsUtf8 (map (λ word. word.now) words.now) }
 {
@@ -28,11 +28,11 @@ pub fn are_texts(words: &[&[u8]]) -> bool
     true
 }
 
-/// The words as texts.
+/// The arguments as texts.
 ///
 /// # Errors
 ///
-/// `AllocError` where there is no memory for them.
+/// `AllocError` if there is no memory for them.
 pub fn texts_of(alloc: Global, words: &[&[u8]]) -> Result<Vec<String>, AllocError>
     requires { All IsUtf8 (map (λ word. word.now) words.now) }
     ensures { IfOk result (λ texts. map string_bytes texts.items ≡ map (λ word. word.now) words.now) }

@@ -42,7 +42,7 @@ IsHead head line = Names head.window head.week line
 abbrev pub digit_count : List ℕ → ℕ
 digit_count text = prefix_len is_ascii_digit text
 
--- the number of the whole text
+-- the number of the complete text
 unfoldable pub whole_number_in : List ℕ → Option ℕ
 whole_number_in text = if digit_count text == length text then number_in text else None
 
@@ -50,7 +50,7 @@ whole_number_in text = if digit_count text == length text then number_in text el
 unfoldable pub number_behind : List ℕ → Option ℕ
 number_behind rest = if slice_index rest 0 == 32 then whole_number_in (drop 1 rest) else None
 
--- the head of a week and a window, where both are in range
+-- the head of a week and a window, if both are in range
 unfoldable pub ranged : ℕ → ℕ → Option CaptureHead
 ranged week window =
     if (nat_le 1024 week && nat_le week 8191) && (nat_le 60 window && nat_le window 14400)

@@ -3,7 +3,7 @@ use Rattle.std.specs.Prelude.{◌≡◌, ℕ, ◌+◌, ◌<◌, max, List, [], �
 use Rattle.capture_lines.specs.declared.item.LineItem.{LineItem}
 use Rattle.capture_lines.specs.declared.item.LineItem.TheVariants.{Pass, Lnav, Half, Frame, Malformed}
 
--- the stamp of an item; a skipped or malformed line has none
+-- the time tag of an item; a skipped or malformed line has none
 abbrev pub stamp_of : LineItem → Option ℕ
 stamp_of Pass = None
 stamp_of (Lnav stamp sat bits) = Some stamp
@@ -11,7 +11,8 @@ stamp_of (Half stamp sat signal bits) = Some stamp
 stamp_of (Frame stamp bytes) = Some stamp
 stamp_of Malformed = None
 
--- a line with this stamp is late: the stamp plus the window is below the stamp of a line before it
+-- a line with this time tag is late: the time tag plus the window is below the time tag of a line
+-- before it
 pub record IsLate (window : ℕ) (before : List LineItem) (stamp : ℕ) : Type 0 where
   pub other : LineItem
   pub other_stamp : ℕ
@@ -19,7 +20,7 @@ pub record IsLate (window : ℕ) (before : List LineItem) (stamp : ℕ) : Type 0
   pub stamp_is : stamp_of other ≡ Some other_stamp
   pub later : stamp + window < other_stamp
 
--- an item of the lines is accepted: it has a stamp and is not late after those before it
+-- an item of the lines is accepted: it has a time tag and is not late after those before it
 pub record IsAccepted (window : ℕ) (items : List LineItem) (item : LineItem) : Type 0 where
   pub before : List LineItem
   pub after : List LineItem
@@ -28,7 +29,7 @@ pub record IsAccepted (window : ℕ) (items : List LineItem) (item : LineItem) :
   pub stamp_is : stamp_of item ≡ Some stamp
   pub in_time : IsLate window before stamp → ⊥
 
--- the greatest stamp of the items, 0 where there is none
+-- the greatest time tag of the items, 0 if there is none
 abbrev pub greatest_stamp : List LineItem → ℕ
 greatest_stamp [] = 0
 greatest_stamp (item ∷ items) = max (unwrap_or (stamp_of item) 0) (greatest_stamp items)

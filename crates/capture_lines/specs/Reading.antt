@@ -28,7 +28,7 @@ number_in digits =
     if nat_lt 0 (length digits) && (nat_le (length digits) 10 && nat_lt (digits_value 10 digits) (2 ^ 32))
     then Some (digits_value 10 digits) else None
 
--- the satellite of a system with a number of two digits, where it is in range
+-- the satellite of a system with a number of two digits, if it is in range
 unfoldable pub satellite_in : System → ℕ → ℕ → Option Satellite
 satellite_in system tens units =
     let number = (tens - 48) * 10 + (units - 48) in
@@ -77,7 +77,7 @@ unfoldable pub frame_in : ℕ → List ℕ → LineItem
 frame_in stamp digits =
     if nat_le 12 (length digits) && nat_le (length digits) 2058 then frame_with stamp (decode_of digits) else Malformed
 
--- the item of a stamp and the text after it
+-- the item of a time tag and the text after it
 unfoldable pub form_in : ℕ → List ℕ → LineItem
 form_in stamp rest =
     if starts_with nat_eq rest (codes " L G") then lnav_in stamp rest
@@ -85,7 +85,7 @@ form_in stamp rest =
     else if starts_with nat_eq rest (codes " R ") then frame_in stamp (drop 3 rest)
     else Malformed
 
--- the item of the stamp read, if any, and the text after it
+-- the item of the time tag read, if any, and the text after it
 abbrev pub item_with : Option ℕ → List ℕ → LineItem
 item_with (Some stamp) rest = form_in stamp rest
 item_with None rest = Malformed

@@ -1,5 +1,6 @@
--- The content of a line of a capture: an item of which it is a spelling (spellings differ only in leading zeros of the
--- stamp and in the case of hexadecimal digits), a line to be skipped, or malformed.
+-- The content of a line of a capture: an item of which it is a spelling (spellings differ only in
+-- leading zeros of the time tag and in the case of hexadecimal digits), a line to be skipped, or
+-- malformed.
 use Rattle.std.specs.Prelude.{◌≡◌, ℕ, ◌^◌, ◌<◌, ◌≤◌, ◌⊎◌, List, [], ◌∷◌, ◌++◌, All, length, Ok}
 use Rattle.std.specs.Str.Parse.{IsNumeral, digits_value}
 use Rattle.hex.specs.Hex.{decode_of}

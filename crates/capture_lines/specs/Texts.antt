@@ -14,20 +14,22 @@ abbrev pub signal_letter : Signal → ℕ
 signal_letter E1b = 66
 signal_letter E5b = 53
 
--- a subframe: the stamp, `L`, `G` and the satellite number, hexadecimal digits
+-- a subframe: the time tag, `L`, `G` and the satellite number, hexadecimal digits
 abbrev pub lnav_line : List ℕ → ℕ → List ℕ → List ℕ
 lnav_line time number digits = time ++ (codes " L G" ++ (two_digits number ++ (codes " " ++ digits)))
 
--- a page part: the stamp, `P`, `E` and the satellite number, the letter of the signal, hexadecimal digits
+-- a page part: the time tag, `P`, `E` and the satellite number, the letter of the signal,
+-- hexadecimal digits
 abbrev pub half_line : List ℕ → ℕ → Signal → List ℕ → List ℕ
 half_line time number signal digits =
     time ++ (codes " P E" ++ (two_digits number ++ (codes " " ++ (signal_letter signal ∷ (codes " " ++ digits)))))
 
--- a frame: the stamp, `R`, hexadecimal digits
+-- a frame: the time tag, `R`, hexadecimal digits
 abbrev pub frame_line : List ℕ → List ℕ → List ℕ
 frame_line time digits = time ++ (codes " R " ++ digits)
 
--- the written line of a subframe: the stamp without leading zeros, digits in lower case, LF at the end
+-- the written line of a subframe: the time tag without leading zeros, digits in lower case, LF at
+-- the end
 abbrev pub lnav_text : ℕ → Satellite → List ℕ → List ℕ
 lnav_text stamp sat bits = lnav_line (decimal stamp) sat.number (encode_lower bits) ++ 10 ∷ []
 

@@ -12,10 +12,10 @@ use gnss_week::RefWeek;
 /// The content of the first line of a capture.
 #[derive(Clone, Copy, PartialEq, Eq)]
 pub struct CaptureHead {
-    /// The window in seconds: how far a line's stamp may be below a later one's, and the longest
+    /// The window in seconds: how far a line's time tag may be below a later one's, and the longest
     /// gap between parts of one period.
     pub window: u32,
-    /// The reference week, counted from 1980-01-06; `None` where the line has none.
+    /// The reference week, counted from 1980-01-06; `None` if the line has none.
     pub week: Option<RefWeek>,
 }
 

@@ -15,7 +15,7 @@ pub enum LineItem {
     Pass,
     /// A subframe of the GPS LNAV message.
     Lnav {
-        /// The stamp at which it was received, in seconds of the logger's clock.
+        /// The time tag at which it was received, in seconds of the logger's clock.
         stamp: u32,
         /// The GPS satellite.
         sat: Sat,
@@ -24,7 +24,7 @@ pub enum LineItem {
     },
     /// A page part of the Galileo I/NAV message.
     Half {
-        /// The stamp at which it was received, in seconds of the logger's clock.
+        /// The time tag at which it was received, in seconds of the logger's clock.
         stamp: u32,
         /// The Galileo satellite.
         sat: Sat,
@@ -35,7 +35,7 @@ pub enum LineItem {
     },
     /// The bytes of an RTCM frame, not checked.
     Frame {
-        /// The stamp at which it was received, in seconds of the logger's clock.
+        /// The time tag at which it was received, in seconds of the logger's clock.
         stamp: u32,
         /// The bytes, 6 to 1,029.
         bytes: ArrayVec<u8, LONGEST_FRAME>,

@@ -1,4 +1,4 @@
-//! Laws of lines; each function does nothing, and its contract is the law.
+//! Theorems about lines; each function does nothing, and its contract is the theorem.
 
 ghost use Rattle.std.specs.Prelude.{◌≡◌, ◌+◌, ◌^◌, ◌<◌, ◌≤◌};
 ghost use Rattle.std.specs.Prelude.{◌↔◌, ℕ, List, Some, All, length};
@@ -28,12 +28,12 @@ pub fn each_line_stands_for_one_thing()
     ensures only { (line : List ℕ) (item : LineItem) → StandsFor item line → item ≡ item_of line }
 {}
 
-/// The stamp of an item is below 2^32.
+/// The time tag of an item is below 2^32.
 pub fn stamps_have_32_bits()
     ensures { (line : List ℕ) (stamp : ℕ) → stamp_of (item_of line) ≡ Some stamp → stamp < 2 ^ 32 }
 {}
 
-/// A line is late exactly where its stamp plus the window is below the greatest stamp before it.
+/// A line is late exactly if its time tag plus the window is below the greatest time tag before it.
 pub fn late_is_behind_the_greatest_stamp()
     ensures { (window : ℕ) (before : List LineItem) (stamp : ℕ)
         → IsLate window before stamp ↔ (stamp + window < greatest_stamp before) }

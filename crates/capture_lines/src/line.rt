@@ -27,7 +27,7 @@ const LONGEST_COMMENT: usize = 2200;
 ///
 /// A line is `stamp L G05 hex` (LNAV subframe, 76 digits), `stamp P E11 B hex` (I/NAV page part, 30
 /// digits; `B` for E1-B, `5` for E5b) or `stamp R hex` (RTCM frame, 12 to 2,058 digits, an even
-/// number), its words separated by one space. The stamp has one to ten decimal digits and is at
+/// number), its words separated by one space. The time tag has one to ten decimal digits and is at
 /// most 4,294,967,295; hexadecimal digits are of either case. A line of at most 2,200 bytes that
 /// begins with `#`, is empty or has only spaces is `Pass`; every other line is `Malformed`.
 pub fn read_line(line: &[u8]) -> LineItem
@@ -39,7 +39,7 @@ pub fn read_line(line: &[u8]) -> LineItem
     item
 }
 
-/// [`read_line`] into an item of the caller's, whatever it was before. An item has room for a whole
+/// [`read_line`] into an item of the caller's, whatever it was before. An item holds a complete
 /// frame, so this saves a move of that size.
 #[tactic(auto, unfolding(crate::specs::Reading::item_of))]
 pub fn read_line_into(line: &[u8], item: &mut LineItem)

@@ -1,5 +1,5 @@
-//! Decimal numbers: stamps in seconds of the logger's clock, and the week and window of the first
-//! line.
+//! Decimal numbers: time tags in seconds of the logger's clock, and the week and window of the
+//! first line.
 
 ghost use Rattle.std.specs.Prelude.{◌≡◌, ◌+◌, ◌^◌, ◌<◌};
 ghost use Rattle.std.specs.Prelude.{◌≤◌, ◌++◌, length, take, decimal};

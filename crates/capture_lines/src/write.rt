@@ -18,9 +18,9 @@ use nav_eph::{Sat, Signal};
 /// A buffer for a line and its line end.
 pub type LineText = ArrayVec<u8, 2201>;
 
-/// Writes the line of a subframe of a GPS satellite, received at a stamp in seconds of the logger's
-/// clock, into an empty buffer: `stamp L G05 hex` and LF. The stamp has no leading zeros, the 76
-/// hexadecimal digits are in lower case.
+/// Writes the line of a subframe of a GPS satellite, received at a time tag in seconds of the
+/// logger's clock, into an empty buffer: `stamp L G05 hex` and LF. The time tag has no leading
+/// zeros, the 76 hexadecimal digits are in lower case.
 pub fn write_lnav(stamp: u32, sat: Sat, bits: &Bits<38>, into: &mut LineText)
     requires empty { into.old.items ≡ [] }
     requires system { sat.system ≡ Gps }
@@ -36,7 +36,7 @@ pub fn write_lnav(stamp: u32, sat: Sat, bits: &Bits<38>, into: &mut LineText)
 }
 
 /// Writes the line of a page part of a Galileo satellite into an empty buffer: `stamp P E11 B hex`
-/// and LF, with `B` for E1-B and `5` for E5b. The stamp has no leading zeros, the 30 hexadecimal
+/// and LF, with `B` for E1-B and `5` for E5b. The time tag has no leading zeros, the 30 hexadecimal
 /// digits are in lower case.
 pub fn write_half_line(stamp: u32, sat: Sat, signal: Signal, bits: &Bits<15>, into: &mut LineText)
     requires empty { into.old.items ≡ [] }
@@ -55,7 +55,7 @@ pub fn write_half_line(stamp: u32, sat: Sat, signal: Signal, bits: &Bits<15>, in
 }
 
 /// Writes the line of a frame of 6 to 1,029 bytes into an empty buffer: `stamp R hex` and LF. The
-/// stamp has no leading zeros, the hexadecimal digits, two for each byte, are in lower case.
+/// time tag has no leading zeros, the hexadecimal digits, two for each byte, are in lower case.
 pub fn write_rtcm(stamp: u32, frame: &[u8], into: &mut LineText)
     requires empty { into.old.items ≡ [] }
     requires shortest { 6 ≤ length frame.now }

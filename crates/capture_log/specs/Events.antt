@@ -34,7 +34,7 @@ use Rattle.capture_log.specs.declared.event.Event.{Event}
 use Rattle.capture_log.specs.declared.event.Event.TheVariants.{Heard, Malformed, Late, Refused}
 use Rattle.capture_log.specs.declared.event.Event.TheVariants.{Unused}
 
--- the event of a subframe: its part, or why it is refused; other subframes and pages are not used
+-- the event of a subframe: its part, or why it is rejected; other subframes and pages are not used
 abbrev pub of_subframe : Result Part LnavFault → Event
 of_subframe (Ok part) = Heard part
 of_subframe (Err subframes.Preamble) = Refused refusals.Preamble
@@ -43,14 +43,14 @@ of_subframe (Err subframes.BadTow) = Refused refusals.Tow
 of_subframe (Err (subframes.Unused number page)) = Unused
 of_subframe (Err subframes.BadTime) = Refused refusals.Time
 
--- the event of a word that is refused or not used
+-- the event of a word that is rejected or not used
 abbrev pub of_word_fault : WordFault → Event
 of_word_fault (words.OtherWord number) = Unused
 of_word_fault words.WrongSat = Refused refusals.Satellite
 of_word_fault words.BadTime = Refused refusals.Time
 of_word_fault words.SpareSisa = Refused refusals.Sisa
 
--- the second part of a word, where there is one
+-- the second part of a word, if there is one
 abbrev pub of_second : Option Part → List Event
 of_second None = []
 of_second (Some part) = Heard part ∷ []
@@ -60,7 +60,7 @@ abbrev pub of_word : Result WordParts WordFault → List Event
 of_word (Ok parts) = Heard parts.first ∷ of_second parts.second
 of_word (Err fault) = of_word_fault fault ∷ []
 
--- the event of a message that is refused or not used
+-- the event of a message that is rejected or not used
 abbrev pub of_message_fault : MessageFault → Event
 of_message_fault messages.NoNumber = Unused
 of_message_fault (messages.OtherMessage number) = Unused
@@ -69,14 +69,14 @@ of_message_fault messages.BadSat = Refused refusals.Satellite
 of_message_fault messages.BadTime = Refused refusals.Time
 of_message_fault messages.SpareSisa = Refused refusals.Sisa
 
--- the events of a message: the parts of its ephemeris, or its fault
+-- the events of a message: the parts of its ephemeris, or its error
 abbrev pub of_message : Result MessageParts MessageFault → List Event
 of_message (Ok (GpsParts clock a b)) = Heard clock ∷ Heard a ∷ Heard b ∷ []
 of_message (Ok (GalParts w1 w2 w3 w4 health)) =
     Heard w1 ∷ Heard w2 ∷ Heard w3 ∷ Heard w4 ∷ Heard health ∷ []
 of_message (Err fault) = of_message_fault fault ∷ []
 
--- the bytes are exactly one whole frame with a right checksum
+-- the bytes are exactly one complete frame with a right checksum
 abbrev pub is_frame : List ℕ → Bool
 is_frame bytes = nat_lt 0 (length bytes) && nat_eq (frame_size bytes) (length bytes)
 
@@ -86,7 +86,7 @@ of_frame stamp bytes =
     if is_frame bytes then of_message (parts_of stamp (content_of (payload_of bytes)))
     else Refused refusals.Frame ∷ []
 
--- a page part as received: its kept bits, with stamp, satellite and signal
+-- a page part as received: its used bits, with time tag, satellite and signal
 abbrev pub half_of : ℕ → Satellite → Signal → List ℕ → StampedHalf
 half_of stamp sat signal bits = stamped stamp sat signal (kept_of (number_at bits 0 120))
 
@@ -94,13 +94,13 @@ half_of stamp sat signal bits = stamped stamp sat signal (kept_of (number_at bit
 abbrev pub is_alert : List ℕ → Bool
 is_alert bits = nat_eq (number_at bits 1 1) 1
 
--- the events of the words that a page part completes, each with the stamp of the odd part
+-- the events of the words that a page part completes, each with the time tag of the odd part
 abbrev pub of_words : StampedHalf → List (List ℕ) → List Event
 of_words half words =
     flat_map (λ word. of_word (reading_of word half.sat (stamp_by (kind_of half.half) half.stamp)))
     words
 
--- the words that a page part completes with earlier ones; none where it was received before
+-- the words that a page part completes with earlier ones; none if it was received before
 abbrev pub new_words : List StampedHalf → StampedHalf → List (List ℕ)
 new_words before half = if has_half before half then [] else words_of before half
 
@@ -110,7 +110,7 @@ of_half before stamp sat signal bits =
     if is_alert bits then Unused ∷ []
     else of_words (half_of stamp sat signal bits) (new_words before (half_of stamp sat signal bits))
 
--- the state after some lines: their greatest stamp, and the accepted page parts, each once
+-- the state after some lines: their greatest time tag, and the accepted page parts, each once
 pub record Known : Type 0 where
   pub greatest : ℕ
   pub halves : List StampedHalf
@@ -119,7 +119,7 @@ pub record Known : Type 0 where
 abbrev pub nothing_known : Known
 nothing_known = record { greatest = 0; halves = [] }
 
--- the stamp is before the greatest one by more than the window
+-- the time tag is before the greatest one by more than the window
 abbrev pub is_late : ℕ → Known → ℕ → Bool
 is_late window known stamp = nat_lt (stamp + window) known.greatest
 

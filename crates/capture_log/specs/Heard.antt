@@ -41,7 +41,7 @@ pub record IsHalfHeard (window : ℕ) (items : List LineItem) (half : StampedHal
   pub nominal : is_alert bits ≡ false
   pub half_is : half ≡ half_of stamp sat signal bits
 
--- the part is in a word of two received page parts; its stamp is that of the odd one
+-- the part is in a word of two received page parts; its time tag is that of the odd one
 pub record IsOfWord (window : ℕ) (items : List LineItem) (part : Part) : Type 0 where
   pub even : StampedHalf
   pub odd : StampedHalf
@@ -54,7 +54,7 @@ abbrev pub IsPartHeard : ℕ → List LineItem → Part → Type 0
 IsPartHeard window items part =
     IsOfSubframe window items part ⊎ (IsOfFrame window items part ⊎ IsOfWord window items part)
 
--- the same items with a stamp are in both lists, in any order and number
+-- the same items with a time tag are in both lists, in any order and number
 abbrev pub SameItems : List LineItem → List LineItem → Type 0
 SameItems some other =
     (item : LineItem) (s : ℕ) → stamp_of item ≡ Some s → Contains some item ↔ Contains other item

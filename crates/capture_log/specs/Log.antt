@@ -49,6 +49,7 @@ log_of window lines = log_from window nothing_known 2 (line_items_of lines)
 abbrev pub parts_of : ℕ → List Line → List Part
 parts_of window lines = parts_in (log_of window lines)
 
--- the watermark after the lines, the greatest stamp less the window, at least 0; no accepted line comes from before it
+-- the watermark after the lines, the greatest time tag less the window, at least 0; no accepted
+-- line comes from before it
 abbrev pub watermark_after : ℕ → List Line → ℕ
 watermark_after window lines = (known_from window nothing_known (line_items_of lines)).greatest - window

@@ -3,7 +3,7 @@ use nav_eph::Part;
 /// Why something that was received is not used.
 #[derive(Clone, Copy, PartialEq, Eq)]
 pub enum Refusal {
-    /// The bytes are not one whole frame with a right checksum.
+    /// The bytes are not one complete frame with a right checksum.
     Frame,
     /// A subframe begins neither with the preamble nor with its complement.
     Preamble,
@@ -31,9 +31,9 @@ pub enum Event {
     Heard(Part),
     /// The line has none of the line formats.
     Malformed,
-    /// The line is late: its stamp is before the greatest one by more than the window.
+    /// The line is late: its time tag is before the greatest one by more than the window.
     Late,
-    /// The content of the line is refused.
+    /// The content of the line is rejected.
     Refused(Refusal),
     /// The content is valid but not used: an alert page, or another subframe, word type or message.
     Unused,

@@ -1,4 +1,5 @@
-//! Laws of the periods of the received parts. Each function does nothing; its contract is the law.
+//! Theorems about the periods of the received parts. Each function does nothing; its contract is
+//! the theorem.
 
 ghost use Rattle.std.specs.Prelude.{◌≡◌, ℕ, List, All};
 ghost use Rattle.gnss_week.specs.Weeks.{IsReference};

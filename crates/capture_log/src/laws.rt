@@ -1,4 +1,4 @@
-//! Laws of what is received. Each function does nothing; its contract is the law.
+//! Theorems about what is received. Each function does nothing; its contract is the theorem.
 
 ghost use Rattle.std.specs.Prelude.{◌≡◌, ℕ, ◌+◌, ◌^◌, ◌<◌, ◌≤◌};
 ghost use Rattle.std.specs.Prelude.{◌++◌, ◌↔◌, List, length, Some, All};
@@ -29,8 +29,8 @@ pub fn taken_parts_are_heard()
     capture_lines::late_is_behind_the_greatest_stamp();
 }
 
-/// Each received part is a value: its stamp has 32 bits if those of the items have, and each field
-/// is within its width.
+/// Each received part is a value: its time tag has 32 bits if those of the items have, and each
+/// field is within its width.
 pub fn parts_heard_are_values()
     ensures { (window number : ℕ) (items : List LineItem)
         → All (λ item. (s : ℕ) → stamp_of item ≡ Some s → s < 2 ^ 32) items
@@ -99,7 +99,7 @@ pub fn lines_yield_what_is_heard()
     periods_are_those_heard();
 }
 
-/// Where no item is late, the set of items alone determines the periods, and so the ephemerides and
+/// If no item is late, the set of items alone determines the periods, and so the ephemerides and
 /// ionosphere parameters in them; order and repetition do not matter.
 pub fn order_of_items_does_not_matter()
     ensures periods { (r window m n : ℕ) (some other : List LineItem) → SameItems some other
@@ -117,8 +117,8 @@ pub fn order_of_items_does_not_matter()
     taken_parts_are_heard();
 }
 
-/// The same of the lines of two captures with one window: where no line is late and the same items
-/// are in them, the periods, ephemerides and ionosphere parameters are the same.
+/// The same of the lines of two captures with one window: if no line is late and the same items are
+/// in them, the periods, ephemerides and ionosphere parameters are the same.
 pub fn order_of_lines_does_not_matter()
     ensures periods { (r window : ℕ) (some other : List Line)
         → SameItems (line_items_of some) (line_items_of other)
@@ -149,7 +149,7 @@ pub fn further_lines_go_on()
 {}
 
 /// The parts of some lines stay as more come. The parts of the further lines follow them, none with
-/// a stamp before the watermark.
+/// a time tag before the watermark.
 pub fn further_lines_are_later()
     ensures { (window : ℕ) (lines more : List Line) → (later : List Part)
         × (parts_of window (lines ++ more) ≡ parts_of window lines ++ later)

@@ -1,15 +1,15 @@
-//! What the lines of a capture give: the definitions on which a conversion rests, and the laws
+//! What the lines of a capture give: the definitions on which a conversion rests, and the theorems
 //! between them. There is no input and no output here.
 //!
 //! A line is malformed, late, or accepted. An accepted one holds a GPS subframe (IS-GPS-200, 20.3),
 //! a Galileo page part (OS SIS ICD, 4.3), or an RTCM frame (10403.3), and gives *parts* of
-//! ephemerides and of ionosphere parameters, or the reason for which it is refused. Each such
+//! ephemerides and of ionosphere parameters, or the reason for which it is rejected. Each such
 //! [`Event`] is in the log with its line number.
 //!
 //! - `specs/Events.antt`: the events of one more line, given the state after those before it;
 //! - `specs/Log.antt`: the log of all lines, and the parts in it;
-//! - `specs/Heard.antt`: the received parts, stated over all lines at once. The laws say that these
-//!   are the same, a set of values, and that order and repetition of lines do not matter.
+//! - `specs/Heard.antt`: the received parts, stated over all lines at once. The theorems state that
+//!   these are the same, a set of values, and that order and repetition of lines do not matter.
 //!
 //! ```rust
 //! use capture_log::{Event, Refusal, subframe_event};

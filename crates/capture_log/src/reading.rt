@@ -9,7 +9,7 @@ use lnav_subframe::LnavFault;
 use nav_eph::Part;
 use rtcm_eph::MessageFault;
 
-/// The event of a subframe: its part, why it is refused, or that it is not used.
+/// The event of a subframe: its part, why it is rejected, or that it is not used.
 pub fn subframe_event(reading: Result<Part, LnavFault>) -> Event
     ensures { result ≡ of_subframe reading }
 {
@@ -23,7 +23,7 @@ pub fn subframe_event(reading: Result<Part, LnavFault>) -> Event
     }
 }
 
-/// The event of a word that is refused or not used.
+/// The event of a word that is rejected or not used.
 pub fn word_event(fault: WordFault) -> Event
     ensures { result ≡ of_word_fault fault }
 {
@@ -35,7 +35,7 @@ pub fn word_event(fault: WordFault) -> Event
     }
 }
 
-/// The event of a message that is refused or not used.
+/// The event of a message that is rejected or not used.
 pub fn message_event(fault: MessageFault) -> Event
     ensures { result ≡ of_message_fault fault }
 {

@@ -49,7 +49,7 @@ pub record Capture : Type 0 where
   pub week : ℕ
   pub lines : List Line
 
--- the capture that the lines are, where the first is accepted for the week
+-- the capture that the lines are, if the first is accepted for the week
 abbrev pub capture_with : List Line → Option Accepted → Option Capture
 capture_with lines None = None
 capture_with lines (Some a) = Some (record { window = a.window; week = a.week; lines = lines })
@@ -75,11 +75,11 @@ periods c = periods_of c.week c.window (parts_of c.window c.lines)
 abbrev pub flushed_periods : Capture → List Closed
 flushed_periods c = closed_of c.week c.window (watermark_after c.window c.lines) (parts_of c.window c.lines)
 
--- the items of a capture: those of its whole periods, in their order
+-- the items of a capture: those of its complete periods, in their order
 abbrev pub items : Capture → List NavItem
 items c = items_in (periods c)
 
--- 1 for a whole period, else 0
+-- 1 for a complete period, else 0
 abbrev pub is_whole : Verdict → ℕ
 is_whole (Whole item) = 1
 is_whole _ = 0
@@ -136,7 +136,7 @@ counts_text c =
 abbrev pub texts_of : Target → List Closed → List ℕ
 texts_of to cs = flat_map (period_text to) cs
 
--- what is written of a whole capture
+-- what is written of a complete capture
 abbrev pub whole_text : Target → Option Capture → List ℕ
 whole_text to None = []
 whole_text to (Some c) = prefix_text to ++ (texts_of to (periods c) ++ back_text to (counts_text (counts_of c)))
@@ -178,8 +178,8 @@ without_last [] = []
 without_last (line ∷ []) = []
 without_last (line ∷ more ∷ lines) = line ∷ without_last (more ∷ lines)
 
--- the least that was written of the bytes taken, at a fault other than of a read: what the complete lines before the last 4,096
--- bytes close, without the last of these lines
+-- the least that was written of the bytes taken, at an error other than of a read: what the
+-- complete lines before the last 4,096 bytes close, without the last of these lines
 unfoldable pub least_output : Target → Option ℕ → List ℕ → List ℕ
 least_output to week bytes = flushed_text to (capture_in week (without_last (lines_by true (take (length bytes - 4096) bytes))))
 
@@ -191,7 +191,7 @@ target_of captures.Rtcm = Rtcm
 target_of captures.ToList = ToList
 target_of captures.Count = Count
 
--- the counts of a capture, where there is one
+-- the counts of a capture, if there is one
 abbrev pub counts_in : Option Capture → Option CaptureCounts
 counts_in None = None
 counts_in (Some c) = Some (counts_of c)
@@ -209,6 +209,6 @@ target_meaning to week = record {
   flushed = Some (record { output = flushed_output to week; report = flushed_report week });
 }
 
--- the same, by the target that a job names
+-- the same, by the target that a conversion names
 abbrev pub capture_meaning : CaptureTo → Option ℕ → Meaning CaptureCounts
 capture_meaning to week = target_meaning (target_of to) week

@@ -52,8 +52,8 @@ pub record Waits (to : Target) (head : Accepted) (lines : List Line) (state : Li
   pub few : state.number < 2 ^ 32
   pub stands : Stands to head lines h start written told reported
 
--- What a fault says besides, of all lines that were processed. After a failed read these are the complete ones, and the state is
--- that after them. At `TooLong` 2^32 bytes were counted.
+-- What an error states besides, of all lines that were processed. After a failed read these are the
+-- complete ones, and the state is that after them. At `TooLong` 2^32 bytes were counted.
 abbrev pub ConversionSays : Target → Accepted → List Line → List Line → LinesState → Hearing → Option (List ℕ) → Option (List ℕ) → Option (List ℕ) → Option (List ℕ) → BridgeFault → Type 0
 ConversionSays to head lines last new h start written told reported ReadFault = (last ≡ []) × Waits to head lines new h start written told reported
 ConversionSays to head lines last new h start written told reported TooLong = new.taken ≡ 2 ^ 32
@@ -62,9 +62,10 @@ ConversionSays to head lines last new h start written told reported WriteFault =
 ConversionSays to head lines last new h start written told reported ReportFault = Unit {0}
 ConversionSays to head lines last new h start written told reported NoMemory = Unit {0}
 
--- A fault. The lines `given` were processed, and `last`, at most one, perhaps in part; no more lines are complete before the last
--- 4,096 bytes. A prefix was written of what these lines, those before and any that follow give, no less than what `given` close;
--- and a prefix of the report of these lines was reported.
+-- An error. The lines `given` were processed, and `last`, at most one, perhaps in part; no more
+-- lines are complete before the last 4,096 bytes. A prefix was written of what these lines, those
+-- before and any that follow give, no less than what `given` close; and a prefix of the report of
+-- these lines was reported.
 pub record ConversionBroke (to : Target) (head : Accepted) (past : List Line) (left left_new : Option (List ℕ)) (old new : LinesState) (h : Hearing) (start written told reported : Option (List ℕ)) (fault : BridgeFault) : Type 0 where
   pub given : List Line
   pub last : List Line

@@ -23,7 +23,7 @@ use Rattle.captures.specs.Runs.{WritesLast}
 abbrev pub no_tally : Tally
 no_tally = record { malformed = 0; late = 0; refused = 0; unused = 0 }
 
--- what is kept, counted and known after the lines so far
+-- what is retained, counted and known after the lines so far
 pub record Counted (window : ℕ) (lines : List Line) (keeping : Keeping) (tally : Tally) (greatest : ℕ) : Type 0 where
   pub keeps : KeepsHalves keeping window (known_from window nothing_known (line_items_of lines))
   pub greatest_is : greatest ≡ (known_from window nothing_known (line_items_of lines)).greatest
@@ -55,7 +55,7 @@ GivesNoHead week left left_new old new ReadFault = BreaksRead left left_new old 
 GivesNoHead week left left_new old new TooLong = BreaksLong left left_new old new
 GivesNoHead week left left_new old new _ = ⊥
 
--- the output and the report are prefixes of what the whole input gives
+-- the output and the report are prefixes of what the complete input gives
 abbrev pub CapturePrefix : Target → Option ℕ → Option (List ℕ) → Option (List ℕ) → Option (List ℕ) → Option (List ℕ) → Option (List ℕ) → Type 0
 CapturePrefix to week left written written_new reported reported_new =
     IfSome left (λ bytes. AppendsPrefix written written_new (output_of to week bytes) × AppendsPrefix reported reported_new (report_of_capture week bytes))
@@ -65,20 +65,20 @@ abbrev pub CountsLast : Target → Option ℕ → Option (List ℕ) → Option (
 CountsLast Count week left left_new written written_new = WritesLast (output_of Count week) left left_new written written_new
 CountsLast to week left left_new written written_new = Unit {0}
 
--- after a fault, what is known with regard to the whole input, unread bytes included
+-- after an error, what is known with regard to the complete input, unread bytes included
 abbrev pub CaptureAhead : Target → Option ℕ → Option (List ℕ) → Option (List ℕ) → Option (List ℕ) → Option (List ℕ) → Option (List ℕ) → Option (List ℕ) → Type 0
 CaptureAhead to week left left_new written written_new reported reported_new =
     CapturePrefix to week left written written_new reported reported_new × CountsLast to week left left_new written written_new
 
--- the first line of the whole input is accepted
+-- the first line of the complete input is accepted
 abbrev pub AcceptsHead : Option ℕ → Option (List ℕ) → Type 0
 AcceptsHead week left = IfSome left (λ bytes. IsSome (counts_in (capture_of week bytes)))
 
--- the first line of the whole input is refused
+-- the first line of the complete input is rejected
 abbrev pub Refuses : Option ℕ → Option (List ℕ) → Type 0
 Refuses week left = IfSome left (λ bytes. counts_in (capture_of week bytes) ≡ None)
 
--- what a fault says besides, of a run that took these bytes
+-- what an error states besides, of a run that took these bytes
 abbrev pub StopSays : Target → Option ℕ → Option (List ℕ) → List ℕ → Option (List ℕ) → Option (List ℕ) → Option (List ℕ) → Option (List ℕ) → BridgeFault → Type 0
 StopSays to week left taken written written_new reported reported_new ReadFault =
     Appends written written_new (flushed_output to week taken) × Appends reported reported_new (flushed_report week taken)

@@ -12,7 +12,8 @@ use Rattle.captures.specs.Captures.{capture_of, counts_in, output_of, report_of_
 use Rattle.captures.specs.declared.seed_target.SeedCounts.{SeedCounts}
 use Rattle.captures.specs.declared.seed_target.SeedCounts.TheVariants.{Written, Counted}
 
--- the fault count of the output or report that failed rose; the input, its form and its length are never at fault
+-- the error count of the output or report that failed rose; the input, its form and its length are
+-- never the cause
 abbrev pub IsSeedFault : Faults → Faults → BridgeFault → Type 0
 IsSeedFault before now ReadFault = ⊥
 IsSeedFault before now WriteFault = Rose before.output now.output

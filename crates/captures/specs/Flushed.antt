@@ -77,7 +77,8 @@ pub record HasRoom (now : Standing → Type 0) (r window watermark : ℕ) (count
   pub stands : now (flushed r window parts before)
   pub counts : counted ≡ said_of (closed_of r window before parts)
 
--- how writing ends: the output's fault count rose exactly where the output failed, and the only other fault is want of memory
+-- how writing ends: the output's error count rose exactly if the output failed, and the only other
+-- error is out of memory
 abbrev pub IsWriting : {T : Type 0} → ℕ → ℕ → Result T BridgeFault → Type 0
 IsWriting before now (Ok x) = now ≡ before
 IsWriting before now (Err WriteFault) = Rose before now

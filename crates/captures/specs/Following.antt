@@ -1,4 +1,5 @@
--- What becomes of a capture that goes on from its state between two pieces. Private functions cite these.
+-- What becomes of a capture that continues from its state between two pieces. Private functions
+-- cite these.
 use Rattle.std.specs.Prelude.{◌≡◌, ◌-◌, ◌<◌, ◌^◌, ℕ, true, false, Bool, List, [], ◌∷◌, ◌++◌, length, Option, Some, Result, MatchResult}
 use Rattle.std.specs.Io.KnownBytes.{Appends, Consumes, IsAtEnd}
 use Rattle.nav_io.specs.Lines.{Line, lines_by}
@@ -16,7 +17,7 @@ use Rattle.captures.specs.Flushed.{with_counts}
 use Rattle.captures.specs.Notes.{line_report}
 use Rattle.captures.specs.Pushed.{IsBehind, IsCutShort, IsWaiting}
 
--- the faults of a piece: a read behind its end alone fails
+-- the errors of a piece: a read after its end alone fails
 abbrev pub piece_faults : Bool → List ℕ → ℕ
 piece_faults false rest = 0
 piece_faults true [] = 2 ^ 64 - 1
@@ -39,7 +40,8 @@ pub record FollowsAll (to : Target) (week : Option ℕ) (left left_new : Option 
   pub report : Appends begun reported (line_report (log_of head.window given))
   pub counts : with_counts lines.number h.ear.tally h.said ≡ counts_of (record { window = head.window; week = head.week; lines = given })
 
--- after a failed read the state is that behind the bytes read; any other fault cuts the conversion short
+-- after a failed read the state is that after the bytes read; any other error ends the conversion
+-- early
 abbrev pub FollowSays : Target → Option ℕ → List ℕ → List ℕ → LinesState → Option Hearing → Option (List ℕ) → Option (List ℕ) → Option (List ℕ) → Option (List ℕ) → BridgeFault → Type 0
 FollowSays to week bytes all lines hearing start written begun reported ReadFault = IsWaiting lines × IsBehind to week lines hearing all start written begun reported
 FollowSays to week bytes all lines hearing start written begun reported fault =
@@ -52,7 +54,7 @@ pub record FollowStops (to : Target) (week : Option ℕ) (left left_new : Option
   pub end : lines.ended ≡ true → IsAtEnd left_new
   pub says : FollowSays to week bytes (bytes ++ taken) lines hearing start written begun reported fault
 
--- the conversion went on from the state behind some bytes
+-- the conversion went on from the state after some bytes
 abbrev pub Follows : {T : Type 0} → Target → Option ℕ → Option (List ℕ) → Option (List ℕ) → LinesState → LinesState → Option Hearing → Option Hearing → Option (List ℕ) → Option (List ℕ) → Option (List ℕ) → Option (List ℕ) → Result T BridgeFault → Type 0
 Follows to week left left_new lines lines_new hearing hearing_new written written_new reported reported_new result =
     (bytes : List ℕ) (start begun : Option (List ℕ)) → IsWaiting lines → IsBehind to week lines hearing bytes start written begun reported

@@ -23,11 +23,11 @@ use Rattle.captures.specs.Converts.{Counted, closed_texts, no_tally, period_text
 use Rattle.captures.specs.Notes.{AreFrom, KeepsHalves, Notes, line_report, total}
 use Rattle.captures.specs.Flushed.{IsWriting, Flushed, said_of}
 
--- the watermark of the assembly is not above the stamp
+-- the watermark of the assembly is not above the time tag
 abbrev pub IsOpenAt : Ear → ℕ → Type 0
 IsOpenAt ear stamp = Stood (SlotsStandFor ear.assembly) (λ at. at.watermark ≤ stamp)
 
--- the watermark of the assembly is not above the stamp of any part of the events
+-- the watermark of the assembly is not above the time tag of any part of the events
 abbrev pub IsOpenFor : Ear → List Event → Type 0
 IsOpenFor ear events = Stood (SlotsStandFor ear.assembly) (λ at. AreFrom at.watermark events)
 
@@ -37,7 +37,8 @@ pub record Hears (old new : Ear) (reported reported_new : Option (List ℕ)) (lo
   pub window : new.assembly.window ≡ old.assembly.window
   pub notes : Notes (SlotsStandFor old.assembly) (SlotsStandFor new.assembly) reported reported_new old.tally new.tally log
 
--- a report failed, or memory was missing: a prefix of the report's lines was written, and its fault count rose only if it failed
+-- a report failed, or memory ran out: a prefix of the report's lines was written, and its error
+-- count rose only if it failed
 abbrev pub Unheard : Option (List ℕ) → Option (List ℕ) → ℕ → ℕ → List Noted → BridgeFault → Type 0
 Unheard reported reported_new faults faults_new log ReportFault = AppendsPrefix reported reported_new (line_report log) × Rose faults faults_new
 Unheard reported reported_new faults faults_new log NoMemory = AppendsPrefix reported reported_new (line_report log) × (faults_new ≡ faults)
@@ -110,7 +111,7 @@ pub record HoldsSome (to : Target) (h : Hearing) (written : Option (List ℕ)) :
   pub few : 1 + length lines < 2 ^ 32
   pub stands : Stands to head lines h start written told reported
 
--- why a line broke off: want of memory, or an output or a report that failed, whose fault count rose
+-- why a line broke off: out of memory, or an output or a report that failed, whose error count rose
 abbrev pub IsStepFault : Faults → Faults → BridgeFault → Type 0
 IsStepFault before now WriteFault = Rose before.output now.output
 IsStepFault before now ReportFault = Rose before.report now.report

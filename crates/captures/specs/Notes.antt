@@ -62,7 +62,7 @@ pub record Notes (old new : Standing → Type 0) (report report_new : Option (Li
   pub text : Appends report report_new (line_report log)
   pub counts : tally_new ≡ tallied tally log
 
--- the events of a log were processed or, at a fault, a prefix of their report was written
+-- the events of a log were processed or, at an error, a prefix of their report was written
 abbrev pub Takes : {T : Type 0} → (Standing → Type 0) → (Standing → Type 0) → Option (List ℕ) → Option (List ℕ) → Tally → Tally → List Noted → Result T BridgeFault → Type 0
 Takes old new report report_new tally tally_new log result =
     OnOk result (Notes old new report report_new tally tally_new log) × OnErr result (AppendsPrefix report report_new (line_report log))
@@ -72,12 +72,13 @@ abbrev pub IfHeard : Event → (Part → Type 0) → Type 0
 IfHeard (Heard part) P = P part
 IfHeard _ P = Unit {0}
 
--- no part of the events has an earlier stamp
+-- no part of the events has an earlier time tag
 abbrev pub AreFrom : ℕ → List Event → Type 0
 AreFrom stamp [] = Unit {0}
 AreFrom stamp (e ∷ es) = IfHeard e (λ part. stamp ≤ part.stamp) × AreFrom stamp es
 
--- how reporting ends: the report's fault count rose exactly where the report failed; the only other fault is want of memory
+-- how reporting ends: the report's error count rose exactly if the report failed; the only other
+-- error is out of memory
 abbrev pub IsReporting : {T : Type 0} → ℕ → ℕ → Result T BridgeFault → Type 0
 IsReporting before now (Ok x) = now ≡ before
 IsReporting before now (Err ReportFault) = Rose before now
@@ -94,7 +95,8 @@ HasSystem _ = Unit {0}
 abbrev pub of_heard : Satellite → ℕ → List (List ℕ) → List Event
 of_heard sat stamp words = flat_map (λ word. of_word (reading_of word sat stamp)) words
 
--- of the accepted page parts exactly the recent ones are kept: those that may still get a partner
+-- of the accepted page parts exactly the recent ones are retained: those that may still get a
+-- partner
 pub record KeepsHalves (keeping : Keeping) (window : ℕ) (known : Known) : Type 0 where
   pub window_is : keeping.window ≡ window
   pub kept_to : (h : StampedHalf) → Contains keeping.kept h → Contains known.halves h
@@ -109,7 +111,7 @@ known_half known stamp sat signal bits = record {
   halves = if is_alert bits then known.halves else with_half known.halves (half_of stamp sat signal bits);
 }
 
--- what is kept after that page part
+-- what is retained after that page part
 abbrev pub TookHalf : Keeping → ℕ → Known → ℕ → Satellite → Signal → List ℕ → Type 0
 TookHalf keeping window known stamp sat signal bits =
     KeepsHalves keeping window (record {

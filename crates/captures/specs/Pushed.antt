@@ -62,7 +62,7 @@ abbrev pub HeardSoFar : Target → Option ℕ → List Line → Option Hearing �
 HeardSoFar to week given None start written begun reported = (given ≡ []) × Appends start written [] × Appends begun reported []
 HeardSoFar to week given (Some h) start written begun reported = HasHeard to week given h start written begun reported
 
--- the state behind these bytes, since the output was `start` and the report `begun`
+-- the state after these bytes, since the output was `start` and the report `begun`
 pub record IsBehind (to : Target) (week : Option ℕ) (lines : LinesState) (hearing : Option Hearing) (bytes : List ℕ) (start written begun reported : Option (List ℕ)) : Type 0 where
   pub given : List Line
   pub read : HasRead lines bytes given
@@ -85,7 +85,7 @@ pub record IsPushed (s : CaptureRunState) (bytes : List ℕ) (start written begu
   pub waits : IsWaiting s.lines
   pub behind : IsBehind s.to s.week s.lines s.hearing bytes start written begun reported
 
--- what a fault says of the whole capture
+-- what an error states of the complete capture
 abbrev pub CutSays : Option ℕ → List ℕ → BridgeFault → Type 0
 CutSays week whole ReadFault = ⊥
 CutSays week whole NotThisForm = capture_of week whole ≡ None
@@ -94,14 +94,14 @@ CutSays week whole WriteFault = IsSome (capture_of week whole)
 CutSays week whole ReportFault = IsSome (capture_of week whole)
 CutSays week whole NoMemory = IsSome (capture_of week whole)
 
--- Something failed: no less was written than what `bytes` decide, and no more than what the whole capture gives, of whose report
--- a prefix was written.
+-- Something failed: no less was written than what `bytes` decide, and no more than what the
+-- complete capture gives, of whose report a prefix was written.
 pub record IsCutShort (to : Target) (week : Option ℕ) (bytes whole : List ℕ) (start written begun reported : Option (List ℕ)) (fault : BridgeFault) : Type 0 where
   pub output : AppendsBetween start written (flushed_output to week bytes) (output_of to week whole)
   pub report : AppendsPrefix begun reported (report_of_capture week whole)
   pub says : CutSays week whole fault
 
--- the whole capture was written, reported and counted
+-- the complete capture was written, reported and counted
 pub record IsWhole (to : Target) (week : Option ℕ) (bytes : List ℕ) (start written begun reported : Option (List ℕ)) (counts : CaptureCounts) : Type 0 where
   pub output : Appends start written (output_of to week bytes)
   pub report : Appends begun reported (report_of_capture week bytes)

@@ -1,4 +1,4 @@
--- The report of a capture: a line for each line of the input that is refused, and the counts.
+-- The report of a capture: a line for each line of the input that is rejected, and the counts.
 use Rattle.std.specs.Prelude.{ℕ, List, [], ◌++◌, codes, decimal, map, sum}
 use Rattle.std.specs.List.{flat_map}
 use Rattle.one_run.specs.Reports.{report_line}

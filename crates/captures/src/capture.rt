@@ -25,12 +25,12 @@ use std::alloc::Global;
 ///
 /// # Errors
 ///
-/// - `NotThisForm` exactly where the first line is not accepted; nothing is written then.
-/// - `ReadFault`, `WriteFault`, `ReportFault` only where the fault count of the input, the output
-///   or the report rose, or is at its maximum. After a failed read exactly what the complete lines
+/// - `NotThisForm` exactly if the first line is not accepted; nothing is written then.
+/// - `ReadFault`, `WriteFault`, `ReportFault` only if the error count of the input, the output or
+///   the report rose, or is at its maximum. After a failed read exactly what the complete lines
 ///   close was written, and exactly their refusals reported.
-/// - `TooLong` only where 4,294,967,295 bytes were read and there was one more.
-/// - `NoMemory` when memory is missing.
+/// - `TooLong` only if 4,294,967,295 bytes were read and there was one more.
+/// - `NoMemory` if out of memory.
 pub fn run_capture<S: Source, T: Sink, U: Sink>(
     alloc: Global,
     week: Option<RefWeek>,

@@ -15,11 +15,11 @@ use periods::Verdict;
 pub struct CaptureCounts {
     /// The lines, the first one included.
     pub lines: u64,
-    /// The lines that match no form of a line.
+    /// The lines that match no format of a line.
     pub malformed: u64,
-    /// The lines whose stamp is before the greatest one by more than the window.
+    /// The lines whose time tag is before the greatest one by more than the window.
     pub late: u64,
-    /// The subframes, frames, messages and I/NAV words that were refused.
+    /// The subframes, frames, messages and I/NAV words that were rejected.
     pub refused: u64,
     /// The subframes, page parts, messages and I/NAV words of kinds that are not used.
     pub unused: u64,
@@ -33,7 +33,7 @@ pub struct CaptureCounts {
     pub nohealth: u64,
     /// The periods that repeat the last complete one of their key.
     pub again: u64,
-    /// The first and the last epoch of the items of the whole periods.
+    /// The first and the last epoch of the items of the complete periods.
     pub times: Option<Times>,
 }
 

@@ -1,4 +1,4 @@
-//! Laws of the definitions: each is the contract of an empty function.
+//! Theorems about the definitions: each is the contract of an empty function.
 
 ghost use Rattle.std.specs.Prelude.{◌≡◌, ℕ, List, ◌++◌, Option, Some};
 ghost use Rattle.nav_io.specs.Prefix.{IsPrefix};
@@ -27,7 +27,8 @@ pub fn generated_captures_are_accepted()
 }
 
 /// What is written and reported of some bytes while more may come stays: it is a prefix of what is
-/// written and reported then of these bytes and more, and of a whole capture that begins with them.
+/// written and reported then of these bytes and more, and of a complete capture that begins with
+/// them.
 pub fn what_is_written_of_a_capture_stays()
     ensures pieces { (to : Target) (week : Option ℕ) (bytes more : List ℕ)
         → IsPrefix (flushed_output to week bytes) (flushed_output to week (bytes ++ more))

@@ -7,7 +7,7 @@
 //!   it or counts it. It reads nothing.
 //!
 //! The output and the report of a run are functions of the bytes that it took, or of the three
-//! numbers: `specs/Captures.antt` and `specs/Seeds.antt` state them. A fault leaves a prefix of
+//! numbers: `specs/Captures.antt` and `specs/Seeds.antt` state them. An error leaves a prefix of
 //! each.
 //!
 //! ```rust

@@ -38,7 +38,7 @@ impl<'a> Source for Piece<'a> {
 
     ghost never_fails = { λ _. false };
 
-    /// Gives what is left of the piece, as much as there is room for.
+    /// Gives what is left of the piece, as much as fits.
     fn read(&mut self, into: &mut [u8]) -> Result<usize, Failed> {
         if self.rest.is_empty() {
             self.failed = true;
@@ -84,10 +84,10 @@ impl Source for End {
 }
 
 /// A run over a capture that comes in pieces: of any pieces it writes and reports what
-/// [`crate::run_capture`] does of the whole.
+/// [`crate::run_capture`] does of the complete input.
 ///
 /// After the first line the text before the items is written, such as a RINEX header, and after
-/// each line what it closes. After a fault each further call gives the same fault.
+/// each line what it closes. After an error each further call gives the same error.
 #[derive(Drop)]
 pub struct CaptureRun {
     alloc: Global,
@@ -186,12 +186,12 @@ impl CaptureRun {
     ///
     /// # Errors
     ///
-    /// - `NotThisForm` exactly where the first line is not accepted, as soon as it has ended;
-    ///   nothing is written then.
-    /// - `WriteFault`, `ReportFault` only where the fault count of the output or the report rose,
-    ///   or is at its maximum.
-    /// - `TooLong` only where 4,294,967,296 bytes were pushed.
-    /// - `NoMemory` when memory is missing.
+    /// - `NotThisForm` exactly if the first line is not accepted, as soon as it has ended; nothing
+    ///   is written then.
+    /// - `WriteFault`, `ReportFault` only if the error count of the output or the report rose, or
+    ///   is at its maximum.
+    /// - `TooLong` only if 4,294,967,296 bytes were pushed.
+    /// - `NoMemory` if out of memory.
     ///
     /// After any of them each further call gives it again, and touches nothing.
     pub fn push<T: Sink, U: Sink>(

@@ -1,4 +1,4 @@
-//! The lines of a report: what is refused, and why.
+//! The lines of a report: what is rejected, and why.
 
 ghost use Rattle.std.specs.Prelude.{◌≡◌, ◌+◌, ◌<◌};
 ghost use Rattle.std.specs.Prelude.{◌≤◌, ◌++◌, codes, length};
@@ -30,7 +30,7 @@ fn append_refusal(text: &mut Text, refusal: &Refusal)
     }
 }
 
-/// A line of a report on something that is refused.
+/// A line of a report on something that is rejected.
 #[tactic(auto, unfolding(one_run::specs::Reports::report_line))]
 pub(crate) fn refused_text(subject: &[u8], number: u64, refusal: &Refusal) -> Text
     requires { length subject.now ≤ 16 }

@@ -22,9 +22,9 @@ use std::alloc::Global;
 ///
 /// # Errors
 ///
-/// - `WriteFault`, `ReportFault` only where the fault count of the output or the report rose, or is
-///   at its maximum. A prefix was written and reported then.
-/// - `NoMemory` when memory is missing.
+/// - `WriteFault`, `ReportFault` only if the error count of the output or the report rose, or is at
+///   its maximum. A prefix was written and reported then.
+/// - `NoMemory` if out of memory.
 pub fn run_seed<T: Sink, U: Sink>(
     alloc: Global,
     seed: u32,

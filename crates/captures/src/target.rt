@@ -7,9 +7,9 @@ use rinex_write::HeaderWords;
 /// What a capture is converted to.
 #[derive(Clone, Copy)]
 pub enum CaptureTo {
-    /// A navigation file (RINEX 4.01), whose header says these words.
+    /// A navigation file (RINEX 4.01), with these texts in its header.
     Rinex(HeaderWords),
-    /// A navigation file (RINEX 3.05), whose header says these words; ionospheres have no record.
+    /// A navigation file (RINEX 3.05), with these texts in its header; ionospheres have no record.
     Rinex3(HeaderWords),
     /// A frame for each ephemeris, of message 1019 or 1046 (RTCM 10403.3).
     Rtcm,

@@ -1,5 +1,5 @@
 //! Tests of the codes, of the layers of bits and of logs of receivers: values from outside, worked
-//! rows, and what no clause says. They stand beside the libraries, which they see as every caller
+//! rows, and what no clause states. They stand beside the libraries, which they see as every caller
 //! does, so that none of these is proved once more with its tests.
 #![tactic(auto)]
 

@@ -13,7 +13,7 @@ use std::marker::Model;
 /// three independent look-ups.
 ///
 /// A contract sees the number of bytes. The tables take 3 KB and the time of some twenty calls of
-/// `shifted`, which pays where the same number recurs.
+/// `shifted`, which pays if the same number recurs.
 #[derive(Drop)]
 pub struct Mover {
     count: usize,

@@ -1,9 +1,9 @@
--- What is said of the form of a file.
+-- What is reported of the format of a file.
 use Rattle.std.specs.Prelude.{ℕ, List, codes}
 use Rattle.whole_file.specs.declared.kinds.Kind.{Kind}
 use Rattle.whole_file.specs.declared.kinds.Kind.TheVariants.{Empty, Capture1, Capture2, Rinex4, Rinex3, Rinex2, Observations, Hatanaka, OtherRinex, Stream, Ubx, Sbf, Nmea, Gzip, Compress, Zip, Marked, Unknown}
 
--- a description of the form
+-- a description of the format
 abbrev pub kind_text : Kind → List ℕ
 kind_text Empty = codes "an empty file"
 kind_text Capture1 = codes "a capture without a week"

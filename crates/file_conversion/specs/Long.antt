@@ -29,7 +29,7 @@ is_leap year = year % 4 == 0 && (not (year % 100 == 0) || year % 400 == 0)
 abbrev pub day_of_year : Civil → ℕ
 day_of_year c = days_before c.month + c.day + (if is_leap c.year && nat_lt 2 c.month then 1 else 0)
 
--- both times, in seconds of GPS time, lie in one hour
+-- both times, in seconds of GPS time, are in one hour
 abbrev pub is_one_hour : ℕ → ℕ → Bool
 is_one_hour first last = last / 3600 == first / 3600
 
@@ -44,7 +44,7 @@ period_of first last =
     else if nat_lt (days_between first last) 99 then two (days_between first last + 1) ++ codes "D"
     else codes "00U"
 
--- the time of day at which the period starts: the whole hour, or midnight
+-- the time of day at which the period starts: the full hour, or midnight
 unfoldable pub start_time : ℕ → ℕ → List ℕ
 start_time first last = if is_one_hour first last then two (civil_to first).hour ++ codes "00" else codes "0000"
 

@@ -1,4 +1,4 @@
--- The form under which a file is read, and what is made and counted of it.
+-- The format under which a file is read, and what is made and counted of it.
 use Rattle.std.specs.Prelude.{◌≡◌, ◌<◌, ◌^◌, ℕ, List, length, Option, None, Some, IfSome}
 use Rattle.bridge_engine.specs.declared.done.Done.{Done}
 use Rattle.whole_file.specs.Kinds.{form_of, kind_of}
@@ -10,11 +10,12 @@ use Rattle.file_conversion.specs.Tasks.{accepts, counts_by, makes_by}
 use Rattle.file_conversion.specs.declared.table.Plan.{Plan}
 use Rattle.file_conversion.specs.declared.table.Task.{Task}
 
--- the form under which a file with these bytes is read: the one that is named, or that which they tell
+-- the format under which a file with these bytes is read: the one that is named, or that which they
+-- show
 abbrev pub kind_under : Plan → List ℕ → Kind
 kind_under plan bytes = form_of plan.form (kind_of bytes)
 
--- a source with these bytes is read under this form
+-- a source with these bytes is read under this format
 abbrev pub ReadsUnder : Plan → Option (List ℕ) → Kind → Type 0
 ReadsUnder plan source kind = IfSome source (λ bytes. kind ≡ kind_under plan bytes)
 
@@ -26,7 +27,8 @@ read_under plan bytes = read_as (kind_under plan bytes) bytes
 abbrev pub task_under : Plan → List ℕ → Option Task
 task_under plan bytes = task_for plan (kind_under plan bytes)
 
--- what is made of what is read, what is counted of it, and whether it is accepted, where something is done with it
+-- what is made of what is read, what is counted of it, and whether it is accepted, if something is
+-- done with it
 abbrev pub MakesBy : Option Task → List ℕ → List ℕ → Type 0
 MakesBy None read made = ⊥
 MakesBy (Some task) read made = made ≡ makes_by task read
@@ -39,16 +41,18 @@ abbrev pub AcceptsBy : Option Task → List ℕ → Type 0
 AcceptsBy None read = ⊥
 AcceptsBy (Some task) read = accepts task read
 
--- What is made of the bytes of a file, under the form that they tell or the plan names: the whole output of the job for it. A log is
--- converted as its capture, and to a capture it is that capture itself.
+-- What is made of the bytes of a file, under the format that they show or the plan names: the
+-- complete output of the conversion for it. A log is converted as its capture, and to a capture it
+-- is that capture itself.
 abbrev pub Makes : Plan → List ℕ → List ℕ → Type 0
 Makes plan bytes made = MakesBy (task_under plan bytes) (read_under plan bytes) made
 
--- What is counted of them: what the job counts.
+-- What is counted of them: what the conversion counts.
 abbrev pub CountsAs : Plan → List ℕ → Option Done → Type 0
 CountsAs plan bytes counted = CountsBy (task_under plan bytes) (read_under plan bytes) counted
 
--- the bytes of a file are accepted, under the form that they tell or the plan names, and are not too many
+-- the bytes of a file are accepted, under the format that they show or the plan names, and are not
+-- too many
 abbrev pub CanConvert : Plan → List ℕ → Type 0
 CanConvert plan bytes = AcceptsBy (task_under plan bytes) (read_under plan bytes) × (length (read_under plan bytes) < 2 ^ 32)
 

@@ -1,4 +1,4 @@
--- What is told of a file that is not converted, and the exit status for it.
+-- What is reported of a file that is not converted, and the exit status for it.
 use Rattle.std.specs.Prelude.{◌≡◌, ◌⊎◌, ℕ, List, Option, unwrap_or}
 use Rattle.std.specs.Borrow.{Bor}
 use Rattle.nav_io.specs.Causes.{Rose}
@@ -50,12 +50,14 @@ status_of TooLong = 8
 status_of (Word text) = 9
 status_of NotUtf8 = 9
 
--- the form whose first line is not accepted; none for a capture that names no week, since with it a week is always given
+-- the format whose first line is not accepted; none for a capture that names no week, since with it
+-- a week is always given
 abbrev pub refused_form : Kind → Kind
 refused_form kinds.Capture1 = kinds.Unknown
 refused_form kind = kind
 
--- a run broke off with this fault, after so many bytes; what the input and the output said, and its name
+-- a run broke off with this error, after so many bytes; what the input and the output reported, and
+-- its name
 abbrev pub run_refusal : Kind → BridgeFault → ℕ → Option FileFault → Option FileFault → Bor (List ℕ) → Refusal
 run_refusal kind runs.ReadFault count read put name = ReadFault count (unwrap_or read Other)
 run_refusal kind runs.WriteFault count read put name = WriteFault name (unwrap_or put Other)
@@ -92,6 +94,6 @@ status_for stops.Unnamed = 5
 status_for (stops.Publish fault) = 4
 status_for stops.NoMemory = 6
 
--- The exit status for a file that was converted: 0 where its report was ended, and 7 where that failed.
+-- The exit status for a file that was converted: 0 if its report was ended, and 7 if that failed.
 abbrev pub EndsReport : ℕ → ℕ → ℕ → Type 0
 EndsReport before after status = ((status ≡ 0) × (after ≡ before)) ⊎ ((status ≡ 7) × Rose before after)

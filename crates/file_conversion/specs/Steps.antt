@@ -33,7 +33,7 @@ abbrev pub IsUnconverted : Kind → Result Made Stop → Type 0
 IsUnconverted kind (Ok made) = ⊥
 IsUnconverted kind (Err stop) = (stop ≡ stops.NoConversion kind) ⊎ (stop ≡ stops.NoMemory)
 
--- no file has this name, where the folder tells its files
+-- no file has this name, if the directory tells its files
 abbrev pub IsMissing : Option (List ℕ → Option (List ℕ)) → List ℕ → Type 0
 IsMissing None name = ⊥
 IsMissing (Some files) name = files name ≡ None
@@ -47,25 +47,26 @@ IsNotOpened done = ⊥
 abbrev pub LacksMore : ℕ → StepFault BridgeFault → Type 0
 LacksMore count fault = Lacks (λ fault. fault ≡ NoMemory) fault ⊎ (BrokeOff fault × (too_many ≤ count))
 
--- it is done where the other is, and lacks what the other lacks
+-- it is done if the other is, and lacks what the other lacks
 abbrev pub EndsSo : {E : Type 0} → (E → Type 0) → Result Made E → Result Made Stop → Type 0
 EndsSo lacks (Ok made) (Ok same) = same ≡ made
 EndsSo lacks (Ok made) (Err stop) = ⊥
 EndsSo lacks (Err fault) (Ok made) = ⊥
 EndsSo lacks (Err fault) (Err stop) = lacks fault → IsLack stop
 
--- how it ended, with what its input says of a read that failed
+-- how it ended, with what its input reports of a failed read
 abbrev pub told_by : Result Made Stop → Option FileFault → Result Made Stop
 told_by (Err (stops.Look told)) read = Err (stops.Look read)
 told_by (Err (stops.Run kind fault count told put)) read = Err (stops.Run kind fault count read put)
 told_by done read = done
 
--- where it is done its form is told, and what is told is the form under which a source with these bytes is read
+-- if it is done its format is known, and this is the format under which a source with these bytes
+-- is read
 pub record TellsForm (plan : Plan) (source : Option (List ℕ)) (done : Result Made Stop) (told : Option Kind) : Type 0 where
   pub some : OnOk done (IsSome told)
   pub is : IfSome told (ReadsUnder plan source)
 
--- the form is that of the bytes, and the task that for it
+-- the format is that of the bytes, and the task that for it
 pub record IsReady (plan : Plan) (source : Option (List ℕ)) (ready : Ready) : Type 0 where
   pub kind : ReadsUnder plan source ready.kind
   pub task : task_for plan ready.kind ≡ Some ready.task

@@ -10,7 +10,8 @@ use Rattle.whole_file.specs.declared.step.StepFault.TheVariants.{Begin, Run, Unn
 use Rattle.file_conversion.specs.declared.stops.Stop.{Stop}
 use Rattle.file_conversion.specs.declared.stops.Stop.TheVariants as stops
 
--- how the conversion of a file of this form ended, after so many bytes, by how its step did; what the input said is not known yet
+-- how the conversion of a file of this format ended, after so many bytes, by how its step did; what
+-- the input reported is not known yet
 abbrev pub stopped_by : Kind → Result (Named (Option Done)) (StepFault BridgeFault) → ℕ → Result (Named (Option Done)) Stop
 stopped_by kind (Ok made) count = Ok made
 stopped_by kind (Err (Begin fault)) count = Err (stops.Begin fault)

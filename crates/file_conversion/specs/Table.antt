@@ -1,4 +1,4 @@
--- The conversions of files: what is done with a file of a form, for each target.
+-- The conversions of files: what is done with a file of a format, for each target.
 use Rattle.std.specs.Prelude.{ℕ, Option, None, Some, option_map, unwrap_or}
 use Rattle.rinex_write.specs.declared.words.HeaderWords.{HeaderWords}
 use Rattle.captures.specs.declared.target.CaptureTo.{CaptureTo}
@@ -16,7 +16,8 @@ use Rattle.file_conversion.specs.declared.table.Task.TheVariants.{Copied, Does}
 use Rattle.file_conversion.specs.declared.targets.Target.{Target}
 use Rattle.file_conversion.specs.declared.targets.Target.TheVariants.{Rinex, Rinex3, Rtcm, List as ToList, Count, Frames, Merged, Cover, Capture}
 
--- the targets of a capture, of the ephemerides of a stream, and of a navigation file, with this header where they have one
+-- the targets of a capture, of the ephemerides of a stream, and of a navigation file, with this
+-- header if they have one
 abbrev pub capture_to : Target → HeaderWords → Option CaptureTo
 capture_to Rinex header = Some (captures.Rinex header)
 capture_to Rinex3 header = Some (captures.Rinex3 header)
@@ -68,8 +69,9 @@ abbrev pub file3_task : Plan → Target → Option Task
 file3_task plan Capture = Some (Does (jobs.SendRinex3 (week_of plan)))
 file3_task plan target = option_map (λ to. Does (jobs.Rinex3 to)) (file_to target plan.header)
 
--- What is done with a file that is read under a form, where there is a conversion of it. A capture that names no week always gets
--- one, and a capture that names its week gets one only where one is named.
+-- What is done with a file that is read under a format, if there is a conversion of it. A capture
+-- that names no week always gets one, and a capture that names its week gets one only if one is
+-- named.
 abbrev pub task_for : Plan → Kind → Option Task
 task_for plan kinds.Capture1 = capture_task plan (Some (week_of plan))
 task_for plan kinds.Capture2 = capture_task plan plan.week

@@ -12,17 +12,17 @@ abbrev pub reads_input : Task → Bool
 reads_input Copied = true
 reads_input (Does job) = (meaning_of job).reads
 
--- the bytes themselves, or the output of the job
+-- the bytes themselves, or the output of the conversion
 abbrev pub makes_by : Task → List ℕ → List ℕ
 makes_by Copied bytes = bytes
 makes_by (Does job) bytes = (meaning_of job).whole.output bytes
 
--- nothing, or what the job counts
+-- nothing, or what the conversion counts
 abbrev pub counts_by : Task → List ℕ → Option Done
 counts_by Copied bytes = None
 counts_by (Does job) bytes = (done_of job).counts bytes
 
--- the task takes these bytes: the job counts them
+-- the task takes these bytes: the conversion counts them
 abbrev pub accepts : Task → List ℕ → Type 0
 accepts Copied bytes = Unit {0}
 accepts (Does job) bytes = IsSome ((done_of job).counts bytes)

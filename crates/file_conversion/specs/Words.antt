@@ -1,11 +1,11 @@
--- The words and the endings of forms and targets.
+-- The arguments and the file name endings of formats and targets.
 use Rattle.std.specs.Prelude.{ℕ, List, Option, None, Some, codes, bytes_eq, if◌then◌else◌}
 use Rattle.whole_file.specs.declared.kinds.Kind.{Kind}
 use Rattle.whole_file.specs.declared.kinds.Kind.TheVariants as kinds
 use Rattle.file_conversion.specs.declared.targets.Target.{Target}
 use Rattle.file_conversion.specs.declared.targets.Target.TheVariants.{Rinex, Rinex3, Rtcm, List as ToList, Count, Frames, Merged, Cover, Capture}
 
--- the word after `--to`
+-- the value of `--to`
 abbrev pub to_word : Target → List ℕ
 to_word Rinex = codes "rinex"
 to_word Rinex3 = codes "rinex3"
@@ -29,7 +29,7 @@ ending_of Merged = codes "merged.rnx"
 ending_of Cover = codes "cover"
 ending_of Capture = codes "navcap"
 
--- the form that a `--from` word names; `capture` is taken as one that names no week
+-- the format that a `--from` word names; `capture` is taken as one that names no week
 abbrev pub kind_named : List ℕ → Option Kind
 kind_named word =
     if bytes_eq word (codes "capture") then Some kinds.Capture1

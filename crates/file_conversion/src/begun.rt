@@ -19,7 +19,7 @@ use receiver_log::Refused;
 use std::alloc::Global;
 use whole_file::{Kind, PeekFault, Peeked, Progress, look};
 
-/// A conversion that is begun: the form of its input, its task, and the input as it is read.
+/// A conversion that is begun: the format of its input, its task, and the input as it is read.
 pub(crate) struct Begun<U: Sink, R> {
     pub kind: Kind,
     pub run: TaskRun<U>,
@@ -30,7 +30,7 @@ pub(crate) struct Begun<U: Sink, R> {
 ///
 /// # Errors
 ///
-/// How it ended, where it could not be begun.
+/// How it ended, if it could not be begun.
 pub(crate) fn begin<S: Source, U: Sink, N: Refused + Drop, P: Progress>(
     alloc: Global,
     plan: &Plan,

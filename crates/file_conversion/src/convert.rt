@@ -21,11 +21,11 @@ use std::alloc::Global;
 use whole_file::{Folder, Namer, Progress, put_output};
 
 /// Converts the file of one name to another file, as the plan asks: opens it, looks at its first
-/// bytes, does the job for it and names the output.
+/// bytes, does the conversion for it and names the output.
 ///
 /// # Errors
 ///
-/// Every name but that of the part is as it was, and the part is removed where the folder can
+/// Every name but that of the part is as it was, and the part is removed if the directory can
 /// remove it.
 pub fn convert_one<F: Folder, U: Sink, N: Refused + Drop, P: Progress, A: Namer<Option<Done>>>(
     alloc: Global,

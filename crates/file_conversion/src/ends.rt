@@ -16,11 +16,11 @@ use whole_file::{FileFault, Kind, Progress, StepFault};
 /// Who observes a conversion.
 #[derive(Drop)]
 pub struct Observers<U: Sink, N: Refused + Drop, P: Progress> {
-    /// The report of the job.
+    /// The report of the conversion.
     pub report: U,
-    /// Who is told which messages of a log are refused.
+    /// Who is notified of the rejected messages of a log.
     pub refusals: N,
-    /// Who is told how many bytes were read.
+    /// Who is notified of how many bytes were read.
     pub progress: P,
 }
 
@@ -31,7 +31,7 @@ pub struct Outcome<U: Sink> {
     pub done: Result<Made, Stop>,
     /// The report.
     pub report: U,
-    /// The form under which the file was read, where it was.
+    /// The format under which the file was read, if it was.
     pub kind: Option<Kind>,
     /// How many bytes were read.
     pub count: u64,
@@ -44,7 +44,7 @@ pub struct Outcome<U: Sink> {
 pub struct Sourced<U: Sink, S: Source> {
     /// How it ended.
     pub outcome: Outcome<U>,
-    /// The source, which may tell why a read failed.
+    /// The source, which may report why a read failed.
     pub source: S,
 }
 
@@ -64,7 +64,7 @@ impl<U: Sink> Outcome<U> {
         }
     }
 
-    /// The same with what its input says of a read that failed.
+    /// The same with what its input reports of a failed read.
     pub(crate) fn told_by(self, read: Option<FileFault>) -> Outcome<U>
         ensures ends { EndsSo IsLack self.done result.done }
         ensures told { result.done ≡ told_by self.done read }
@@ -88,7 +88,7 @@ impl<U: Sink> Outcome<U> {
     }
 }
 
-/// How a conversion that was begun has ended, by what the step and what was read say.
+/// How a conversion that was begun has ended, by what the step and the reading report.
 pub(crate) fn ended<S: Source, U: Sink, N: Refused + Drop, P: Progress>(
     begun: Begun<U, Input<S, N, P>>,
     done: Result<Made, StepFault<BridgeFault>>,

@@ -1,10 +1,10 @@
-//! Texts of a form.
+//! Texts of a format.
 
 ghost use Rattle.std.specs.Prelude.{◌≡◌};
 ghost use Rattle.file_conversion.specs.Fits.{fits, is_of};
 
-/// Whether a text is of this form, byte by byte: `A` stands for a capital letter, `0` for a decimal
-/// digit, `N` for either, `?` for any byte, and every other byte for itself.
+/// Whether a text is of this format, byte by byte: `A` means a capital letter, `0` a decimal digit,
+/// `N` either, `?` any byte, and every other byte itself.
 pub fn fits(form: &[u8], text: &[u8]) -> bool
     ensures { result ≡ fits form.now text.now }
 {

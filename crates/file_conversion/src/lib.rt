@@ -1,14 +1,14 @@
-//! From a file to what is made of it: its first bytes are looked at, its form is told or
-//! named, the job for it is run, and its output gets its name.
+//! From a file to its output: its first bytes are examined, its format is recognised or named, the
+//! conversion for it is run, and its output gets its name.
 //!
-//! - [`Plan`], what is asked of each file, and [`task_for`], what is done with a file of a
-//!   form, the one table of conversions; [`Target`], what is made, with the words and endings
-//!   of each;
-//! - [`convert_one`], from the file of one name to another: the whole of what is made of its
-//!   bytes, or every name as it was; and it is done where nothing fails;
+//! - [`Plan`], what is asked of each file, and [`task_for`], what is done with a file of a format,
+//!   the one table of conversions; [`Target`], what is made, with the arguments and file name
+//!   endings of each;
+//! - [`convert_one`], from the file of one name to another: the complete output for its bytes, or
+//!   every name as it was; and it is done if nothing fails;
 //! - [`convert_source`], the same from a source, which is given back;
-//! - [`Stop`], why a file is not converted, and [`Refusal`], that as a message tells it, its
-//!   sentence and the exit status; [`finish`], which has said what became of a file, and gives
+//! - [`Stop`], why a file is not converted, and [`Refusal`], that as a message states it, its
+//!   sentence and the exit status; [`finish`], which has reported what became of a file, and gives
 //!   its exit status;
 //! - [`output_name`], the name of an output by that of its input, and [`long_name`], that of a
 //!   navigation file by the convention of RINEX 3 and 4 (RINEX 4.02, 5.2).

@@ -26,7 +26,7 @@ pub fn is_site(text: &str) -> bool
 /// The name of a navigation file with data of this site from the first time to the last, such as
 /// `BRDC00XXX_R_20240010000_01D_MN.rnx`.
 ///
-/// The period starts at the whole hour where both times lie in one hour, and else at the midnight
+/// The period starts at the full hour if both times are in one hour, and else at the midnight
 /// before the first. A period of more than 99 days is unspecified (`00U`).
 pub fn long_name(
     alloc: Global,

@@ -9,7 +9,7 @@ use std::alloc::{AllocError, Global};
 use std::path::Path;
 
 /// The name of the output for a file: the name of the file with its last ending replaced by this
-/// one. `None` where the input has no file name, such as `..`.
+/// one. `None` if the input has no file name, such as `..`.
 pub fn output_name(alloc: Global, input: &str, ending: &str) -> Result<Option<String>, AllocError>
     ensures { IfOk result (λ found. MatchOption found (path_file_stem input.now ≡ None)
         (λ name. (stem : List ℕ) × (path_file_stem input.now ≡ Some stem)

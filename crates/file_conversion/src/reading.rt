@@ -1,4 +1,4 @@
-//! An input as it is read under a form.
+//! An input as it is read under a format.
 
 ghost use Rattle.std.specs.Prelude.{◌≡◌, ◌<◌};
 ghost use Rattle.std.specs.Option.{option_map};
@@ -61,7 +61,7 @@ impl<A: Source, N: Refused + Drop> Source for Reading<A, N> {
     }
 }
 
-/// An input as it is read under this form.
+/// An input as it is read under this format.
 pub(crate) fn reading_of<S: Source, N: Refused + Drop, P: Progress>(
     kind: Kind,
     input: Peeked<S>,

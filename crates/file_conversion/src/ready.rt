@@ -6,7 +6,7 @@ ghost use Rattle.file_conversion.specs.Tasks.{reads_input};
 use crate::table::Task;
 use whole_file::Kind;
 
-/// The form of an input, and what is done with it.
+/// The format of an input, and what is done with it.
 pub(crate) struct Ready {
     pub kind: Kind,
     pub task: Task,

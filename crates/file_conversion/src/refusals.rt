@@ -1,4 +1,4 @@
-//! Why a file is not converted, as a message tells it.
+//! Why a file is not converted, as a message states it.
 
 ghost use Rattle.std.specs.Prelude.{◌≡◌};
 ghost use Rattle.file_conversion.specs.Says.{refusal_of, refused_form, run_refusal};
@@ -8,8 +8,8 @@ use crate::stops::Stop;
 use bridge_engine::BridgeFault;
 use whole_file::{FileFault, Kind};
 
-/// Why a file is not converted, as a message tells it: the names are those of the output and of its
-/// part.
+/// Why a file is not converted, as a message states it: the names are those of the output and of
+/// its part.
 pub fn refusal_of<'a>(stop: Stop, name: &'a str, part: &'a str) -> Refusal<'a>
     ensures { result ≡ refusal_of stop name.entry part.entry }
 {

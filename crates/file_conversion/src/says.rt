@@ -10,13 +10,13 @@ use crate::targets::{Target, to_word};
 use std::fmt;
 use whole_file::{FileFault, Kind};
 
-/// What standard output is called, where it is an output.
+/// What standard output is called, if it is an output.
 pub const STANDARD_OUTPUT: &str = "standard output";
 
 /// Why a file is not converted, or not to its end.
 #[derive(Clone, Copy, Drop)]
 pub enum Refusal<'a> {
-    /// A file of this form is not converted to the target.
+    /// A file of this format is not converted to the target.
     NoSuchConversion(Kind),
     /// The file is such, and to be made ready by this command for a conversion to the target.
     Unready(&'static str, &'static str, Target),
@@ -40,7 +40,7 @@ pub enum Refusal<'a> {
     Site(&'a str),
     /// What is made is no navigation file of a file, which a long name could have.
     NoLongName,
-    /// No time stands in the data, by which a long name would be made.
+    /// The data has no time for a long name.
     NoTimes,
     /// The input was not opened.
     NotOpened(FileFault),
@@ -64,13 +64,13 @@ pub enum Refusal<'a> {
     SameReport(&'a str),
     /// Writing the output failed.
     WriteFault(&'a str, FileFault),
-    /// The first line or the header of a file of this form is not accepted.
+    /// The first line or the header of a file of this format is not accepted.
     NotAccepted(Kind),
     /// From this line on a file of RINEX 4 has records of RINEX 3.
     Rinex3From(u64),
     /// From this line on a file of RINEX 3 has records of RINEX 4.
     Rinex4From(u64),
-    /// Memory was missing.
+    /// Out of memory.
     NoMemory,
     /// The report could not be written.
     ReportFault,
@@ -123,7 +123,7 @@ impl Refusal<'_> {
     }
 }
 
-/// A description of this form of a file.
+/// A description of this format of a file.
 pub fn kind_text(kind: Kind) -> &'static str
     ensures { result.now ≡ kind_text kind }
 {

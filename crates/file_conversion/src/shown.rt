@@ -3,7 +3,7 @@
 use std::fmt;
 
 /// A name as a sentence shows it: each control character as `\x` and two hexadecimal digits, and an
-/// empty name as `''`. A NUL, which no name has, stands before the two digits of a byte that is not
+/// empty name as `''`. A NUL, which no name has, is before the two digits of a byte that is not
 /// UTF-8, and is shown as `\x` too.
 #[derive(Clone, Copy)]
 pub struct Shown<'a>(pub &'a str);

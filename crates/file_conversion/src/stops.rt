@@ -6,7 +6,7 @@ ghost use Rattle.file_conversion.specs.Stops.{stopped_by};
 use bridge_engine::{BridgeFault, Done};
 use whole_file::{FileFault, Kind, Named, StepFault};
 
-/// An output, and what the job for it has counted, where one was done.
+/// An output, and what the conversion for it has counted, if one was done.
 pub type Made = Named<Option<Done>>;
 
 /// Why a file is not converted.
@@ -14,13 +14,14 @@ pub type Made = Named<Option<Done>>;
 pub enum Stop {
     /// It was not opened.
     Open(FileFault),
-    /// Its first bytes were not read: what the input said.
+    /// Its first bytes were not read: what the input reported.
     Look(Option<FileFault>),
-    /// A file of this form is not converted to that.
+    /// A file of this format is not converted to that.
     NoConversion(Kind),
     /// The part was not begun.
     Begin(FileFault),
-    /// The job ended with this fault, after so many bytes; what the input and the output said.
+    /// The conversion ended with this error, after so many bytes; what the input and the output
+    /// reported.
     Run(Kind, BridgeFault, u64, Option<FileFault>, Option<FileFault>),
     /// The output has no name, or may not have it.
     Unnamed,
@@ -30,8 +31,8 @@ pub enum Stop {
     NoMemory,
 }
 
-/// How the conversion of a file of this form ended, after so many bytes, by how its step did. What
-/// the input says of a read that failed is not told yet.
+/// How the conversion of a file of this format ended, after so many bytes, by how its step did.
+/// What the input reports of a failed read is not known yet.
 pub(crate) fn stopped_by(
     kind: Kind,
     done: Result<Made, StepFault<BridgeFault>>,

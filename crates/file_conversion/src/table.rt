@@ -1,4 +1,4 @@
-//! The table of conversions: what is done with a file of a form, for each target.
+//! The table of conversions: what is done with a file of a format, for each target.
 
 ghost use Rattle.std.specs.Prelude.{◌≡◌, IfSome, true};
 ghost use Rattle.file_conversion.specs.Table.{capture_task, capture_to, file_to, file3_task};
@@ -15,11 +15,11 @@ use whole_file::Kind;
 /// What is asked of each file.
 #[derive(Clone, Copy)]
 pub struct Plan {
-    /// The form that is named; none, where each file tells its own.
+    /// The format that is named; none, if each file is recognised.
     pub form: Option<Kind>,
     /// What is made.
     pub target: Target,
-    /// The reference week, where one is named.
+    /// The reference week, if one is named.
     pub week: Option<RefWeek>,
     /// The current GPS week, from the clock.
     pub clock_week: RefWeek,
@@ -32,14 +32,14 @@ pub struct Plan {
 pub enum Task {
     /// What is read is written: of a log its capture.
     Copied,
-    /// A job of `navbridge`.
+    /// A conversion of `navbridge`.
     Does(Job),
 }
 
-/// What is done with a file that is read under this form, where there is a conversion of it.
+/// What is done with a file that is read under this format, if there is a conversion of it.
 ///
 /// A capture that names no week, and a stream, are read near the week that is named, or else near
-/// that of the clock. A capture that names its week gets one only where one is named.
+/// that of the clock. A capture that names its week gets one only if one is named.
 pub fn task_for(plan: &Plan, kind: Kind) -> Option<Task>
     ensures is { result ≡ task_for plan.now kind }
     ensures reads { IfSome result (λ task. reads_input task ≡ true) }
@@ -62,8 +62,8 @@ fn row_of(plan: &Plan, kind: Kind) -> Option<Task>
     }
 }
 
-/// Whether a file of this form, which can be read again, is converted to the target: one of RINEX 3
-/// is merged as the file of RINEX 4 to which it is converted.
+/// Whether a file of this format, which can be read again, is converted to the target: one of RINEX
+/// 3 is merged as the file of RINEX 4 to which it is converted.
 pub fn is_converted(kind: Kind, target: Target) -> bool {
     let kind = match kind {
         Kind::Rinex3 if target.takes_several() => Kind::Rinex4,

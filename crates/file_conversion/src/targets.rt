@@ -1,11 +1,11 @@
-//! The words and the endings of forms and targets.
+//! The arguments and the file name endings of formats and targets.
 
 ghost use Rattle.std.specs.Prelude.{◌≡◌};
 ghost use Rattle.file_conversion.specs.Words.{ending_of, kind_named, target_named, to_word};
 
 use whole_file::Kind;
 
-/// The form that is written.
+/// The format that is written.
 #[derive(Clone, Copy, PartialEq, Eq)]
 pub enum Target {
     /// A navigation file of RINEX 4.
@@ -48,7 +48,7 @@ impl Target {
     }
 }
 
-/// The `--to` word of a target.
+/// The value of `--to` for a target.
 pub fn to_word(target: Target) -> &'static str
     ensures { result.now ≡ to_word target }
 {
@@ -78,7 +78,7 @@ pub fn ending_of(target: Target) -> &'static str
     }
 }
 
-/// The target that a `--to` word names.
+/// The target that a value of `--to` names.
 pub fn target_named(word: &str) -> Option<Target>
     ensures { result ≡ target_named word.now }
 {
@@ -96,7 +96,7 @@ pub fn target_named(word: &str) -> Option<Target>
     }
 }
 
-/// The form that a `--from` word names; `capture` is taken as one that names no week.
+/// The format that a value of `--from` names; `capture` is taken as one that names no week.
 pub fn kind_named(word: &str) -> Option<Kind>
     ensures { result ≡ kind_named word.now }
 {

@@ -1,4 +1,4 @@
-//! What is said of a file, and the exit status for it.
+//! What is reported of a file, and the exit status for it.
 
 ghost use Rattle.std.specs.Prelude.{◌≡◌, ◌≤◌, ℕ, IfErr, OnOk};
 ghost use Rattle.nav_io.specs.Causes.{HasCause};
@@ -10,7 +10,7 @@ use crate::refusals::refusal_of;
 use crate::says::Refusal;
 use nav_io::{Failed, Sink};
 
-/// Who says what became of a file, and ends its report.
+/// Who reports what became of a file, and ends its report.
 pub trait Teller<U: Sink> {
     // How often a report could not be ended: a count that never falls, and saturates at 2^64 - 1.
     ghost faults: { Self → ℕ };
@@ -18,16 +18,16 @@ pub trait Teller<U: Sink> {
     // What was told last of a file that is not converted.
     ghost told: { Self → Refusal → Type 0 };
 
-    /// Says why a file is not converted.
+    /// Reports why a file is not converted.
     fn refused(&mut self, refusal: &Refusal)
         ensures says { told self.new refusal.now }
         ensures later { faults self.old ≤ faults self.new };
 
-    /// Ends the report of a file that was converted, and says what was made of it.
+    /// Ends the report of a file that was converted, and reports what was made of it.
     ///
     /// # Errors
     ///
-    /// The report could not be written, which counts one fault.
+    /// The report could not be written, which counts one error.
     fn done(&mut self, outcome: &Outcome<U>) -> Result<(), Failed>
         ensures { HasCause (faults self.old) (faults self.new) result };
 }
@@ -42,8 +42,8 @@ fn refuse<U: Sink, T: Teller<U>>(teller: &mut T, refusal: &Refusal) -> u8
     refusal.status()
 }
 
-/// Says what became of a file whose conversion has ended so; the exit status. The names are those
-/// of the output and of its part.
+/// Reports what became of a file whose conversion has ended so; the exit status. The names are
+/// those of the output and of its part.
 pub fn finish<U: Sink, T: Teller<U>>(
     outcome: &Outcome<U>,
     name: &str,

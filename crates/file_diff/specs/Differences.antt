@@ -59,7 +59,7 @@ abbrev pub number_line : List ℕ → List ℕ → ℤ → ℤ → List ℕ
 number_line head name a b =
     (((((head ++ codes " ") ++ name) ++ codes " ") ++ signed_decimal a) ++ codes " ") ++ (signed_decimal b ++ codes "\n")
 
--- it has no line where the numbers are equal, or without a name
+-- it has no line if the numbers are equal, or without a name
 abbrev pub number_text : List ℕ → List ℕ → ℤ → ℤ → List ℕ
 number_text head [] a b = []
 number_text head (c ∷ cs) a b = if int_eq a b then [] else number_line head (c ∷ cs) a b

@@ -15,7 +15,7 @@ use Rattle.file_diff.specs.Numbers.{by_numbers}
 use Rattle.file_diff.specs.Reading.{compared, counts_of, has_ionosphere, is_passed, is_refused}
 use Rattle.file_diff.specs.declared.counts.ReadCounts.{ReadCounts}
 
--- the items that begin with this one; none where there is no first
+-- the items that begin with this one; none if there is no first
 abbrev pub begun_by : Option NavItem → List NavItem → List NavItem
 begun_by None left = []
 begun_by (Some x) left = x ∷ left
@@ -24,7 +24,7 @@ begun_by (Some x) left = x ∷ left
 abbrev pub are_short : List (List ℕ) → Bool
 are_short names = list_all (λ name. leb (length name) 20) names
 
--- the item of a record, where it has one
+-- the item of a record, if it has one
 abbrev pub item_in : ItemRead → List NavItem
 item_in (Item line item) = item ∷ []
 item_in (Refused line reason) = []
@@ -54,14 +54,14 @@ IsRecord (Refused line reason) = Unit {0}
 IsRecord (PassedOver line) = Unit {0}
 IsRecord End = ⊥
 
--- the state of the header at a fault
+-- the state of the header at an error
 abbrev pub HeaderFaultOf : BridgeFault → RecordsState → Type 0
 HeaderFaultOf ReadFault new = Unit {0}
 HeaderFaultOf TooLong new = new.lines.taken ≡ 2 ^ 32
 HeaderFaultOf NotThisForm new = (new.header ≡ NotRinexNav) ⊎ (new.header ≡ OtherVersion)
 HeaderFaultOf _ new = ⊥
 
--- The header is refused, whatever bytes follow, or the reader breaks off in it.
+-- The header is rejected, whatever bytes follow, or the reader breaks off in it.
 pub record NoHeader (f : Form) (left left_new : Option (List ℕ)) (old new : RecordsState) (fault : BridgeFault) : Type 0 where
   pub steps : HeaderSteps f left left_new old new
   pub by : HeaderFaultOf fault new

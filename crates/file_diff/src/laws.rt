@@ -1,4 +1,4 @@
-//! Laws of sets and their differences: each is the contract of an empty function.
+//! Theorems about sets and their differences: each is the contract of an empty function.
 
 ghost use Rattle.std.specs.Prelude.{◌≡◌, ◌↔◌, [], List};
 ghost use Rattle.std.specs.List.{Contains};
@@ -12,8 +12,8 @@ pub fn sets_contain_their_items()
         Contains (set_of items) item ↔ Contains items item }
 {}
 
-/// Two sets have no difference exactly where they are of the same items, in whatever order and
-/// however often these are given.
+/// Two sets have no difference exactly if they are of the same items, in whatever order and however
+/// often these are given.
 pub fn no_difference_means_the_same_items()
     ensures { (first second : List NavItem) →
         (differences (set_of first) (set_of second) ≡ [])

@@ -14,7 +14,7 @@
 //! has are paired where time, system and satellite are the same, and each integer that differs has
 //! a line, with its name in `nav_eph`.
 //!
-//! There is no difference exactly where both files have the same items:
+//! There is no difference exactly if both files have the same items:
 //! [`no_difference_means_the_same_items`].
 //!
 //! ```rust

@@ -123,7 +123,7 @@ static GALILEO_IONOSPHERE: [&str; 13] = [
     "sent",
 ];
 
-/// The name of each number of an item; empty where the number is part of its key, or given again.
+/// The name of each number of an item; empty if the number is part of its key, or given again.
 pub(crate) fn names(item: &NavItem) -> &'static [&'static str]
     ensures { map (λ n. n.now) result.now ≡ names_of item.now }
 {

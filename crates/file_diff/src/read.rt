@@ -180,9 +180,9 @@ fn read_records<F: FileForm, S: Source>(
 ///
 /// # Errors
 ///
-/// - `NotThisForm` only where the header is refused.
-/// - `ReadFault` only where the input's count of faults rose or is at its maximum.
-/// - `TooLong` only where 4,294,967,295 bytes were read and there was one more.
+/// - `NotThisForm` only if the header is rejected.
+/// - `ReadFault` only if the input's count of errors rose or is at its maximum.
+/// - `TooLong` only if 4,294,967,295 bytes were read and there was one more.
 /// - `NoMemory` where memory for the items is missing.
 ///
 /// Then some of the items are in the set.

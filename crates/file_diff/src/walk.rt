@@ -67,8 +67,8 @@ impl<'a> Walk<'a> {
 ///
 /// # Errors
 ///
-/// `Failed` only where the output's count of faults rose in this call or is at its maximum; a
-/// prefix of the lines was written then.
+/// `Failed` only if the output's count of errors rose in this call or is at its maximum; a prefix
+/// of the lines was written then.
 pub fn write_differences<T: Sink>(
     first: &FileItems,
     second: &FileItems,

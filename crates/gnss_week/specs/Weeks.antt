@@ -1,5 +1,5 @@
--- Weeks counted from 1980-01-06, GPS times as seconds from its start, and the weeks and times that truncated numbers stand
--- for.
+-- Weeks counted from 1980-01-06, GPS times as seconds from its start, and the weeks and times that
+-- truncated numbers mean.
 use Rattle.std.specs.Prelude.{◌≡◌, ℕ, ◌+◌, ◌-◌, ◌/◌, ◌%◌, ◌<◌, ◌≤◌, max}
 
 -- n is a reference week: 1024 to 8191, after one and before eight rollovers of the ten-bit week number

@@ -41,9 +41,9 @@ pub fn civil(moment: Moment) -> Civil
 
 /// The GPS time of a date and time of day.
 ///
-/// Errors, the first that applies: `NoSuchDate` where the date or the time of day does not exist
-/// (years above 9999 and second 60 do not), `BeforeEpoch` where the day is before 1980-01-06,
-/// `TooFar` where it is in week 16384 or later.
+/// Errors, the first that applies: `NoSuchDate` if the date or the time of day does not exist
+/// (years above 9999 and second 60 do not), `BeforeEpoch` if the day is before 1980-01-06, `TooFar`
+/// if it is in week 16384 or later.
 pub fn moment_of(date: &Civil) -> Result<Moment, WeekFault>
     ensures answer { GivesMoment date.now result }
     ensures again { IfOk result (λ m. (c : CivilDate) → IsCivilOf c m → c ≡ date.now) }

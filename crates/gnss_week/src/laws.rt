@@ -8,12 +8,12 @@ ghost use Rattle.gnss_week.specs.Functions.{IsShort, civil_to, moment_near, mome
 ghost use Rattle.gnss_week.specs.declared.calendar.Civil.{Civil};
 ghost use Rattle.gnss_week.specs.declared.calendar.WeekFault.{WeekFault};
 
-/// A ten-bit week number stands for exactly one week near a reference week.
+/// A ten-bit week number means exactly one week near a reference week.
 pub fn one_gps_week()
     ensures { (r n v w : ℕ) → IsGpsWeek r n v → IsGpsWeek r n w → v ≡ w }
 {}
 
-/// A twelve-bit week number stands for exactly one week near a reference week.
+/// A twelve-bit week number means exactly one week near a reference week.
 pub fn one_galileo_week()
     ensures { (r n v w : ℕ) → IsGalileoWeek r n v → IsGalileoWeek r n w → v ≡ w }
 {}
@@ -62,7 +62,7 @@ pub fn galileo_week_function()
 {}
 
 /// `near_gps` and `near_galileo` decide which weeks are near a reference week; each such week is
-/// the one that its truncated number stands for.
+/// the one that its truncated number means.
 pub fn near_weeks()
     ensures gps { (r w : ℕ) → (near_gps r w ≡ true) ↔ IsNearGps r w }
     ensures galileo { (r w : ℕ) → (near_galileo r w ≡ true) ↔ IsNearGalileo r w }

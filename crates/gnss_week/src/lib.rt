@@ -6,8 +6,8 @@
 //! for the nearest week. This crate has
 //!
 //! - [`RefWeek`], [`Week`], [`Second`] and [`Moment`], numbers within their ranges;
-//! - [`gps_week`] and [`gal_week`], the weeks that truncated week numbers stand for near a
-//!   reference week, and [`is_near_gps`] and [`is_near_galileo`], which weeks these can be;
+//! - [`gps_week`] and [`gal_week`], the weeks that truncated week numbers mean near a reference
+//!   week, and [`is_near_gps`] and [`is_near_galileo`], which weeks these can be;
 //! - [`nearest_moment`], the nearest GPS time with a given time of week;
 //! - [`civil`] and [`moment_of`], conversion between GPS times and calendar dates.
 //!

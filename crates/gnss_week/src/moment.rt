@@ -35,7 +35,7 @@ impl Second {
         }
     }
 
-    /// The time of week with this value, where the caller knows that it is in range.
+    /// The time of week with this value, if the caller knows that it is in range.
     pub fn from_number(second: u32) -> Self
         requires { IsSecond second }
         ensures { result ≡ second }
@@ -81,7 +81,7 @@ impl Moment {
         }
     }
 
-    /// The GPS time with this value, where the caller knows that it is in range.
+    /// The GPS time with this value, if the caller knows that it is in range.
     pub fn from_seconds(seconds: u64) -> Self
         requires { IsMoment seconds }
         ensures { result ≡ seconds }

@@ -74,7 +74,7 @@ impl Week {
         Some(Week { number: week })
     }
 
-    /// The week with this number, where the caller knows that it is in range.
+    /// The week with this number, if the caller knows that it is in range.
     pub fn from_number(week: u32) -> Self
         requires { IsWeek week }
         ensures { result ≡ week }

@@ -27,7 +27,7 @@ pub fn gps_week(r: RefWeek, wn: U<10>) -> Week
 }
 
 /// The GPS week of the twelve-bit Galileo week number `wn` near the reference week `r`: the one
-/// equal to `wn` + 1024 modulo 4096 in the 4096 weeks from `r` - 2048, or from 1024 where that is
+/// equal to `wn` + 1024 modulo 4096 in the 4096 weeks from `r` - 2048, or from 1024 if that is
 /// later (Galileo OS SIS ICD, 5.1.2).
 pub fn gal_week(r: RefWeek, wn: U<12>) -> Week
     ensures { IsGalileoWeek r wn result }
@@ -51,8 +51,8 @@ pub fn nearest_moment(near: Moment, second: Second) -> Moment
     Moment::from_seconds(low + ahead)
 }
 
-/// Whether a ten-bit week number can stand for `week` near the reference week `r`: `week` is from
-/// `r` - 512 to `r` + 511 (IS-GPS-200, 20.3.3.3.1.1).
+/// Whether a ten-bit week number can mean `week` near the reference week `r`: `week` is from `r` -
+/// 512 to `r` + 511 (IS-GPS-200, 20.3.3.3.1.1).
 pub fn is_near_gps(r: RefWeek, week: Week) -> bool
     ensures exactly { IsTrue result ↔ IsNearGps r week }
     ensures answer { result ≡ near_gps r week }
@@ -61,8 +61,8 @@ pub fn is_near_gps(r: RefWeek, week: Week) -> bool
     week.value() + half >= r.value() && week.value() < r.value() + half
 }
 
-/// Whether a twelve-bit week number can stand for `week` near the reference week `r`: `week` is one
-/// of the 4096 weeks from `r` - 2048, or from 1024 where that is later (Galileo OS SIS ICD, 5.1.2).
+/// Whether a twelve-bit week number can mean `week` near the reference week `r`: `week` is one of
+/// the 4096 weeks from `r` - 2048, or from 1024 if that is later (Galileo OS SIS ICD, 5.1.2).
 pub fn is_near_galileo(r: RefWeek, week: Week) -> bool
     ensures exactly { IsTrue result ↔ IsNearGalileo r week }
     ensures answer { result ≡ near_galileo r week }

@@ -9,7 +9,8 @@ use Rattle.nav_eph.specs.declared.signal.Signal.{Signal}
 use Rattle.nav_eph.specs.declared.signal.Signal.TheVariants.{E1b, E5b}
 use Rattle.inav_page.specs.Pages.{kind_of, HasRightCrc, has_right_crc, word_of}
 
--- a page part as received: stamp in seconds of the logger's clock, satellite, signal, and used bits
+-- a page part as received: time tag in seconds of the logger's clock, satellite, signal, and used
+-- bits
 pub record StampedHalf : Type 0 where
   pub stamp : ℕ
   pub sat : Satellite
@@ -25,7 +26,7 @@ pub record MakeWord (even odd : StampedHalf) : Type 0 where
   pub signal : odd.signal ≡ even.signal
   pub crc : HasRightCrc even.half odd.half
 
--- a word received among some page parts, by its two parts; its stamp is that of the odd part
+-- a word received among some page parts, by its two parts; its time tag is that of the odd part
 pub record IsHeard (among : StampedHalf → Type 0) (even odd : StampedHalf) : Type 0 where
   pub even_among : among even
   pub odd_among : among odd
@@ -44,7 +45,7 @@ word_by Odd one other = word_of other one
 abbrev pub word_with : StampedHalf → StampedHalf → List ℕ
 word_with one other = word_by (kind_of one.half) one.half other.half
 
--- the stamp of a word with a part of that kind and stamp: that of the odd part
+-- the time tag of a word with a part of that kind and time tag: that of the odd part
 abbrev pub stamp_by : HalfKind → ℕ → ℕ
 stamp_by Even stamp = stamp + 1
 stamp_by Odd stamp = stamp

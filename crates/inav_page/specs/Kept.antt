@@ -5,7 +5,7 @@ use Rattle.inav_page.specs.declared.seconds.Seconds.{Seconds}
 use Rattle.inav_page.specs.Keeping.{IsRecent}
 use Rattle.inav_page.specs.Mirrors.{half_of, IsKey}
 
--- the keys of a second, if it has that stamp
+-- the keys of a second, if it has that time tag
 abbrev pub keys_of : ℕ → Second → List (ℕ × ℕ)
 keys_of stamp second = if nat_eq second.stamp stamp then second.keys else []
 
@@ -27,14 +27,15 @@ abbrev pub keys_held : List Second → List (ℕ × ℕ)
 keys_held [] = []
 keys_held (second ∷ seconds) = second.keys ++ keys_held seconds
 
--- the key may be in a second at a slot: it has its stamp, which is at most the greatest, and the slot is that of the stamp
+-- the key may be in a second at a slot: it has its time tag, which is at most the greatest, and the
+-- slot is that of the time tag
 pub record IsKeyAt (window greatest place stamp : ℕ) (key : ℕ × ℕ) : Type 0 where
   pub is_key : IsKey key
   pub stamp_is : (half_of key).stamp ≡ stamp
   pub place_is : place ≡ stamp % (window + 2)
   pub early : stamp ≤ greatest
 
--- each key of the ring buffer has the stamp and slot of its second
+-- each key of the ring buffer has the time tag and slot of its second
 abbrev pub ArePlaced : ℕ → ℕ → List Second → Type 0
 ArePlaced window greatest seconds = (place : ℕ) (second : Second) → slice_get seconds place ≡ Some second
     → (key : ℕ × ℕ) → Contains second.keys key → IsKeyAt window greatest place second.stamp key
@@ -44,7 +45,7 @@ pub record AreSeconds (seconds : Seconds) : Type 0 where
   pub small : seconds.window ≤ 14400
   pub placed : ArePlaced seconds.window seconds.greatest seconds.places.items
 
--- the keys are exactly those of one stamp among all
+-- the keys are exactly those of one time tag among all
 abbrev pub IsSecondOf : List (ℕ × ℕ) → ℕ → List (ℕ × ℕ) → Type 0
 IsSecondOf all stamp keys = ((key : ℕ × ℕ) → Contains keys key ↔ (Contains all key × ((half_of key).stamp ≡ stamp))) × (length keys ≤ length all)
 

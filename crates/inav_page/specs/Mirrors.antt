@@ -1,5 +1,6 @@
--- Mirrors of the code's orders of page parts: in a second by satellite, signal and bits; in a tree by the number of
--- stamp, satellite and signal, the CRC remainder (equal for partners), and the bits.
+-- Executable counterparts of the code's orders of page parts: in a second by satellite, signal and
+-- bits; in a tree by the number of time tag, satellite and signal, the CRC remainder (equal for
+-- partners), and the bits.
 use Rattle.std.specs.Prelude.{◌≡◌, ℕ, ◌+◌, ◌-◌, ◌*◌, ◌/◌, ◌%◌, ◌^◌, ◌<◌, ◌≤◌, ◌↔◌, ◌++◌, Bool, true, List, length, slice_index, Option, SomeIff, nat_eq, map, if◌then◌else◌, bit_xor, Contains}
 use Rattle.std.specs.Ordering.{nat_cmp, ordering_then}
 use Rattle.std.specs.List.{filter}
@@ -27,7 +28,7 @@ signal_of lane = if nat_eq lane 0 then E1b else E5b
 abbrev pub lane_of : ℕ → Signal → ℕ
 lane_of number signal = number * 2 + signal_number signal
 
--- the number of a stamp, Galileo satellite number and signal, in this order
+-- the number of a time tag, Galileo satellite number and signal, in this order
 abbrev pub place_of : ℕ → ℕ → Signal → ℕ
 place_of stamp number signal = stamp * 128 + number * 2 + signal_number signal
 
@@ -50,7 +51,7 @@ remainder_by Odd half = bit_xor (page_crc 0 half) (bits_at half 82 24)
 abbrev pub remainder_of : ℕ → ℕ
 remainder_of half = remainder_by (kind_of half) half
 
--- the bucket: the number of stamp, satellite and signal, followed by the CRC remainder
+-- the bucket: the number of time tag, satellite and signal, followed by the CRC remainder
 abbrev pub bucket_of : ℕ → ℕ → ℕ
 bucket_of place remainder = place * 2 ^ 24 + remainder
 
@@ -58,7 +59,8 @@ bucket_of place remainder = place * 2 ^ 24 + remainder
 abbrev pub half_of : ℕ × ℕ → StampedHalf
 half_of key = half_at (key.0 / 2 ^ 24) key.1
 
--- the bucket of a key is below 2^63, as for stamps below 2^32, and ends with the CRC remainder of the bits
+-- the bucket of a key is below 2^63, as for time tags below 2^32, and ends with the CRC remainder
+-- of the bits
 pub record IsKey (key : ℕ × ℕ) : Type 0 where
   pub fits : key.0 < 2 ^ 63
   pub remainder : key.0 % 2 ^ 24 ≡ remainder_of key.1
@@ -73,7 +75,7 @@ AreKeys keys = (key : ℕ × ℕ) → Contains keys key → IsKey key
 abbrev pub number_of : ℕ → Signal → ℕ → ℕ
 number_of number signal bits = lane_of number signal * 2 ^ 120 + bits
 
--- the key of the page part with this number in the second of a stamp
+-- the key of the page part with this number in the second of a time tag
 abbrev pub key_at : ℕ → ℕ → ℕ × ℕ
 key_at stamp number = (bucket_of (stamp * 128 + number / 2 ^ 120) (remainder_of (number % 2 ^ 120)), number % 2 ^ 120)
 
@@ -81,7 +83,7 @@ key_at stamp number = (bucket_of (stamp * 128 + number / 2 ^ 120) (remainder_of 
 abbrev pub keys_shown : ℕ → List ℕ → List (ℕ × ℕ) → List (ℕ × ℕ)
 keys_shown stamp few many = map (key_at stamp) few ++ many
 
--- what contracts see of a second: its stamp, and the keys of its page parts
+-- what contracts see of a second: its time tag, and the keys of its page parts
 pub record KeysOfSecond : Type 0 where
   pub stamp : ℕ
   pub keys : List (ℕ × ℕ)
@@ -92,7 +94,7 @@ pub record Rises (numbers : List ℕ) : Type 0 where
 
 -- ---- partners
 
--- the stamp of the partners of a page part: none below 0 and none above 2^32 - 1
+-- the time tag of the partners of a page part: none below 0 and none above 2^32 - 1
 abbrev pub HasPartnerStamp : HalfKind → ℕ → Option ℕ → Type 0
 HasPartnerStamp Even stamp other = SomeIff other (stamp + 1 < 2 ^ 32) (stamp + 1)
 HasPartnerStamp Odd stamp other = SomeIff other (1 ≤ stamp) (stamp - 1)
@@ -144,7 +146,8 @@ words_by kind half keys = map (λ key. word_by kind half key.1) keys
 abbrev pub words_in_bucket : List (ℕ × ℕ) → ℕ → ℕ → List (List ℕ)
 words_in_bucket keys bucket half = words_by (kind_of half) half (keys_in_bucket keys bucket (kind_of half))
 
--- the key is of a partner of a page part whose partners have that number of stamp, satellite and signal
+-- the key is of a partner of a page part whose partners have that number of time tag, satellite and
+-- signal
 pub record IsPartnerAt (place half : ℕ) (key : ℕ × ℕ) : Type 0 where
   pub place_is : key.0 / 2 ^ 24 ≡ place
   pub kind_is : kind_of key.1 ≡ other_kind (kind_of half)

@@ -114,7 +114,7 @@ fn kept(number: u128) -> u128
 /// tail bits, in an odd one 16 data bits, 64 further bits, the 24-bit CRC, 8 bits and 6 tail bits
 /// (Galileo OS SIS ICD, 4.3.2.3). The tail bits and the eight bits after the CRC are ignored.
 ///
-/// [`HalfFault::Alert`] exactly where the page type is 1.
+/// [`HalfFault::Alert`] exactly if the page type is 1.
 pub fn read_half(bits: &Bits<15>) -> Result<Half, HalfFault>
     ensures half { IfOk result (λ half. half ≡ kept_of (number_at bits.now 0 120)) }
     ensures alert { IsErr result ↔ (number_at bits.now 1 1 ≡ 1) }

@@ -45,8 +45,8 @@ impl Model for Halves {
 }
 
 impl Halves {
-    /// An empty store. `window` is in seconds: a page part is stored while its stamp is at most the
-    /// window plus one second below the greatest stamp.
+    /// An empty store. `window` is in seconds: a page part is stored while its time tag is at most
+    /// the window plus one second below the greatest time tag.
     pub fn new(alloc: Global, window: u32) -> Halves
         requires least { 60 ≤ window }
         requires most { window ≤ 14400 }
@@ -61,17 +61,18 @@ impl Halves {
         }
     }
 
-    /// Takes a page part received at a stamp in seconds of the logger's clock, and gives the words
-    /// that it makes with its stored partners, ascending by the partners' bits; none where the same
-    /// page part is stored already. Then the part is stored, unless it is itself too old, and parts
-    /// whose stamp is more than the window plus one second below the greatest stamp are removed.
+    /// Takes a page part received at a time tag in seconds of the logger's clock, and gives the
+    /// words that it makes with its stored partners, ascending by the partners' bits; none if the
+    /// same page part is stored already. Then the part is stored, unless it is itself too old, and
+    /// parts whose time tag is more than the window plus one second below the greatest time tag are
+    /// removed.
     ///
     /// Costs one search among the stored parts of its own second, one for its partners among those
     /// of theirs, and the words. Of up to 72 parts of a second those of the satellite, signal and
     /// other kind are tried, a CRC each; of more the partners alone are found, by the remainder of
     /// one CRC. The parts are in a ring buffer of `window + 2` seconds, allocated with the first
     /// part, so a second is found without a search. Removed parts leave when another second takes
-    /// their slot, which uses their room again: a stamp far above the others costs no more.
+    /// their slot, which reuses their memory: a time tag far above the others costs no more.
     ///
     /// `AllocError` where memory runs out; nothing is changed then.
     pub fn take(

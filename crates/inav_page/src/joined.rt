@@ -4,7 +4,7 @@ use nav_bits::Bits;
 use std::alloc::Global;
 use std::marker::Model;
 
-/// The words that a page part makes with its partners, and their stamp.
+/// The words that a page part makes with its partners, and their time tag.
 #[derive(Drop)]
 pub struct Joined {
     pub(crate) words: Vec<Bits<16>>,
@@ -50,8 +50,8 @@ impl Joined {
         &self.words[i]
     }
 
-    /// The stamp at which the odd part of the words was received, in seconds; of no meaning without
-    /// words.
+    /// The time tag at which the odd part of the words was received, in seconds; of no meaning
+    /// without words.
     pub fn stamp(&self) -> u32
         ensures { result ≡ self.now.stamp }
     {

@@ -1,5 +1,5 @@
-//! Page parts as keys of a tree, by stamp, satellite, signal, CRC remainder (equal for partners),
-//! kind, and bits. So the partners of a page part are adjacent.
+//! Page parts as keys of a tree, by time tag, satellite, signal, CRC remainder (equal for
+//! partners), kind, and bits. So the partners of a page part are adjacent.
 
 ghost use Rattle.std.specs.Prelude.{◌≡◌, ℕ, ◌+◌, ◌*◌, ◌^◌, ◌<◌};
 ghost use Rattle.std.specs.Prelude.{◌≤◌, ◌⊎◌, ◌↔◌, length, map, Contains};

@@ -1,4 +1,4 @@
-//! Laws of the definitions; each is the contract of a function that does nothing.
+//! Theorems about the definitions; each is the contract of a function that does nothing.
 
 ghost use Rattle.std.specs.Prelude.{◌≡◌, ℕ, ◌+◌, List, ◌∷◌};
 ghost use Rattle.std.specs.Prelude.{◌⊎◌, ◌↔◌, Contains, true};

@@ -99,8 +99,8 @@ pub(crate) fn word_of_two(kind: HalfKind, one: u128, other: u128) -> Bits<16>
 /// The word of a page: the 112 data bits of the even part followed by the 16 of the odd part
 /// (Galileo OS SIS ICD, 4.3.2.3).
 ///
-/// `None` exactly where the CRC-24Q of the first 114 bits of the even part and the first 82 of the
-/// odd one is not the CRC in the odd part (5.1.9.4).
+/// `None` exactly if the CRC-24Q of the first 114 bits of the even part and the first 82 of the odd
+/// one is not the CRC in the odd part (5.1.9.4).
 pub fn join(even: &Half, odd: &Half) -> Option<Bits<16>>
     requires even { kind_of even.now ≡ Even }
     requires odd { kind_of odd.now ≡ Odd }

@@ -1,6 +1,6 @@
-//! The page parts in a ring buffer of seconds: a stamp has the slot at its remainder modulo `window
-//! + 2`, so a second is found without a search. A second that is too old counts as removed; its
-//! room is used again when another takes its slot.
+//! The page parts in a ring buffer of seconds: a time tag has the slot at its remainder modulo
+//! `window + 2`, so a second is found without a search. A second that is too old counts as removed;
+//! its memory is reused when another takes its slot.
 
 ghost use Rattle.std.specs.Prelude.{◌≡◌, ℕ, ◌+◌, ◌%◌, ◌^◌, ◌<◌};
 ghost use Rattle.std.specs.Prelude.{◌≤◌, ◌↔◌, IfSome, IfNone, IsTrue, IfOk};

@@ -1,4 +1,4 @@
--- The parts that the 128 bits of an I/NAV word encode, and the first of its faults.
+-- The parts that the 128 bits of an I/NAV word encode, and the first of its errors.
 use Rattle.std.specs.Prelude.{ℕ, ◌||◌, Bool, List, [], ◌∷◌, Option, nat_eq, nat_le, nat_lt, if◌then◌else◌, None, Some, Result, Ok, Err, IfSome}
 use Rattle.nav_bits.specs.Bits.{number_at}
 use Rattle.nav_eph.specs.Conditions.{IsPart}
@@ -63,7 +63,7 @@ health_of w = record { bgd_a = w.bgd_a; bgd_b = w.bgd_b; hs_e5b = w.hs_e5b; hs_e
 abbrev pub ion_of : Word5 → GalIon
 ion_of w = record { ai0 = w.ai0; ai1 = w.ai1; ai2 = w.ai2; regions = w.regions }
 
--- a part received from a satellite at a stamp
+-- a part received from a satellite at a time tag
 abbrev pub heard : Satellite → ℕ → Body → Part
 heard sat stamp body = record { stamp = stamp; sat = sat; body = body }
 
@@ -82,8 +82,8 @@ two_parts sat stamp health ion wn second = record {
 abbrev pub is_sisa : ℕ → Bool
 is_sisa n = nat_le n 125 || nat_eq n 255
 
--- the parts of a word of a satellite, or the first fault in this order: a type other than 1 to 5, another SVID,
--- toe, toc or TOW past the end of the week, a spare SISA index
+-- the parts of a word of a satellite, or the first error in this order: a type other than 1 to 5,
+-- another SVID, toe, toc or TOW past the end of the week, a spare SISA index
 abbrev pub reading : Satellite → ℕ → Word → Result WordParts WordFault
 reading sat stamp (One w) = if nat_lt w.toe 10080 then Ok (one_part sat stamp (GalW1 (orbit1_of w))) else Err BadTime
 reading sat stamp (Two w) = Ok (one_part sat stamp (GalW2 (orbit2_of w)))
@@ -96,7 +96,7 @@ reading sat stamp (Five w) =
     if nat_lt w.tow 604800 then Ok (two_parts sat stamp (health_of w) (ion_of w) w.wn w.tow) else Err BadTime
 reading sat stamp (Other number) = Err (OtherWord number)
 
--- the parts that bits from a satellite encode, or their first fault
+-- the parts that bits from a satellite encode, or their first error
 abbrev pub reading_of : List ℕ → Satellite → ℕ → Result WordParts WordFault
 reading_of bits sat stamp = reading sat stamp (word_in bits)
 

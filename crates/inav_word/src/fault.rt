@@ -1,6 +1,6 @@
 use thiserror::Error;
 
-/// Why a word is refused: the first of these that holds, in this order.
+/// Why a word is rejected: the first of these that holds, in this order.
 #[derive(Clone, Copy, PartialEq, Eq, Debug, Error)]
 pub enum WordFault {
     /// The word type is not 1 to 5.

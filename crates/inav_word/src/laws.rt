@@ -49,7 +49,7 @@ pub fn written_word3_is_read()
         reading_of bits sat stamp ≡ Ok (one_part sat stamp (GalW3 w)) }
 {}
 
-/// Bits that hold the fields of word type 4 of a satellite are read as these fields, where that
+/// Bits that hold the fields of word type 4 of a satellite are read as these fields, if that
 /// satellite sends them.
 pub fn written_word4_is_read()
     ensures { (w : GalWord4) (bits : List ℕ) (sat : Satellite) (stamp : ℕ) →
@@ -103,7 +103,7 @@ pub fn read_word5_is_written()
         IsSecond second × StandFrom bits 0 0 (fields_word5 (written_word5 h i wn second)) }
 {}
 
-/// Bits are refused with a fault exactly where it is the first fault of their word.
+/// Bits are rejected with an error exactly if it is the first error of their word.
 pub fn refused_by_the_first_fault()
     ensures { (bits : List ℕ) (sat : Satellite) (stamp : ℕ) (fault : WordFault) →
         (reading_of bits sat stamp ≡ Err fault) ↔ IsFirstFault sat (word_in bits) fault }
@@ -163,7 +163,7 @@ pub fn words_are_the_functions()
         bits ≡ word5_bytes h i wn second }
 {}
 
-/// The parts of a word have the stamp and satellite given, have bodies that a Galileo satellite
+/// The parts of a word have the time tag and satellite given, have bodies that a Galileo satellite
 /// sends, and have their fields within their widths in bits.
 pub fn word_parts()
     ensures stamps { (bits : List ℕ) (sat : Satellite) (stamp : ℕ) (parts : WordParts) →

@@ -3,7 +3,7 @@
 //! A word has 128 bits; the first six are its type. Word types 1 to 4 carry the ephemeris and clock
 //! parameters, word type 5 ionosphere, BGD, signal health, data validity, week number and TOW.
 //!
-//! - [`read_word`] gives the parts of a word, or the first fault in it ([`WordFault`]);
+//! - [`read_word`] gives the parts of a word, or the first error in it ([`WordFault`]);
 //! - [`write_word1`] to [`write_word5`] give the bits of a word.
 //!
 //! ```rust

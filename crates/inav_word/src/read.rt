@@ -158,13 +158,13 @@ fn read_5(w: &Word5, sat: Sat, stamp: u32) -> Result<WordParts, WordFault>
 }
 
 /// Reads the 128 bits of an I/NAV word (Galileo OS SIS ICD, 4.3.5), received from a Galileo
-/// satellite at the stamp in seconds of the logger's clock. Word types 1 to 4 give one part; word
-/// type 5 gives first BGD and health, with week number and TOW as time tag, then the ionosphere.
-/// Reserved and spare bits are ignored.
+/// satellite at the time tag in seconds of the logger's clock. Word types 1 to 4 give one part;
+/// word type 5 gives first BGD and health, with week number and TOW as time tag, then the
+/// ionosphere. Reserved and spare bits are ignored.
 ///
-/// The error is the first of these faults: a type other than 1 to 5; a word type 4 with another
-/// SVID; a toe or toc of 10,080 units of 60 s or more, or a TOW of 604,800 s or more; a spare SISA
-/// index, 126 to 254.
+/// The error is the first of these: a type other than 1 to 5; a word type 4 with another SVID; a
+/// toe or toc of 10,080 units of 60 s or more, or a TOW of 604,800 s or more; a spare SISA index,
+/// 126 to 254.
 pub fn read_word(word: &Bits<16>, sat: Sat, stamp: u32) -> Result<WordParts, WordFault>
     requires { sat.system ≡ Gal }
     ensures answer { result ≡ reading_of word.now sat stamp }

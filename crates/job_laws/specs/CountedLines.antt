@@ -22,7 +22,8 @@ pub record CountLines (c : Capture) (pairs : List Pair) (counts : CaptureCounts)
   pub refused : counts.refused ≡ of_kind is_refused_event c pairs
   pub unused : counts.unused ≡ of_kind is_unused c pairs
 
--- each count is the number of periods with its verdict; the times are those of the items of the whole ones
+-- each count is the number of periods with its verdict; the times are those of the items of the
+-- complete ones
 pub record CountPeriods (periods : List Closed) (counts : CaptureCounts) : Type 0 where
   pub whole : counts.whole ≡ verdicts is_whole periods
   pub partial : counts.partial ≡ verdicts is_partial periods

@@ -14,7 +14,7 @@ abbrev pub parts_heard : ℕ → List LineItem → List Part
 parts_heard window items = parts_in (log_from window nothing_known 2 items)
 
 -- The text is a capture of the week of the log: its first line names the week and a window of two
--- hours, and the lines after it stand for the items of the log; so the parts received from the lines
+-- hours, and the lines after it encode the items of the log; so the parts received from the lines
 -- are those received from the items.
 pub record IsHeardAs (week : ℕ) (log : List Reception) (text : List ℕ) : Type 0 where
   pub first : List ℕ

@@ -16,7 +16,7 @@ first_second (Some time) (Refused reason) = None
 first_second (Some time) (Subframe sat words) = Some time
 first_second (Some time) (Page sat signal even odd) = Some (time - 1)
 
--- the week of the second two hours before a first line; where there is no line, that of what follows
+-- the week of the second two hours before a first line; if there is no line, that of what follows
 abbrev pub week_before : Option ℕ → Option ℕ → Option ℕ
 week_before (Some first) following = Some ((first - 7200) / 604800)
 week_before None following = following
@@ -26,7 +26,7 @@ abbrev pub week_of_log : List Reception → Option ℕ
 week_of_log [] = None
 week_of_log (x ∷ xs) = week_before (first_second x.time x.content) (week_of_log xs)
 
--- the items, or none where there is a reason against them
+-- the items, or none if there is a reason against them
 abbrev pub unless : Option Reason → List LineItem → List LineItem
 unless None items = items
 unless (Some reason) items = []

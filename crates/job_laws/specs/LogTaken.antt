@@ -11,16 +11,16 @@ use Rattle.job_laws.specs.LogHeard.{parts_heard}
 use Rattle.receiver_log.specs.declared.reception.Reception.{Reception}
 use Rattle.job_laws.specs.LogItems.{items_of_log, week_of_log}
 
--- the output for a log of this week in this form: the periods of the parts received from its items
--- and, where the form has them, these counts
+-- the output for a log of this week in this format: the periods of the parts received from its
+-- items and, if the format has them, these counts
 abbrev pub log_output : Target → ℕ → List Reception → CaptureCounts → List ℕ
 log_output to week log counts =
     prefix_text to
     ++ (texts_of to (periods_of week 7200 (parts_heard 7200 (items_of_log week log)))
     ++ back_text to (counts_text counts))
 
--- The text is a capture, whether or not the command line names its week: it has the log's week, a
--- window of two hours, and lines that stand for the items of the log. Its periods and its output are
+-- The text is a capture, whether or not the arguments name its week: it has the log's week, a
+-- window of two hours, and lines that encode the items of the log. Its periods and its output are
 -- those of the parts received from these.
 pub record IsTaken (week : ℕ) (log : List Reception) (text : List ℕ) : Type 0 where
   pub capture : Capture
@@ -37,7 +37,7 @@ pub record IsTaken (week : ℕ) (log : List Reception) (text : List ℕ) : Type 
   pub named_output_is : (to : Target)
       → output_of to (Some week) text ≡ log_output to week log (counts_of capture)
 
--- where a log has no week, the text is no capture
+-- if a log has no week, the text is no capture
 abbrev pub IsTakenBy : Option ℕ → List Reception → List ℕ → Type 0
 IsTakenBy (Some week) log text = IsTaken week log text
 IsTakenBy None log text = (named : Option ℕ) → capture_of named text ≡ None

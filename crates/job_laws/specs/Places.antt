@@ -1,4 +1,4 @@
--- Which lines are late, malformed or refused, stated by each item and those before it.
+-- Which lines are late, malformed or rejected, stated by each item and those before it.
 use Rattle.std.specs.Prelude.{◌≡◌, ◌≤◌, ◌⊎◌, ℕ, ◌+◌, List, [], ◌∷◌, ◌++◌, length, Contains, Some}
 use Rattle.inav_page.specs.Heard.{IsHeard}
 use Rattle.capture_lines.specs.Late.{stamp_of, IsLate}
@@ -10,14 +10,15 @@ use Rattle.capture_log.specs.declared.event.Event.TheVariants.{Refused}
 use Rattle.capture_log.specs.declared.event.Refusal.{Refusal}
 use Rattle.job_laws.specs.Counted.{Pair, own_events, pair_events}
 
--- the item with this number, where the first item has the number `first`
+-- the item with this number, if the first item has the number `first`
 pub record IsAt (first : ℕ) (items : List LineItem) (number : ℕ) (item : LineItem) : Type 0 where
   pub before : List LineItem
   pub after : List LineItem
   pub place : items ≡ before ++ item ∷ after
   pub number_is : number ≡ first + length before
 
--- The item with this number is late: an item before it has a stamp that is later by more than the window.
+-- The item with this number is late: an item before it has a time tag that is later by more than
+-- the window.
 pub record IsLateLine (window first : ℕ) (items : List LineItem) (number : ℕ) : Type 0 where
   pub item : LineItem
   pub at : IsAt first items number item
@@ -34,7 +35,8 @@ pub record IsCompletedBy (window : ℕ) (before : List LineItem) (item : LineIte
   pub with_it : IsHeard (IsHalfHeard window (before ++ item ∷ [])) word.even word.odd
   pub not_before : IsHeard (IsHalfHeard window before) word.even word.odd → ⊥
 
--- The item with this number is refused for this reason: its own subframe or frame is, as it is not late, or a word that it completes.
+-- The item with this number is rejected for this reason: its own subframe or frame is, as it is not
+-- late, or a word that it completes.
 pub record IsRefusedLine (window first : ℕ) (items : List LineItem) (number : ℕ) (reason : Refusal) : Type 0 where
   pub item : LineItem
   pub at : IsAt first items number item

@@ -19,7 +19,8 @@ use Rattle.bridge_engine.specs.declared.job.Job.TheVariants.{SendRinex, SendRine
 use Rattle.nav_laws.specs.SentCapture.{IsOfLines, IsStillHeard}
 use Rattle.job_laws.specs.Written.{ConvertCapture, IsWritten}
 
--- the words ask for a navigation file to be written as a capture near the week r; the file is accepted, and these are its items
+-- the arguments name a navigation file to be written as a capture near the week r; the file is
+-- accepted, and these are its items
 abbrev pub Sends : List (List ℕ) → ℕ → List ℕ → List NavItem → Type 0
 Sends words r file items =
     (IsJob words (SendRinex r) × IsOk (file_reads rinex4 file) × (items ≡ rinex_list file))
@@ -32,7 +33,7 @@ AreReceived sent received =
     (IsOfLines received sent × IsStillHeard sent received)
     ⊎ (SameItems (line_items_of received) (line_items_of sent) × NoneLate 7200 (line_items_of received))
 
--- the text of items in this form
+-- the text of items in this format
 abbrev pub items_text : CaptureTo → List NavItem → List ℕ
 items_text (Rinex header) items = rinex_text header items
 items_text (Rinex3 header) items = rinex3_text header items
@@ -40,7 +41,7 @@ items_text Rtcm items = flat_map rtcm_item items
 items_text ToList items = []
 items_text Count items = []
 
--- the form is a text of items; a list and counts are of periods
+-- the format is a text of items; a list and counts are of periods
 abbrev pub IsOfItems : CaptureTo → Type 0
 IsOfItems (Rinex header) = Unit {0}
 IsOfItems (Rinex3 header) = Unit {0}
@@ -48,7 +49,7 @@ IsOfItems Rtcm = Unit {0}
 IsOfItems ToList = ⊥
 IsOfItems Count = ⊥
 
--- the form is a text of ephemerides alone
+-- the format is a text of ephemerides alone
 abbrev pub IsOfEphemerides : CaptureTo → Type 0
 IsOfEphemerides (Rinex header) = ⊥
 IsOfEphemerides (Rinex3 header) = Unit {0}
@@ -56,8 +57,8 @@ IsOfEphemerides Rtcm = Unit {0}
 IsOfEphemerides ToList = ⊥
 IsOfEphemerides Count = ⊥
 
--- One run writes a navigation file as the capture `sent`. Another converts the capture `received`, of the same week and window, to
--- this form, and writes `text`.
+-- One run writes a navigation file as the capture `sent`. Another converts the capture `received`,
+-- of the same week and window, to this format, and writes `text`.
 pub record AreTwoRuns (r : ℕ) (to : CaptureTo) (items : List NavItem) (sent received : Capture) (text : List ℕ) : Type 0 where
   pub words : List (List ℕ)
   pub file : List ℕ

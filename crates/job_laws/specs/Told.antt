@@ -1,12 +1,12 @@
--- Which form is told of the bytes that a job accepts.
+-- Which format is recognised of the bytes that a conversion accepts.
 use Rattle.std.specs.Prelude.{◌≡◌, ◌⊎◌}
 use Rattle.bridge_engine.specs.declared.job.Job.{Job}
 use Rattle.bridge_engine.specs.declared.job.Job.TheVariants as jobs
 use Rattle.whole_file.specs.declared.kinds.Kind.{Kind}
 use Rattle.whole_file.specs.declared.kinds.Kind.TheVariants as kinds
 
--- That of what the job reads: a capture, or a navigation file of its version. Nothing for a stream, as which any bytes are
--- accepted, nor for a job that reads nothing.
+-- That of what the conversion reads: a capture, or a navigation file of its version. Nothing for a
+-- stream, as which any bytes are accepted, nor for a conversion that reads nothing.
 abbrev pub IsToldFor : Job → Kind → Type 0
 IsToldFor jobs.StreamToFrames kind = Unit {0}
 IsToldFor (jobs.Capture job) kind = (kind ≡ kinds.Capture1) ⊎ (kind ≡ kinds.Capture2)

@@ -1,4 +1,4 @@
-//! Laws of the log of a capture: each is the contract of an empty function.
+//! Theorems about the log of a capture: each is the contract of an empty function.
 
 ghost use Rattle.std.specs.Prelude.{◌≡◌, ◌↔◌, ℕ, ◌+◌};
 ghost use Rattle.std.specs.Prelude.{List, [], Contains, length, map, sum};
@@ -12,8 +12,8 @@ ghost use Rattle.job_laws.specs.Places.{InLineOrder, IsLateLine, IsMalformedLine
 ghost use Rattle.job_laws.specs.Counted.{ArePairsHeard, Pair};
 ghost use Rattle.job_laws.specs.Counted.{own_weight, pairs_weight, weight_in};
 
-/// The log has a line as late exactly where a line before it, late or not, has a stamp that is
-/// later by more than the window, and as malformed exactly where it is malformed.
+/// The log has a line as late exactly if a line before it, late or not, has a time tag that is
+/// later by more than the window, and as malformed exactly if it is malformed.
 pub fn late_lines_are_told()
     ensures late { (window first : ℕ) (items : List LineItem) (number : ℕ)
         → Contains (log_from window nothing_known first items)
@@ -54,7 +54,7 @@ pub fn events_are_counted()
     pairs_are_counted_once();
 }
 
-/// The log has a line as refused for a reason exactly where its own subframe or frame is refused for
+/// The log has a line as rejected for a reason exactly if its own subframe or frame is rejected for
 /// it, or a word that its page part completes; and the log is in the order of the lines.
 pub fn refused_lines_are_told()
     ensures refused { (window first : ℕ) (items : List LineItem) (number : ℕ) (reason : Refusal)

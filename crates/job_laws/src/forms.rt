@@ -1,4 +1,4 @@
-//! The form of what a job accepts: the contract of an empty function.
+//! The format of what a conversion accepts: the contract of an empty function.
 
 ghost use Rattle.std.specs.Prelude.{ℕ, List, IsSome};
 ghost use Rattle.bridge_engine.specs.Meanings.{meaning_of};
@@ -6,8 +6,9 @@ ghost use Rattle.bridge_engine.specs.declared.job.Job.{Job};
 ghost use Rattle.whole_file.specs.Kinds.{kind_of};
 ghost use Rattle.job_laws.specs.Told.{IsToldFor};
 
-/// What a job accepts is told as its form, as far as bytes tell it: a capture, and a navigation
-/// file of its version. Any bytes are a stream: which tell one says [`whole_file`].
+/// What a conversion accepts is recognised as its format, as far as bytes show it: a capture, and a
+/// navigation file of its version. Any bytes are a stream: [`whole_file`] states which are
+/// recognised.
 pub fn accepted_bytes_tell_their_form()
     ensures { (job : Job) (bytes : List ℕ) → IsSome ((meaning_of job).counts bytes)
         → IsToldFor job (kind_of bytes) }

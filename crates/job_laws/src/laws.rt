@@ -1,4 +1,4 @@
-//! Laws of conversions of captures: each is the contract of an empty function.
+//! Theorems about conversions of captures: each is the contract of an empty function.
 
 ghost use Rattle.std.specs.Prelude.{◌≡◌, ◌↔◌, ℕ, List, Contains, Option, Some, IfSome};
 ghost use Rattle.nav_io.specs.Lines.{Line};
@@ -24,7 +24,7 @@ ghost use Rattle.job_laws.specs.SayTheSame.{IsOfPeriods, SayTheSame};
 ghost use Rattle.job_laws.specs.Written.{ConvertCapture, IsWritten};
 
 /// Two captures of one week and one window whose lines have the same items, in any order, however
-/// spelled and repeated or not, none of them late, give the same output in every form but the
+/// spelled and repeated or not, none of them late, give the same output in every format but the
 /// counts. The same lines, in any order and repeated or not, have the same items.
 pub fn order_of_lines_changes_no_text()
     ensures captures { (to : CaptureTo) (week named : Option ℕ) (bytes other : List ℕ)
@@ -89,7 +89,7 @@ pub fn converted_captures_come_back()
     rinex_read::files3_are_read();
 }
 
-/// The same for the words of a command line: whatever text their job writes of a capture.
+/// The same for the arguments: whatever text their conversion writes of a capture.
 pub fn what_is_converted_comes_back()
     ensures rinex { (words : List (List ℕ)) (week : Option ℕ) (header : HeaderWords)
         (bytes text : List ℕ) (c : Capture) → ConvertCapture words (Rinex header) week

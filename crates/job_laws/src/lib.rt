@@ -1,30 +1,31 @@
 //! What runs write, stated by all of their input at once: all lines of a capture, the messages of a
-//! receiver's log, the words of the command line.
+//! receiver's log, the arguments.
 //!
-//! The crates of the runs say what each writes line by line, and `bridge_engine` that a job writes
-//! the meaning of the bytes of its input; the laws here say what that is. The crate has no other
-//! functions.
+//! The crates of the runs state what each writes line by line, and `bridge_engine` that a
+//! conversion writes the meaning of the bytes of its input; the theorems here state what that is.
+//! The crate has no other functions.
 //!
-//! Of the form of a file (`whole_file`):
+//! Of the format of a file (`whole_file`):
 //!
-//! - [`accepted_bytes_tell_their_form`]: what a job accepts is told as its form by its first line.
+//! - [`accepted_bytes_tell_their_form`]: what a conversion accepts is recognised as its format by
+//!   its first line.
 //!
 //! Of the log of a capture (`capture_log`):
 //!
-//! - [`late_lines_are_told`]: a line is late exactly where one before it has a stamp that is later
+//! - [`late_lines_are_told`]: a line is late exactly if one before it has a time tag that is later
 //!   by more than the window;
 //! - [`events_are_counted`]: a count is the sum over each line alone and over each word received,
 //!   once;
 //! - [`pairs_are_counted_once`]: the order in which the words received are listed does not matter;
-//! - [`refused_lines_are_told`]: a line is refused for a reason exactly where its subframe or frame
+//! - [`refused_lines_are_told`]: a line is rejected for a reason exactly if its subframe or frame
 //!   is, or a word that it completes; and the log is in the order of the lines.
 //!
 //! Of a conversion of a capture:
 //!
 //! - [`converted_captures_come_back`]: the text is that of the items of the periods of the parts
-//!   received, and reads back as these items; [`what_is_converted_comes_back`] says so of the words
-//!   of a command line, and [`what_the_main_theorem_states_comes_back`] of the relations in the
-//!   contract of `bridge`;
+//!   received, and reads back as these items; [`what_is_converted_comes_back`] states so for the
+//!   arguments, and [`what_the_main_theorem_states_comes_back`] of the relations in the contract of
+//!   `bridge`;
 //! - [`order_of_lines_changes_no_text`]: the same lines in another order give the same output;
 //! - [`counts_are_of_lines_and_words`] and [`counts_are_of_periods`]: each count is a number of
 //!   events of lines and words received, or of periods of the parts received.

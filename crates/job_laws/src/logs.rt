@@ -1,4 +1,4 @@
-//! Laws of logs of receivers: each is the contract of an empty function.
+//! Theorems about logs of receivers: each is the contract of an empty function.
 
 ghost use Rattle.std.specs.Prelude.{ℕ, List};
 ghost use Rattle.receiver_frames.specs.Headings.{format_of};
@@ -13,9 +13,9 @@ ghost use Rattle.receiver_log.specs.Receptions.{receptions_of};
 ghost use Rattle.job_laws.specs.LogHeard.{IsHeardAs, IsHeardThrough};
 ghost use Rattle.job_laws.specs.LogTaken.{IsTaken, IsTakenThrough};
 
-/// The capture of a log's bytes has an accepted first line, and its further lines stand, one by
-/// one, for the subframes and the page parts of the log's messages; so its periods are those of
-/// what these yield. Where the log yields none with a time, the capture is empty.
+/// The capture of a log's bytes has an accepted first line, and its further lines encode, one by
+/// one, the subframes and the page parts of the log's messages; so its periods are those of what
+/// these yield. If the log yields none with a time, the capture is empty.
 pub fn a_log_is_heard_through_its_capture()
     ensures ubx { (bytes : List ℕ) → IsHeardThrough
         (receptions_of ubx_said (messages (format_of ubx) bytes))
@@ -32,7 +32,7 @@ pub fn a_log_is_heard_through_its_capture()
 }
 
 /// A text that is the capture of a log of a week is a capture for the runs, whatever it is
-/// converted to: with this week, a window of 7,200 s, and lines that stand for the log's items. Its
+/// converted to: with this week, a window of 7,200 s, and lines that encode the log's items. Its
 /// periods are those of the parts received from these.
 pub fn a_heard_log_is_a_capture()
     ensures { (week : ℕ) (log : List Reception) (text : List ℕ) → IsHeardAs week log text
@@ -40,7 +40,7 @@ pub fn a_heard_log_is_a_capture()
 {}
 
 /// The capture of a log's bytes is such a capture with the log's week; so it is converted to what
-/// the log's messages yield. Where the log has no subframe and no page with a time, it is not a
+/// the log's messages yield. If the log has no subframe and no page with a time, it is not a
 /// capture.
 pub fn a_log_is_converted_through_its_capture()
     ensures ubx { (bytes : List ℕ) → IsTakenThrough

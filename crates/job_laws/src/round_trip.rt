@@ -16,12 +16,12 @@ use rinex_read::{Rinex3, Rinex4};
 
 /// A navigation file that is accepted is written as a capture, and what is received of its lines is
 /// converted back to the text of the items that were sent, in RINEX, RINEX 3 or RTCM: where lines
-/// were lost, or late, and each part is still received; or where they came in another order or
+/// were lost, or late, and each part is still received; or if they came in another order or
 /// repeated, none late.
 ///
-/// Where the transmission was repeated every 30 s for two hours, and each part was received at
-/// least once, the text is that of the same ephemerides in the same order, and of the same
-/// ionospheres in the same order; so in RINEX 3 and RTCM, which have no ionospheres, the same text.
+/// If the transmission was repeated every 30 s for two hours, and each part was received at least
+/// once, the text is that of the same ephemerides in the same order, and of the same ionospheres in
+/// the same order; so in RINEX 3 and RTCM, which have no ionospheres, the same text.
 pub fn a_sent_file_comes_back()
     ensures sent { (words : List (List ℕ)) (r : ℕ) (file text : List ℕ) (items : List NavItem)
         → Sends words r file items → IsWritten words file text

@@ -1,6 +1,6 @@
-//! Tests of the jobs: whole runs of `navbridge` over memory, with the outputs, reports and statuses
-//! that were worked by hand; and of the step from one file to another, which `navconvert` takes,
-//! over folders in memory and files that are played.
+//! Tests of the conversions: complete runs of `navbridge` over memory, with the outputs, reports
+//! and statuses that were worked manually; and of the step from one file to another, which
+//! `navconvert` takes, over directories in memory and simulated files.
 #![tactic(auto)]
 
 #[cfg(test)]

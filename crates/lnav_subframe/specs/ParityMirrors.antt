@@ -1,4 +1,4 @@
--- Mirrors of the code's computation of parity.
+-- Executable counterparts of the code's computation of parity.
 use Rattle.std.specs.Prelude.{◌≡◌, ℕ, zero, suc, ◌+◌, ◌-◌, ◌*◌, ◌%◌, ◌<◌, map, sum}
 use Rattle.std.specs.Int.{bit_at}
 use Rattle.lnav_subframe.specs.Parity.{d29_star, d30_star, row_25, row_26, row_27, row_28, row_29, row_30}

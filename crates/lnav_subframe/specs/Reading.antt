@@ -66,8 +66,8 @@ read_18 p = Ok (IonBody (ion_of p) (start_second p.tow_count))
 abbrev pub page_of : Head → ℕ
 page_of h = if nat_eq h.number 4 then h.page else (if nat_eq h.number 5 then h.page else 0)
 
--- the body of a subframe with this head, given its fields in each layout, or the first fault: TOW count past
--- the week, unused subframe or page, toc or toe past the week
+-- the body of a subframe with this head, given its fields in each layout, or the first error: TOW
+-- count past the week, unused subframe or page, toc or toe past the week
 abbrev pub read_by : Head → Subframe1 → Subframe2 → Subframe3 → Page18 → Result Body LnavFault
 read_by h s1 s2 s3 p =
     if nat_le 100800 h.tow_count then Err BadTow
@@ -77,7 +77,7 @@ read_by h s1 s2 s3 p =
     else (if nat_eq h.number 4 && nat_eq h.page 56 then read_18 p
     else Err (Unused h.number (page_of h))))))
 
--- the body that the data bits of a subframe encode, or the first fault in them
+-- the body that the data bits of a subframe encode, or the first error in them
 abbrev pub content : List ℕ → Result Body LnavFault
 content source = read_by (head_at source 0) (subframe1_at source 0) (subframe2_at source 0) (subframe3_at source 0) (page18_at source 0)
 
@@ -88,17 +88,17 @@ StandsFor bits sat stamp part =
 
 -- ---- the same as a function
 
--- the answer for a body or fault: the part with satellite and stamp, or the fault
+-- the result for a body or error: the part with satellite and time tag, or the error
 abbrev pub heard : Satellite → ℕ → Result Body LnavFault → Result Part LnavFault
 heard sat stamp (Ok body) = Ok (record { stamp = stamp; sat = sat; body = body })
 heard sat stamp (Err fault) = Err fault
 
--- the answer for an upright subframe, given the first word whose parity is wrong, if any
+-- the result for an upright subframe, given the first word whose parity is wrong, if any
 abbrev pub by_words : List ℕ → Satellite → ℕ → Option ℕ → Result Part LnavFault
 by_words bits sat stamp None = heard sat stamp (content (data_bits_of bits))
 by_words bits sat stamp (Some word) = Err (Parity word)
 
--- the part that the bits encode, or their first fault
+-- the part that the bits encode, or their first error
 unfoldable pub subframe_of : List ℕ → Satellite → ℕ → Result Part LnavFault
 subframe_of bits sat stamp =
     if has_preamble bits then by_words (upright bits) sat stamp (bad_word_from (upright bits) 0 10)

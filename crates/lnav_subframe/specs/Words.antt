@@ -33,7 +33,7 @@ complement bytes = map (λ byte. 255 - byte) bytes
 abbrev pub HasPreamble : List ℕ → Type 0
 HasPreamble bits = (number_at bits 0 8 ≡ 139) ⊎ (number_at bits 0 8 ≡ 116)
 
--- the subframe in upright polarity: inverted where it begins with the complement of the preamble
+-- the subframe in upright polarity: inverted if it begins with the complement of the preamble
 abbrev pub upright : List ℕ → List ℕ
 upright bits = if nat_eq (number_at bits 0 8) 116 then complement bits else bits
 

@@ -28,7 +28,7 @@ abbrev pub IsWritable : SubframeOut → Type 0
 IsWritable (Other number page) = (4 ≤ number) × (number ≤ 5) × ((number ≡ 4) → (page ≡ 56) → ⊥)
 IsWritable _ = Unit {0}
 
--- toc or toe, where there is one, is within the week
+-- toc or toe, if there is one, is within the week
 abbrev pub HasTime : SubframeOut → Type 0
 HasTime (Clock clock side wn) = IsStep16 clock.toc
 HasTime (OrbitA orbit fit) = IsStep16 orbit.toe
@@ -113,7 +113,7 @@ pub record AreWords (bits source : List ℕ) : Type 0 where
 abbrev pub IsWritten : SubframeOut → ℕ → List ℕ → Type 0
 IsWritten body tow_count bits = (source : List ℕ) × Holds body tow_count source × AreWords bits source
 
--- the answer when a written subframe is read
+-- the result when a written subframe is read
 abbrev pub read_again : SubframeOut → ℕ → Result Body LnavFault
 read_again (Clock clock side wn) tow_count = Ok (ClockBody clock side (Sent wn (start_second tow_count)))
 read_again (OrbitA orbit fit) tow_count = Ok (OrbitABody orbit fit)
@@ -121,6 +121,6 @@ read_again (OrbitB orbit) tow_count = Ok (OrbitBBody orbit)
 read_again (Ion ion) tow_count = Ok (IonBody ion (start_second tow_count))
 read_again (Other number page) tow_count = Err (Unused number page)
 
--- for every satellite and stamp, reading the bits gives that answer
+-- for every satellite and time tag, reading the bits gives that result
 abbrev pub AllReadAs : List ℕ → Result Body LnavFault → Type 0
 AllReadAs bits answer = (sat : Satellite) (stamp : ℕ) → subframe_of bits sat stamp ≡ heard sat stamp answer

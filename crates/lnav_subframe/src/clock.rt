@@ -16,7 +16,7 @@ pub struct Subframe1 {
     pub health: U<6>,
     /// Issue of data, clock (IODC).
     pub iodc: U<10>,
-    /// The L2 P data flag: 1 where the P code on L2 has no NAV data.
+    /// The L2 P data flag: 1 if the P code on L2 has no NAV data.
     pub l2p: U<1>,
     /// Estimated group delay differential T_GD, in 2^-31 s.
     pub tgd: S<8>,

@@ -1,6 +1,6 @@
 use thiserror::Error;
 
-/// Why a subframe is refused: the first of these that holds, in this order.
+/// Why a subframe is rejected: the first of these that holds, in this order.
 #[derive(Clone, Copy, PartialEq, Eq, Debug, Error)]
 pub enum LnavFault {
     /// It begins neither with the preamble 10001011 nor with its complement.

@@ -14,26 +14,26 @@ ghost use Rattle.lnav_subframe.specs.Writing.{AllReadAs, HasTime, IsWritable, Is
 ghost use Rattle.lnav_subframe.specs.Writing.{read_again};
 
 /// A written subframe is read with the same fields and with the second of the week at which it
-/// starts; an unused page is refused as `Unused` with its number and page.
+/// starts; an unused page is rejected as `Unused` with its number and page.
 pub fn written_is_read()
     ensures { (body : SubframeOut) (tow_count : ℕ) (bits : List ℕ) →
         tow_count < 100800 → IsWritable body → HasTime body →
         IsWritten body tow_count bits → AllReadAs bits (read_again body tow_count) }
 {}
 
-/// The bits are read as a part exactly where they encode it.
+/// The bits are read as a part exactly if they encode it.
 pub fn subframe_function()
     ensures { (bits : List ℕ) (sat : Satellite) (stamp : ℕ) (part : Part) →
         (subframe_of bits sat stamp ≡ Ok part) ↔ StandsFor bits sat stamp part }
 {}
 
-/// Bits are refused with a fault exactly where it is the first fault of the subframe.
+/// Bits are rejected with an error exactly if it is the first error of the subframe.
 pub fn refused_by_the_first_fault()
     ensures { (bits : List ℕ) (sat : Satellite) (stamp : ℕ) (fault : LnavFault) →
         (subframe_of bits sat stamp ≡ Err fault) ↔ IsFirstFault bits fault }
 {}
 
-/// A part that is read has the stamp and satellite given, has a body that a GPS satellite sends,
+/// A part that is read has the time tag and satellite given, has a body that a GPS satellite sends,
 /// and has its fields within their widths in bits.
 pub fn subframe_parts()
     ensures stamp { (bits : List ℕ) (sat : Satellite) (stamp : ℕ) (part : Part) →

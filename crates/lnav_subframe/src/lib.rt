@@ -3,16 +3,16 @@
 //! A subframe has 300 bits, ten words of 30, with the TOW count (units of 6 s), the subframe ID and
 //! a portion of the navigation data.
 //!
-//! - [`read_subframe`] gives the part that some bits encode, or the first fault in them
+//! - [`read_subframe`] gives the part that some bits encode, or the first error in them
 //!   ([`LnavFault`]);
 //! - [`write_subframe`] gives the bits of a [`SubframeOut`].
 //!
 //! Used are the clock (subframe 1), the orbit (subframes 2 and 3) and the ionosphere (page 18 of
-//! subframe 4); other subframes and pages are refused as [`LnavFault::Unused`].
+//! subframe 4); other subframes and pages are rejected as [`LnavFault::Unused`].
 //!
-//! Parity of a word (20.3.5.2, table 20-XIV): [`check_word`] gives its source bits exactly where
-//! the six parity equations hold, [`make_word`] makes the word of 24 source bits, and
-//! [`make_solved`] the word of 22 that ends in two 0 bits, as words 2 and 10 of a subframe do.
+//! Parity of a word (20.3.5.2, table 20-XIV): [`check_word`] gives its source bits exactly if the
+//! six parity equations hold, [`make_word`] makes the word of 24 source bits, and [`make_solved`]
+//! the word of 22 that ends in two 0 bits, as words 2 and 10 of a subframe do.
 //!
 //! ```rust
 //! use lnav_subframe::{LnavFault, SubframeOut, read_subframe, write_subframe};

@@ -24,7 +24,7 @@ pub struct Subframe2 {
     pub root_a: U<32>,
     /// The ephemeris reference time toe, in units of 16 s.
     pub toe: U<16>,
-    /// The fit interval flag: 1 where the curve fit interval is longer than 4 hours.
+    /// The fit interval flag: 1 if the curve fit interval is longer than 4 hours.
     pub fit: U<1>,
 }
 

@@ -17,7 +17,7 @@ pub enum SubframeOut {
     OrbitA {
         /// The orbit parameters of subframe 2.
         orbit: GpsOrbitA,
-        /// The fit interval flag: 1 where the curve fit interval is longer than 4 hours.
+        /// The fit interval flag: 1 if the curve fit interval is longer than 4 hours.
         fit: U<1>,
     },
     /// Subframe 3.

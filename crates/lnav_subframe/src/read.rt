@@ -31,13 +31,13 @@ fn righted(bits: &Bits<38>) -> Result<Bits<38>, LnavFault>
 }
 
 /// Reads the first 300 bits as a subframe of the LNAV message (IS-GPS-200, figure 20-1), received
-/// from a GPS satellite at the stamp in seconds of the logger's clock; the last four bits are
-/// ignored. A subframe that begins with the complement of the preamble is inverted as a whole first
+/// from a GPS satellite at the time tag in seconds of the logger's clock; the last four bits are
+/// ignored. A subframe that begins with the complement of the preamble is inverted completely first
 /// (phase ambiguity of the receiver).
 ///
-/// The error is the first of these faults: no preamble; the first word whose parity is wrong; a TOW
-/// count of 100,800 or more; a subframe other than 1, 2, 3 and page 18 of 4; a toc or toe of 37,800
-/// units of 16 s or more.
+/// The error is the first of these: no preamble; the first word whose parity is wrong; a TOW count
+/// of 100,800 or more; a subframe other than 1, 2, 3 and page 18 of 4; a toc or toe of 37,800 units
+/// of 16 s or more.
 pub fn read_subframe(bits: &Bits<38>, sat: Sat, stamp: u32) -> Result<Part, LnavFault>
     requires { sat.system ≡ Gps }
     ensures whole { IfOk result (λ part. IsPart part.sat part.body) }

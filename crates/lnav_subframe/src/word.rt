@@ -4,7 +4,7 @@ ghost use Rattle.lnav_subframe.specs.Parity.{IsGood, IsSource, IsSolved};
 use crate::parity::{inverted, parity_of};
 use nav_bits::U;
 
-/// The source bits d1 to d24 of a word, d1 the most significant; `None` where one of its six parity
+/// The source bits d1 to d24 of a word, d1 the most significant; `None` if one of its six parity
 /// equations fails (IS-GPS-200, 20.3.5.2). `last2` is D29* and D30*, the last two bits of the
 /// previous word.
 pub fn check_word(word: U<30>, last2: U<2>) -> Option<U<24>>

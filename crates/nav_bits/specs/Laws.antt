@@ -1,4 +1,4 @@
--- Laws on bit fields, which proofs about layouts, checksums and messages cite.
+-- Theorems on bit fields, which proofs about layouts, checksums and messages cite.
 use Rattle.std.proofs.Common.{◌≡◌, ℕ, zero, suc, ◌+◌, ◌-◌, ◌*◌, ◌/◌, ◌%◌, ◌^◌, ◌<◌, ◌≤◌, List, slice_index, nat_le, true, replicate, refl, sym, ap, ◌∙◌, arith}
 use Rattle.std.proofs.Math.Nat.{pow-suc, mod-one, mod-eq_of_lt}
 use Rattle.std.proofs.lemmas.Nat.{shr-shr, mod-pow-add}

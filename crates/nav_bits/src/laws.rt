@@ -43,7 +43,7 @@ pub fn byte_lists()
         number_at a 0 (8 * n) ≡ number_at b 0 (8 * n) → a ≡ b }
 {}
 
-/// Where the fields fill `n` bytes, `packed` holds each at its bit offset, and reserved bits are 0.
+/// If the fields fill `n` bytes, `packed` holds each at its bit offset, and reserved bits are 0.
 pub fn packed_stand()
     ensures fields { (n : ℕ) (fields : List Field) → AllFit fields → table_width fields ≡ 8 * n →
         StandFrom (packed n fields) 0 0 fields }

@@ -10,7 +10,7 @@
 //! - [`Layout`] and [`BitForm`], the contract of an encoding: unpacking gives what was packed, and
 //!   packing changes no other bits;
 //! - `packed` in the definitions, the bytes of a table's concatenated fields with reserved bits 0,
-//!   and [`packed_are_the_only`], which says that no other bytes are so;
+//!   and [`packed_are_the_only`], which states that no other bytes are so;
 //! - [`put_numbers`], which writes a table of fields, and `join` and `split` of [`U`] and [`S`],
 //!   for fields split into two bit ranges.
 //!

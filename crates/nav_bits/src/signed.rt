@@ -55,7 +55,7 @@ pub fn sign_extended(bit_pattern: u64, width: u32) -> i64
 }
 
 impl<const W: u32> S<W> {
-    /// The number as `W` bits; `None` where it is out of range.
+    /// The number as `W` bits; `None` if it is out of range.
     pub fn new(value: i64) -> Option<Self>
         ensures exactly { IsSome result ↔ IsSigned W value }
         ensures same { IfSome result (λ s. s ≡ value) }

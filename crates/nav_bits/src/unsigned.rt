@@ -24,7 +24,7 @@ impl<const W: u32> Model for U<W> {
 }
 
 impl<const W: u32> U<W> {
-    /// The number as `W` bits; `None` where it is out of range.
+    /// The number as `W` bits; `None` if it is out of range.
     pub fn new(value: u64) -> Option<Self>
         ensures exactly { IsSome result ↔ (value < 2 ^ W) }
         ensures same { IfSome result (λ u. u ≡ value) }
@@ -47,7 +47,7 @@ impl<const W: u32> U<W> {
         self.raw
     }
 
-    /// The number as `W` bits, where the caller knows that it is in range.
+    /// The number as `W` bits, if the caller knows that it is in range.
     pub fn from_bits(raw: u64) -> Self
         requires { raw < 2 ^ W }
         ensures { result ≡ raw }

@@ -80,6 +80,6 @@ frame_by epoch frame =
     else if not (has_day frame) then Err Day
     else Ok (frame_told epoch frame)
 
--- the numbers of the frame of these times, without additional data, or the first fault
+-- the numbers of the frame of these times, without additional data, or the first error
 unfoldable pub frame_in : Times → Result FrameTime TimeFault
 frame_in times = frame_by (times.epoch + 10800) (times.frame + 10800)

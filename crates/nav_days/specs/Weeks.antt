@@ -13,8 +13,7 @@ pub record IsWeekNear (rule : WeekRule) (r n w : ℕ) : Type 0 where
   pub from : first_week rule r ≤ w
   pub to : w < first_week rule r + 2 ^ rule.bits
 
--- 1 to 13 bits, week 0 before week 7000, and no reference week near which a number stands for week
--- 0
+-- 1 to 13 bits, week 0 before week 7000, and no reference week near which a number means week 0
 abbrev pub is_week_rule : WeekRule → Bool
 is_week_rule rule = nat_le 1 rule.bits && nat_le rule.bits 13 && nat_le rule.zero 7000
     && nat_le 1 (first_week rule 1024)

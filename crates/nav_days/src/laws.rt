@@ -9,14 +9,14 @@ ghost use Rattle.nav_days.specs.Times.{IsTimeOf, frame_in, times_to};
 ghost use Rattle.nav_days.specs.declared.week.WeekRule.{WeekRule};
 ghost use Rattle.nav_days.specs.Weeks.{IsWeekNear, first_week, number_of_week, week_to};
 
-/// A week number stands for exactly one week near a reference week.
+/// A week number means exactly one week near a reference week.
 pub fn one_week()
     ensures meant { (rule : WeekRule) (r n : ℕ) → IsWeekNear rule r n (week_to rule r n) }
     ensures only { (rule : WeekRule) (r n v w : ℕ) →
         IsWeekNear rule r n v → IsWeekNear rule r n w → v ≡ w }
 {}
 
-/// The number of a week near a reference week stands for it, and the week of a number has it.
+/// The number of a week near a reference week means it, and the week of a number has it.
 pub fn weeks_come_back()
     ensures week { (rule : WeekRule) (r w : ℕ) → first_week rule r ≤ w →
         w < first_week rule r + 2 ^ rule.bits → week_to rule r (number_of_week rule w) ≡ w }
@@ -30,7 +30,7 @@ pub fn days_are_dates()
         first_day +ℤ pos (start n) ≡ days_from_civil (pos (1992 + 4 * n)) 1 1 }
 {}
 
-/// `nearest_to` gives the nearest day of a number, the earlier of two, where there is one.
+/// `nearest_to` gives the nearest day of a number, the earlier of two, if there is one.
 pub fn nearest_days()
     ensures some { (c nt k d : ℕ) → nearest_to c nt k ≡ Some d → IsNearestDay c nt k d }
     ensures none { (c nt k j d : ℕ) → nearest_to c nt k ≡ None → 1 ≤ j → j ≤ k →

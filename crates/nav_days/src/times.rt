@@ -7,7 +7,7 @@ ghost use Rattle.nav_days.specs.Times.{has_day, is_sent, time_of, times_on, time
 use crate::day::{day_of_number, nearest_day, number_of_day};
 use gnss_week::{Moment, RefWeek};
 
-/// The times of a GLONASS frame as its message tells them, in Moscow time.
+/// The times of a GLONASS frame as its message gives them, in Moscow time.
 #[derive(Clone, Copy, PartialEq, Eq)]
 pub struct FrameTime {
     /// Whether the message has additional data.
@@ -94,7 +94,7 @@ fn times_on(time: &FrameTime, day: u32) -> Times
     }
 }
 
-/// The times of a frame near a reference week; None where no day has its number.
+/// The times of a frame near a reference week; None if no day has its number.
 pub fn times_of(time: &FrameTime, reference: RefWeek) -> Option<Times>
     requires { IsFrameTime time.now }
     ensures { result ≡ times_to time.now reference }
@@ -140,9 +140,9 @@ fn frame_told(epoch: u64, frame: u64) -> FrameTime
     }
 }
 
-/// The times of a frame as its message tells them, without additional data.
+/// The times of a frame as its message gives them, without additional data.
 ///
-/// The error is the first fault, in the order of [`TimeFault`].
+/// The error is the first one, in the order of [`TimeFault`].
 #[tactic(auto, unfolding(crate::specs::Times::frame_in))]
 pub fn frame_time(times: &Times) -> Result<FrameTime, TimeFault>
     ensures value { result ≡ frame_in times.now }

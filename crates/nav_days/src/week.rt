@@ -51,7 +51,7 @@ fn first_from(rollover: u32, low: u32, number: u32) -> u32
 
 /// The week of a week number near a reference week: the one equal to it, counted from `zero`,
 /// modulo 2^`bits` in the 2^`bits` weeks from half of them before the reference week, or from
-/// `zero` where that is later.
+/// `zero` if that is later.
 pub fn week_near(rule: &WeekRule, reference: RefWeek, number: u32) -> Week
     requires rule { IsTrue (is_week_rule rule.now) }
     requires number { number < 2 ^ rule.now.bits }

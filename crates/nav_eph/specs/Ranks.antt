@@ -1,5 +1,5 @@
--- Parts and items as lists of numbers in the order of their fields: equality of the lists is equality of the values, but
--- for the transmission time where it is left out.
+-- Parts and items as lists of numbers in the order of their fields: equality of the lists is
+-- equality of the values, but for the transmission time if it is left out.
 use Rattle.std.specs.Prelude.{ℤ, pos, Bool, true, false, ◌&&◌, List, [], ◌∷◌, ◌++◌}
 use Rattle.std.specs.Ordering.{int_eq}
 use Rattle.nav_eph.specs.Satellite.{Satellite, place_of}

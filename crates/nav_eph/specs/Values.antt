@@ -19,7 +19,8 @@ IsBodyValue (OfGpsIon ionosphere second) = IsGpsIon ionosphere × IsSecond secon
 IsBodyValue (OfGalIon ionosphere wn second) = IsGalIon ionosphere × IsSecond second
 IsBodyValue _ = Unit {0}
 
--- what holds of every part by its type: the stamp has 32 bits, and fields that are compared are in range
+-- what holds of every part by its type: the time tag has 32 bits, and fields that are compared are
+-- in range
 pub record IsPartValue (p : Part) : Type 0 where
   pub stamp : p.stamp < 2 ^ 32
   pub body : IsBodyValue p.body

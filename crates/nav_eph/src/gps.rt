@@ -29,7 +29,7 @@ pub struct GpsSide {
     pub ura: U<4>,
     /// SV health.
     pub health: U<6>,
-    /// L2 P data flag: 1 where the navigation data stream on the L2 P-code is off.
+    /// L2 P data flag: 1 if the navigation data stream on the L2 P-code is off.
     pub l2p: U<1>,
 }
 

@@ -96,7 +96,7 @@ fn is_sent_second(sent: &SentSecond) -> bool
 }
 
 impl GpsEph {
-    /// The ephemeris of these fields; `None` where the satellite is not one of GPS, the IODEs of
+    /// The ephemeris of these fields; `None` if the satellite is not one of GPS, the IODEs of
     /// subframes 2 and 3 differ, or `sent` is out of range.
     pub fn new(
         sat: Sat,
@@ -152,8 +152,8 @@ impl GpsEph {
 }
 
 impl GalEph {
-    /// The ephemeris of these fields; `None` where the satellite is not one of Galileo, the IODnavs
-    /// of the four words differ, or `sent` is out of range.
+    /// The ephemeris of these fields; `None` if the satellite is not one of Galileo, the IODnavs of
+    /// the four words differ, or `sent` is out of range.
     pub fn new(
         sat: Sat,
         w1: GalWord1,
@@ -215,8 +215,8 @@ impl GalEph {
 }
 
 impl IonEph {
-    /// The item of these fields; `None` where the satellite is not of the system of the parameters,
-    /// or the transmission time is in week 0 or 16383.
+    /// The item of these fields; `None` if the satellite is not of the system of the parameters, or
+    /// the transmission time is in week 0 or 16383.
     pub fn new(sat: Sat, moment: Moment, content: IonContent) -> Option<Self>
         ensures exactly { IsSome result ↔ IsIonEph sat moment content }
         ensures same { IfSome result (λ e. e ≡ record {

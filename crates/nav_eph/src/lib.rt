@@ -2,16 +2,15 @@
 //!
 //! A GPS ephemeris is broadcast in three subframes (IS-GPS-200, 20.3.3), a Galileo ephemeris in
 //! four word types and its health in a fifth (Galileo OS SIS ICD, 4.3.5), each parameter as an
-//! integer of fixed width. Here parameters are kept as broadcast, unscaled:
+//! integer of fixed width. Here parameters are stored as broadcast, unscaled:
 //!
 //! - [`Body`], the content of one subframe, word or message, and [`Part`], a body with its
 //!   satellite and time of reception;
 //! - [`GpsEph`], [`GalEph`] and [`IonEph`], complete values, and [`NavItem`], one of these;
 //! - [`Sat`], [`Signal`], [`SentTag`] and the small numbers [`Step16`], [`Step60`] and [`Sisa`].
 //!
-//! A constructor gives `None` exactly where its arguments are inconsistent or out of range. Where
-//! one of several received values is to be chosen, they are compared by the numbers that `number`
-//! gives.
+//! A constructor gives `None` exactly if its arguments are inconsistent or out of range. If one of
+//! several received values is to be chosen, they are compared by the numbers that `number` gives.
 //!
 //! ```rust
 //! use nav_eph::{Sat, System};

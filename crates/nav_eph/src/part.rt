@@ -78,7 +78,7 @@ fn has_gps_week(body: &Body) -> bool
 }
 
 impl Part {
-    /// The part received at that second; `None` where the satellite is not of the body's system, or
+    /// The part received at that second; `None` if the satellite is not of the body's system, or
     /// the week number of a GPS tag has more than ten bits.
     pub fn new(stamp: u32, sat: Sat, body: Body) -> Option<Self>
         ensures exactly { IsSome result ↔ IsPart sat body }

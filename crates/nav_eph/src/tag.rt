@@ -16,7 +16,7 @@ pub enum SentTag {
         /// The time of week.
         second: Second,
     },
-    /// The ephemeris reference time, where a message gives no transmission time.
+    /// The ephemeris reference time, if a message gives no transmission time.
     Toe {
         /// The week number as sent.
         wn: U<12>,

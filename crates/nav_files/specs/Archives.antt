@@ -19,7 +19,7 @@ use Rattle.one_run.specs.Runs.{Meaning}
 use Rattle.nav_files.specs.Files.{counts_of_reads, file_counts_text, file_meaning, refusals_text}
 use Rattle.nav_files.specs.declared.merge_counts.MergeCounts.{MergeCounts}
 
--- the item of a record of a file, where it has one
+-- the item of a record of a file, if it has one
 abbrev pub item_of : ItemRead → List NavItem
 item_of (Item line item) = item ∷ []
 item_of (Refused line reason) = []
@@ -63,8 +63,8 @@ cover_text items = flat_map cover_line (covers_of items)
 abbrev pub cover_counts_text : List ItemRead → List ℕ
 cover_counts_text reads = file_counts_text (counts_of_reads reads)
 
--- What a run makes of a file, or of several concatenated: a leading text, and the text of all items at the end; the report has a
--- line for each record that is refused, and the text of the counts.
+-- What a run makes of a file, or of several concatenated: a leading text, and the text of all items
+-- at the end; the report has a line for each record that is rejected, and the text of the counts.
 abbrev pub archive_meaning : {C : Type 0} → List ℕ → (List NavItem → List ℕ) → (List ItemRead → List ℕ) → (List ItemRead → C) → Meaning C
 archive_meaning prefix text after count =
     file_meaning rinex4 true (λ reads. prefix) refusals_text (λ reads. prefix ++ text (items_of reads)) (λ reads. refusals_text reads ++ after reads) count

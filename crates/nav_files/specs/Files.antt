@@ -16,7 +16,7 @@ use Rattle.one_run.specs.Reports.{report_line, count_line}
 use Rattle.one_run.specs.Runs.{Meaning}
 use Rattle.nav_files.specs.declared.counts.RinexCounts.{RinexCounts}
 
--- the report's word for why a record is refused
+-- the report's word for why a record is rejected
 abbrev pub reason_text : Reason → List ℕ
 reason_text BadSat = codes "satellite"
 reason_text Short = codes "short"
@@ -36,21 +36,22 @@ read_text text (Refused line reason) = []
 read_text text (PassedOver line) = []
 read_text text End = []
 
--- the report line of a refused record: the number of its first line, and the reason; empty for other records
+-- the report line of a rejected record: the number of its first line, and the reason; empty for
+-- other records
 abbrev pub read_report : ItemRead → List ℕ
 read_report (Item line item) = []
 read_report (Refused line reason) = report_line (codes "line") line (reason_text reason)
 read_report (PassedOver line) = []
 read_report End = []
 
--- 1 for a refused record, else 0
+-- 1 for a rejected record, else 0
 abbrev pub is_refused_read : ItemRead → ℕ
 is_refused_read (Item line item) = 0
 is_refused_read (Refused line reason) = 1
 is_refused_read (PassedOver line) = 0
 is_refused_read End = 0
 
--- 1 for a record that is passed over, else 0
+-- 1 for a record that is skipped, else 0
 abbrev pub is_passed : ItemRead → ℕ
 is_passed (Item line item) = 0
 is_passed (Refused line reason) = 0
@@ -80,24 +81,25 @@ file_counts_text c =
     ((count_line (codes "records") c.records ++ count_line (codes "refused") c.refused)
     ++ count_line (codes "passed") c.passed) ++ count_line (codes "items") c.items
 
--- a function of the records, applied to a file: nothing where its header is refused
+-- a function of the records, applied to a file: nothing if its header is rejected
 abbrev pub counted_in : {C : Type 0} → (List ItemRead → C) → Result (List ItemRead) HeaderFault → Option C
 counted_in count (Ok reads) = Some (count reads)
 counted_in count (Err fault) = None
 
--- a text of the records, applied to a file: empty where its header is refused
+-- a text of the records, applied to a file: empty if its header is rejected
 abbrev pub text_in : (List ItemRead → List ℕ) → Result (List ItemRead) HeaderFault → List ℕ
 text_in text (Ok reads) = text reads
 text_in text (Err fault) = []
 
--- what is written before the last of these records; nothing where there is none
+-- what is written before the last of these records; nothing if there is none
 abbrev pub text_before : (List ItemRead → List ℕ) → List ItemRead → List ℕ
 text_before text [] = []
 text_before text (r ∷ rs) = text (but_last (r ∷ rs))
 
--- A run over a file of a form: whether it takes memory, what it has written and reported after some records, what it writes and
--- reports of all records, and what it counts. After a failed read it has processed the records that are complete in the bytes; after
--- any fault it has written at least what is written before the last of the records complete in all bytes but the last 4,096.
+-- A run over a file of a format: whether it takes memory, what it has written and reported after
+-- some records, what it writes and reports of all records, and what it counts. After a failed read
+-- it has processed the records that are complete in the bytes; after any error it has written at
+-- least what is written before the last of the records complete in all bytes but the last 4,096.
 abbrev pub file_meaning : {C : Type 0} → Form → Bool → (List ItemRead → List ℕ) → (List ItemRead → List ℕ) → (List ItemRead → List ℕ) → (List ItemRead → List ℕ)
     → (List ItemRead → C) → Meaning C
 file_meaning f memory text told output report count = record {
@@ -115,7 +117,7 @@ file_meaning f memory text told output report count = record {
 abbrev pub convert_text : Target → List ItemRead → List ℕ
 convert_text to reads = prefix_text to ++ flat_map (read_text (item_text to)) reads
 
--- what is reported of them before the end: a line for each record that is refused
+-- what is reported of them before the end: a line for each record that is rejected
 abbrev pub refusals_text : List ItemRead → List ℕ
 refusals_text reads = flat_map read_report reads
 

@@ -32,6 +32,6 @@ counted c x = record {
   times = c.times;
 }
 
--- every record counted is refused, passed over or an item
+-- every record counted is rejected, skipped or an item
 abbrev pub AreCounted : RinexCounts → Type 0
 AreCounted c = c.refused + c.passed + c.items ≡ c.records

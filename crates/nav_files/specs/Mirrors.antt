@@ -37,11 +37,11 @@ counted c read = record {
   times = read_times c.times read;
 }
 
--- every record counted is refused, passed over or an item
+-- every record counted is rejected, skipped or an item
 abbrev pub AreCounted : RinexCounts → Type 0
 AreCounted c = c.refused + c.passed + c.items ≡ c.records
 
--- the state of the header at a fault
+-- the state of the header at an error
 abbrev pub HeaderFaultOf : BridgeFault → RecordsState → Type 0
 HeaderFaultOf ReadFault new = (is_waiting new.header ≡ true) × BrokeBy lines.ReadFault new
 HeaderFaultOf TooLong new = (is_waiting new.header ≡ true) × BrokeBy lines.TooLong new
@@ -54,7 +54,7 @@ BreaksRead f left left_new old new ReadFault = BreaksRecord f left left_new old 
 BreaksRead f left left_new old new TooLong = BreaksRecord f left left_new old new lines.TooLong
 BreaksRead f left left_new old new _ = ⊥
 
--- The header is refused, whatever bytes follow, or the reader breaks off in it.
+-- The header is rejected, whatever bytes follow, or the reader breaks off in it.
 pub record NoHeader (f : Form) (left left_new : Option (List ℕ)) (old new : RecordsState) (fault : BridgeFault) : Type 0 where
   pub steps : HeaderSteps f left left_new old new
   pub early : AreEarly old.lines steps.reads.taken steps.lines

@@ -24,7 +24,7 @@ fault_text faults.Issue = codes "issue"
 fault_text faults.Week = codes "week"
 fault_text faults.Room = codes "room"
 
--- the outcome of an item, by whether it is an ephemeris and by its fault
+-- the outcome of an item, by whether it is an ephemeris and by its error
 abbrev pub told_item : ℕ → ℕ → NavItem → Bool → Option SendFault → Told
 told_item line slot item false fault = NotSent
 told_item line slot item true None = Sent slot item
@@ -63,7 +63,8 @@ told_text (Withheld line fault) = []
 told_text (Refused line reason) = []
 told_text PassedOver = []
 
--- the report line of a record: the number of its first line, and why it is refused or may not be transmitted
+-- the report line of a record: the number of its first line, and why it is rejected or may not be
+-- transmitted
 abbrev pub told_report : Told → List ℕ
 told_report (Sent slot item) = []
 told_report NotSent = []
@@ -71,7 +72,7 @@ told_report (Withheld line fault) = report_line (codes "line") line (fault_text 
 told_report (Refused line reason) = report_line (codes "line") line (reason_text reason)
 told_report PassedOver = []
 
--- 1 for a record that is refused, or an ephemeris that may not be transmitted, else 0
+-- 1 for a record that is rejected, or an ephemeris that may not be transmitted, else 0
 abbrev pub is_refused_told : Told → ℕ
 is_refused_told (Sent slot item) = 0
 is_refused_told NotSent = 0
@@ -79,7 +80,7 @@ is_refused_told (Withheld line fault) = 1
 is_refused_told (Refused line reason) = 1
 is_refused_told PassedOver = 0
 
--- 1 for a record that is passed over, else 0
+-- 1 for a record that is skipped, else 0
 abbrev pub is_passed : Told → ℕ
 is_passed (Sent slot item) = 0
 is_passed NotSent = 0
@@ -113,8 +114,8 @@ sends_text r reads = sent_text r (items_of reads)
 abbrev pub sends_text_so_far : ℕ → List ItemRead → List ℕ
 sends_text_so_far r reads = sent_head ++ flat_map told_text (tolds r 0 reads)
 
--- what is reported of them before the end: a line for each record that is refused and for each ephemeris that may not be
--- transmitted, in the order of the records
+-- what is reported of them before the end: a line for each record that is rejected and for each
+-- ephemeris that may not be transmitted, in the order of the records
 abbrev pub withheld_text : ℕ → List ItemRead → List ℕ
 withheld_text r reads = flat_map told_report (tolds r 0 reads)
 

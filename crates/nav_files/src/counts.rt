@@ -11,9 +11,9 @@ use outlets::Times;
 pub struct RinexCounts {
     /// The records.
     pub records: u64,
-    /// The records that were refused.
+    /// The records that were rejected.
     pub refused: u64,
-    /// The records of other kinds, which were passed over.
+    /// The records of other kinds, which were skipped.
     pub passed: u64,
     /// The items, repeats included.
     pub items: u64,

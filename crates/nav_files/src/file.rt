@@ -14,8 +14,8 @@ use rinex_read::{FileForm, HeaderFault, RecordReader};
 ///
 /// # Errors
 ///
-/// `NotThisForm` where the header is refused; `ReadFault` only where the input's fault count rose
-/// or is at its maximum; `TooLong` only where 4,294,967,295 bytes were read and there was one more.
+/// `NotThisForm` if the header is rejected; `ReadFault` only if the input's error count rose or is
+/// at its maximum; `TooLong` only if 4,294,967,295 bytes were read and there was one more.
 pub fn pass_header<F: FileForm, S: Source>(
     records: &mut RecordReader<F>,
     input: &mut S,

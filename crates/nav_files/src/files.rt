@@ -19,18 +19,18 @@ use rinex_read::{Rinex3, Rinex4};
 ///
 /// First the header is checked. Then the leading text is written, and after each record the
 /// conversion of its item, repeats included: a RINEX record, an RTCM frame or a line of a list. A
-/// refused record gives a line of the report, with the number of its first line, and the report
+/// rejected record gives a line of the report, with the number of its first line, and the report
 /// ends with the counts.
 ///
 /// # Errors
 ///
-/// - `NotThisForm` exactly where the header is refused; nothing is written then.
-/// - `ReadFault`, `WriteFault`, `ReportFault` only where the fault count of the input, the output
-///   or the report rose, or is at its maximum. After a failed read exactly what the records give
-///   that are complete in the bytes read was written and reported: those that are followed by the
-///   complete first line of another. After any other fault at least what is written before the last
+/// - `NotThisForm` exactly if the header is rejected; nothing is written then.
+/// - `ReadFault`, `WriteFault`, `ReportFault` only if the error count of the input, the output or
+///   the report rose, or is at its maximum. After a failed read exactly what the records give that
+///   are complete in the bytes read was written and reported: those that are followed by the
+///   complete first line of another. After any other error at least what is written before the last
 ///   of the records that are complete in all bytes read but the last 4,096.
-/// - `TooLong` only where 4,294,967,295 bytes were read and there was one more.
+/// - `TooLong` only if 4,294,967,295 bytes were read and there was one more.
 ///
 /// It allocates no memory.
 pub fn run_rinex<S: Source, T: Sink, U: Sink>(

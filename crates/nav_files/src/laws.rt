@@ -1,4 +1,4 @@
-//! Laws of what is written of a file: each is the contract of an empty function.
+//! Theorems about what is written of a file: each is the contract of an empty function.
 
 ghost use Rattle.std.specs.Prelude.{◌≡◌, ℕ, List, IsOk};
 ghost use Rattle.std.specs.List.{flat_map};
@@ -24,8 +24,7 @@ pub fn what_is_written_is_the_sent_text()
 {}
 
 /// What a run writes of files is the text of a list: of the items of the file, of the merged list,
-/// or of the times that the items cover. A header stands before it where that of the file is
-/// accepted.
+/// or of the times that the items cover. A header is before it if that of the file is accepted.
 pub fn what_is_written_is_the_text_of_a_list()
     ensures rinex { (f : Form) (words : HeaderWords) (bytes : List ℕ) → IsOk (file_reads f bytes)
         → (convert_meaning f (targets.Rinex words)).whole.output bytes

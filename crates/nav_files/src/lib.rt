@@ -10,7 +10,7 @@
 //!   concatenated, and [`run_cover`], a line for each range of time that their ephemerides cover.
 //!
 //! The output and the report of a run are functions of the bytes that it took: `specs/Files.antt`,
-//! `specs/Sends.antt` and `specs/Archives.antt` state them. A fault leaves a prefix of each.
+//! `specs/Sends.antt` and `specs/Archives.antt` state them. An error leaves a prefix of each.
 //!
 //! ```rust
 //! use nav_files::{RinexTo, run_rinex};

@@ -7,9 +7,9 @@ use outlets::Times;
 pub struct MergeCounts {
     /// The records.
     pub records: u64,
-    /// The records that were refused.
+    /// The records that were rejected.
     pub refused: u64,
-    /// The records of other kinds, which were passed over.
+    /// The records of other kinds, which were skipped.
     pub passed: u64,
     /// The items that were read, repeats included.
     pub items: u64,

@@ -15,7 +15,7 @@ use one_run::BridgeFault;
 use outlets::with_item;
 use rinex_read::{FileForm, ItemRead, Reason, RecordReader};
 
-/// The fault of a run whose reading of lines failed so.
+/// The error of a run whose reading of lines failed so.
 pub fn fault_of(fault: LineFault) -> BridgeFault
     ensures { result ≡ fault_by fault }
 {
@@ -25,7 +25,7 @@ pub fn fault_of(fault: LineFault) -> BridgeFault
     }
 }
 
-/// Why a record is refused, in a word.
+/// Why a record is rejected, in one word.
 pub fn reason_word(reason: Reason) -> &'static [u8]
     ensures word { result.now ≡ reason_text reason }
     ensures short { length result.now ≤ 32 }
@@ -64,12 +64,12 @@ pub fn count_read(read: &ItemRead, counts: &mut RinexCounts)
     counts.records += 1;
 }
 
-/// The next record; `None` at the end of the file. An item that is read is whole: its fields fit
+/// The next record; `None` at the end of the file. An item that is read is complete: its fields fit
 /// their widths in bits, and its parts fit together.
 ///
 /// # Errors
 ///
-/// `ReadFault` only where the input's fault count rose or is at its maximum; `TooLong` only where
+/// `ReadFault` only if the input's error count rose or is at its maximum; `TooLong` only if
 /// 4,294,967,295 bytes were read and there was one more.
 pub fn next_read<F: FileForm, S: Source>(
     records: &mut RecordReader<F>,

@@ -18,20 +18,20 @@ use std::alloc::Global;
 /// Reads navigation files of RINEX 4, concatenated, to their end, and writes one file with the
 /// merged list of their items.
 ///
-/// The header is checked first, and that of the merged file is written. A refused record gives a
+/// The header is checked first, and that of the merged file is written. A rejected record gives a
 /// line of the report, with the number of its first line. At the end of the input the items are
-/// written in order of rank, of alike items the one with the earliest transmission time, and the
-/// counts are reported.
+/// written in order of rank, of repeats the one with the earliest transmission time, and the counts
+/// are reported.
 ///
 /// # Errors
 ///
-/// - `NotThisForm` exactly where the header is refused; nothing is written then.
-/// - `ReadFault`, `WriteFault`, `ReportFault` only where the fault count of the input, the output
-///   or the report rose, or is at its maximum. After a failed read only the header was written, and
+/// - `NotThisForm` exactly if the header is rejected; nothing is written then.
+/// - `ReadFault`, `WriteFault`, `ReportFault` only if the error count of the input, the output or
+///   the report rose, or is at its maximum. After a failed read only the header was written, and
 ///   exactly the refusals of the records that are complete in the bytes read were reported. After
-///   any other fault the header was written where a record is complete in all bytes read but the
-///   last 4,096.
-/// - `TooLong` only where 4,294,967,295 bytes were read and there was one more.
+///   any other error the header was written if a record is complete in all bytes read but the last
+///   4,096.
+/// - `TooLong` only if 4,294,967,295 bytes were read and there was one more.
 /// - `NoMemory` when memory for the items is missing.
 pub fn run_merge<S: Source, T: Sink, U: Sink>(
     alloc: Global,

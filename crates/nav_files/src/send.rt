@@ -19,19 +19,19 @@ use rinex_read::{Rinex3, Rinex4};
 ///
 /// First the header is checked. Then the first line, `NAVCAP 1`, is written, and after each record
 /// of an ephemeris that may be transmitted the lines of its slot, repeats included; slots are
-/// counted from 0. A refused record, and an ephemeris that may not be transmitted, give a line of
-/// the report, with the number of their first line; such an ephemeris counts as refused, and not as
-/// an item. The report ends with the counts. Ionospheres are items, and are not transmitted.
+/// counted from 0. A rejected record, and an ephemeris that may not be transmitted, give a line of
+/// the report, with the number of their first line; such an ephemeris counts as rejected, and not
+/// as an item. The report ends with the counts. Ionospheres are items, and are not transmitted.
 ///
 /// # Errors
 ///
-/// - `NotThisForm` exactly where the header is refused; nothing is written then.
-/// - `ReadFault`, `WriteFault`, `ReportFault` only where the fault count of the input, the output
-///   or the report rose, or is at its maximum. After a failed read exactly what the records give
-///   that are complete in the bytes read was written and reported. After any other fault at least
-///   what is written before the last of the records that are complete in all bytes read but the
-///   last 4,096.
-/// - `TooLong` only where 4,294,967,295 bytes were read and there was one more.
+/// - `NotThisForm` exactly if the header is rejected; nothing is written then.
+/// - `ReadFault`, `WriteFault`, `ReportFault` only if the error count of the input, the output or
+///   the report rose, or is at its maximum. After a failed read exactly what the records give that
+///   are complete in the bytes read was written and reported. After any other error at least what
+///   is written before the last of the records that are complete in all bytes read but the last
+///   4,096.
+/// - `TooLong` only if 4,294,967,295 bytes were read and there was one more.
 ///
 /// It allocates no memory.
 pub fn send_rinex<S: Source, T: Sink, U: Sink>(

@@ -1,4 +1,4 @@
-//! The job that transmits the ephemerides of a file.
+//! The conversion that transmits the ephemerides of a file.
 
 ghost use Rattle.std.specs.Prelude.{◌≡◌, ◌++◌, false};
 ghost use Rattle.std.specs.List.{flat_map};

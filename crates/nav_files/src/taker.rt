@@ -159,7 +159,7 @@ fn process_records<F: FileForm, K: Taker, S: Source, T: Sink, U: Sink>(
     }
 }
 
-/// Reads a navigation file of a form to its end.
+/// Reads a navigation file of a format to its end.
 ///
 /// The header is checked first; then the records are processed in order, and at the end the counts
 /// are reported.

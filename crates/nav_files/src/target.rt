@@ -9,7 +9,7 @@ use rinex_write::HeaderWords;
 /// What a navigation file is converted to.
 #[derive(Clone, Copy)]
 pub enum RinexTo {
-    /// A navigation file of RINEX 4.01, whose header says these words.
+    /// A navigation file of RINEX 4.01, with these texts in its header.
     Rinex(HeaderWords),
     /// A navigation file of RINEX 3.05, without ionosphere records.
     Rinex3(HeaderWords),

@@ -31,7 +31,7 @@ pub enum Told {
         /// Why not.
         fault: SendFault,
     },
-    /// A record that is refused.
+    /// A record that is rejected.
     Refused {
         /// The number of its first line.
         line: u32,

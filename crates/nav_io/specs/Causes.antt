@@ -1,4 +1,4 @@
--- Counts of faults. A count never falls, and saturates at 2^64 - 1.
+-- Counts of errors. A count never falls, and saturates at 2^64 - 1.
 use Rattle.std.specs.Prelude.{◌≡◌, ◌≤◌, ◌+◌, ◌-◌, ◌^◌, ℕ, Result, min, OnOk, OnErr}
 
 -- the count rose, or is saturated

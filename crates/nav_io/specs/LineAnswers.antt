@@ -1,4 +1,4 @@
--- What a call of `Lines::next` answers.
+-- What a call of `Lines::next` returns.
 use Rattle.std.specs.Prelude.{ℕ, true, false, List, Option}
 use Rattle.nav_io.specs.LinesState.{LinesState, GivesLine, GivesEnd, BreaksRead, BreaksLong}
 use Rattle.nav_io.specs.declared.lines.LineKind.{LineKind}
@@ -12,7 +12,7 @@ Answers Text left left_new old new = GivesLine left left_new old new (record { t
 Answers Long left left_new old new = GivesLine left left_new old new (record { text = new.text; long = true })
 Answers End left left_new old new = GivesEnd left left_new old new
 
--- a fault; no byte read is lost
+-- an error; no byte read is lost
 abbrev pub Breaks : LineFault → Option (List ℕ) → Option (List ℕ) → LinesState → LinesState → Type 0
 Breaks ReadFault left left_new old new = BreaksRead left left_new old new
 Breaks TooLong left left_new old new = BreaksLong left left_new old new

@@ -6,13 +6,13 @@ abbrev pub ends : List ℕ → Bool
 ends [] = false
 ends (x ∷ xs) = if x == 10 then true else ends xs
 
--- Puts byte x before the first of the lines that follow; where there are none, x is a line without LF, which counts only
--- where no more bytes may come.
+-- Puts byte x before the first of the lines that follow; if there are none, x is a line without LF,
+-- which counts only if no more bytes may come.
 abbrev pub with_prefix : Bool → ℕ → List (List ℕ) → List (List ℕ)
 with_prefix more x [] = if more then [] else (x ∷ []) ∷ []
 with_prefix more x (line ∷ lines) = (x ∷ line) ∷ lines
 
--- the pieces between LFs; where more bytes may come, only those that an LF ends
+-- the pieces between LFs; if more bytes may come, only those that an LF ends
 abbrev pub pieces : Bool → List ℕ → List (List ℕ)
 pieces more [] = []
 pieces more (x ∷ xs) = if x == 10 then [] ∷ pieces more xs else with_prefix more x (pieces more xs)
@@ -34,7 +34,7 @@ pub record Line : Type 0 where
 unfoldable pub line_of : List ℕ → Line
 line_of piece = record { text = take 2200 (without_cr piece); long = nat_lt 2200 (length (without_cr piece)) }
 
--- the lines of the bytes; where more bytes may come, only those that an LF ends
+-- the lines of the bytes; if more bytes may come, only those that an LF ends
 abbrev pub lines_by : Bool → List ℕ → List Line
 lines_by more bytes = map line_of (pieces more bytes)
 

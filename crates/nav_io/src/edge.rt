@@ -9,8 +9,8 @@ ghost use Rattle.nav_io.specs.Causes.{HasCause};
 use crate::{Failed, Sink, Source};
 use std::io::{ErrorKind, Read, Write};
 
-/// A source over a reader. Contracts know its bytes where they know those of the reader: over
-/// memory, not of a file, a pipe or a terminal.
+/// A source over a reader. Contracts know its bytes if they know those of the reader: over memory,
+/// not of a file, a pipe or a terminal.
 #[derive(Drop)]
 pub struct ReadSource<R: Read> {
     reader: R,
@@ -20,7 +20,7 @@ pub struct ReadSource<R: Read> {
 }
 
 impl<R: Read> ReadSource<R> {
-    /// A source over this reader, with no fault counted.
+    /// A source over this reader, with no error counted.
     pub fn new(reader: R) -> Self
         ensures left { ⟦<ReadSource<R> as Source>⟧.left result ≡ R.remaining reader }
         ensures faults { ⟦<ReadSource<R> as Source>⟧.faults result ≡ 0 }
@@ -32,7 +32,7 @@ impl<R: Read> ReadSource<R> {
         }
     }
 
-    /// The kind of the last fault, if any.
+    /// The kind of the last error, if any.
     pub fn fault(&self) -> Option<ErrorKind>
         ensures { IsNone result ↔ (⟦<ReadSource<R> as Source>⟧.faults self.now ≡ 0) }
     {
@@ -51,7 +51,7 @@ impl<R: Read> Source for ReadSource<R> {
 
     ghost never_fails = { λ _. false };
 
-    /// One `read` of the reader. Each `Err` counts one fault.
+    /// One `read` of the reader. Each `Err` counts one error.
     fn read(&mut self, into: &mut [u8]) -> Result<usize, Failed> {
         match self.reader.read(into) {
             Ok(count) => Ok(count),
@@ -64,7 +64,7 @@ impl<R: Read> Source for ReadSource<R> {
     }
 }
 
-/// A sink over a writer. Contracts know its bytes where they know those of the writer: over memory,
+/// A sink over a writer. Contracts know its bytes if they know those of the writer: over memory,
 /// not of a file, a pipe or a terminal.
 #[derive(Drop)]
 pub struct WriteSink<W: Write> {
@@ -75,7 +75,7 @@ pub struct WriteSink<W: Write> {
 }
 
 impl<W: Write> WriteSink<W> {
-    /// A sink over this writer, with no fault counted.
+    /// A sink over this writer, with no error counted.
     pub fn new(writer: W) -> Self
         ensures written { ⟦<WriteSink<W> as Sink>⟧.written result ≡ W.contents writer }
         ensures faults { ⟦<WriteSink<W> as Sink>⟧.faults result ≡ 0 }
@@ -87,7 +87,7 @@ impl<W: Write> WriteSink<W> {
         }
     }
 
-    /// The kind of the last fault, if any: `WriteZero` for a `write` that took no byte.
+    /// The kind of the last error, if any: `WriteZero` for a `write` that took no byte.
     pub fn fault(&self) -> Option<ErrorKind>
         ensures { IsNone result ↔ (⟦<WriteSink<W> as Sink>⟧.faults self.now ≡ 0) }
     {
@@ -110,8 +110,8 @@ impl<W: Write> WriteSink<W> {
         writer
     }
 
-    /// One `write` of the writer, of a piece that isn't empty. An `Err`, and a `write` that takes no
-    /// byte, counts one fault.
+    /// One `write` of the writer, of a piece that isn't empty. An `Err`, and a `write` that takes
+    /// no byte, counts one error.
     pub fn put(&mut self, piece: &[u8]) -> Result<usize, Failed>
         requires { 0 < length piece.now }
         ensures bound { WritesAtMost result piece.now }
@@ -141,7 +141,7 @@ impl<W: Write> Sink for WriteSink<W> {
     ghost faults = { λ s. s.faults };
 
     /// Calls `write` of the writer until the piece is written, and then `flush`. An `Err` of
-    /// either, and a `write` that takes no byte of a piece that isn't empty, counts one fault and
+    /// either, and a `write` that takes no byte of a piece that isn't empty, counts one error and
     /// fails.
     fn write(&mut self, piece: &[u8]) -> Result<(), Failed> {
         let mut rest = piece;

@@ -1,4 +1,5 @@
-//! Laws of lines and of their reader: each function does nothing, and its contract is the law.
+//! Theorems about lines and of their reader: each function does nothing, and its contract is the
+//! theorem.
 
 ghost use Rattle.std.specs.Prelude.{◌≡◌, ◌^◌, ◌<◌, ◌++◌, ◌∷◌, ℕ, Bool};
 ghost use Rattle.std.specs.Prelude.{true, false, List, [], Option, Some};
@@ -44,8 +45,8 @@ pub fn lines_given_are_the_first()
         → Reads middle left_new now new more → Reads left left_new old new (lines ++ more) }
 {}
 
-/// From the first call to the end, calls return the lines of all bytes, however reads cut them; up
-/// to a fault, the lines that an LF has ended.
+/// From the first call to the end, calls return the lines of all bytes, however reads split them;
+/// up to an error, the lines that an LF has ended.
 pub fn lines_given_are_those_of_the_bytes()
     ensures whole { (bytes : List ℕ) (left_new : Option (List ℕ)) (old new : LinesState)
         (lines : List Line) → Reads (Some bytes) left_new old new lines → old.rest ≡ []

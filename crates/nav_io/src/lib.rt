@@ -1,14 +1,14 @@
 //! Sources and sinks of bytes, from which a conversion reads and to which it writes; and the lines
 //! of a source.
 //!
-//! Code that converts is generic over [`Source`] and [`Sink`]. Their contracts say which bytes were
-//! read and written, where these are known, and count faults: a call fails only where its object's
-//! count of faults has risen. [`MemSource`] and [`MemSink`] work over memory, with chosen cuts and
-//! failing calls for tests. [`ReadSource`] and [`WriteSink`] work over a reader and a writer of the
-//! standard library.
+//! Code that converts is generic over [`Source`] and [`Sink`]. Their contracts state which bytes
+//! were read and written, if these are known, and count errors: a call fails only if its object's
+//! count of errors has risen. [`MemSource`] and [`MemSink`] work over memory, with chosen short
+//! reads and failing calls for tests. [`ReadSource`] and [`WriteSink`] work over a reader and a
+//! writer of the standard library.
 //!
 //! [`Lines`] gives the lines of a source one by one, in a buffer of fixed size: the bytes between
-//! LFs, each without a CR at its end. Its contracts hold however the reads cut the bytes.
+//! LFs, each without a CR at its end. Its contracts hold however the reads split the bytes.
 //!
 //! ```rust
 //! let mut source = ReadSource::new(rt.stdin());
@@ -48,7 +48,7 @@ pub use crate::lines::{LineFault, LineKind, Lines, first_end, length_without_cr}
 pub use crate::memory::{MemSink, MemSource};
 pub use crate::pieces::{MOST_TAKEN, read_piece};
 
-/// A read or a write failed; the source or sink has counted a fault.
+/// A read or a write failed; the source or sink has counted an error.
 #[derive(Clone, Copy, PartialEq, Eq)]
 pub struct Failed;
 
@@ -65,8 +65,8 @@ pub trait Source {
 
     /// Reads into the start of `into`, and gives the number of bytes read.
     ///
-    /// 0 for a non-empty `into` is the end. A read fails only where the count of faults rose in
-    /// this call or is saturated; no byte is consumed then. `into` has at most 16,384 bytes.
+    /// 0 for a non-empty `into` is the end. A read fails only if the count of errors rose in this
+    /// call or is saturated; no byte is consumed then. `into` has at most 16,384 bytes.
     fn read(&mut self, into: &mut [u8]) -> Result<usize, Failed>
         requires asks { length into.old ≤ 16384 }
         ensures bound { ReadsAtMost result into.new }
@@ -84,9 +84,9 @@ pub trait Sink {
     // The count of its faults, which never falls and saturates at 2^64 - 1.
     ghost faults: { Self → ℕ };
 
-    /// Appends the piece whole, or fails and may have appended a prefix of it.
+    /// Appends the complete piece, or fails and may have appended a prefix of it.
     ///
-    /// A write fails only where the count of faults rose in this call, or is saturated.
+    /// A write fails only if the count of errors rose in this call, or is saturated.
     fn write(&mut self, piece: &[u8]) -> Result<(), Failed>
         ensures bytes { MatchResult result
             (λ _. Appends (written self.old) (written self.new) piece.now)

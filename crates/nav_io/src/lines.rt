@@ -41,7 +41,7 @@ pub enum LineKind {
 pub enum LineFault {
     /// A read failed. No byte read so far is lost, and a further call continues.
     ReadFault = 1,
-    /// The source has more than 4,294,967,295 bytes. Each further call gives the same fault.
+    /// The source has more than 4,294,967,295 bytes. Each further call gives the same error.
     TooLong = 2,
 }
 
@@ -115,7 +115,7 @@ impl Lines {
         }
     }
 
-    /// The line that the last `next` found, of a `Long` one its first 2,200 bytes; empty where it
+    /// The line that the last `next` found, of a `Long` one its first 2,200 bytes; empty if it
     /// found none.
     pub fn text(&self) -> &[u8]
         ensures { result.now ≡ self.now.text }
@@ -136,7 +136,7 @@ impl Lines {
     /// may lack its LF if it has a byte. Reads only while the bytes held have no LF, at most 4,096
     /// bytes at a time, and never after a read that gave no byte.
     ///
-    /// `ReadFault`: a read failed, and the source's count of faults rose. `TooLong`: 4,294,967,295
+    /// `ReadFault`: a read failed, and the source's count of errors rose. `TooLong`: 4,294,967,295
     /// bytes were read and one more was there.
     pub fn next<S: Source>(&mut self, source: &mut S) -> Result<LineKind, LineFault>
         ensures answer { IfOk result (λ kind.

@@ -1,4 +1,4 @@
-//! A source and a sink over memory, with cuts and failing calls.
+//! A source and a sink over memory, with short reads and failing calls.
 
 ghost use Rattle.std.specs.Prelude.{◌≡◌, ◌+◌, ◌-◌, ◌^◌};
 ghost use Rattle.std.specs.Prelude.{◌<◌, ◌≤◌, ◌↔◌, ◌⊎◌, []};
@@ -46,7 +46,7 @@ impl Model for MemSource {
 }
 
 impl MemSource {
-    /// A source over these bytes, with no fault counted.
+    /// A source over these bytes, with no error counted.
     ///
     /// The k-th call that succeeds gives at most `cuts[k]` bytes, where 0 counts as 1; past the end
     /// of `cuts` there is no limit. The calls listed in `fails` fail, counted from 0 over all
@@ -86,7 +86,7 @@ impl Source for MemSource {
 
     ghost never_fails = { λ s. length s.fails == 0 };
 
-    /// Gives the bytes left, up to the cut of this call.
+    /// Gives the bytes left, up to the limit of this call.
     fn read(&mut self, into: &mut [u8]) -> Result<usize, Failed>
         ensures bound { ReadsAtMost result into.new }
         ensures bytes { ReadConsumes (Some self.old.left) (Some self.new.left) result into.new }
@@ -117,7 +117,7 @@ impl Source for MemSource {
     }
 }
 
-/// A sink in memory with room for `room` bytes that fails at chosen calls.
+/// A sink in memory for `room` bytes that fails at chosen calls.
 #[derive(Drop)]
 pub struct MemSink {
     bytes: Vec<u8>,
@@ -145,10 +145,11 @@ impl Model for MemSink {
 }
 
 impl MemSink {
-    /// An empty sink with no fault counted, for which `room` bytes are reserved.
+    /// An empty sink with no error counted, for which `room` bytes are reserved.
     ///
-    /// A call listed in `fails`, counted from 0 over all calls, or whose piece exceeds the room
-    /// left, appends nothing and fails. `AllocError`: there is not enough memory for `room` bytes.
+    /// A call listed in `fails`, counted from 0 over all calls, or whose piece exceeds the free
+    /// space left, appends nothing and fails. `AllocError`: there is not enough memory for `room`
+    /// bytes.
     pub fn new(alloc: Global, room: usize, fails: Vec<u32>) -> Result<MemSink, AllocError>
         ensures bytes { IfOk result (λ sink. sink.bytes ≡ []) }
         ensures room { IfOk result (λ sink. sink.room ≡ room) }
@@ -181,7 +182,7 @@ impl Sink for MemSink {
 
     ghost faults = { λ s. s.faults };
 
-    /// Appends the piece whole, or fails and appends nothing.
+    /// Appends the complete piece, or fails and appends nothing.
     fn write(&mut self, piece: &[u8]) -> Result<(), Failed>
         ensures bytes { MatchResult result
             (λ _. Appends (Some self.old.bytes) (Some self.new.bytes) piece.now)

@@ -14,12 +14,12 @@ pub const MOST_TAKEN: u64 = 4_294_967_295;
 /// bytes.
 ///
 /// The piece is written from the start of the slice. At most 4,294,967,296 bytes are read in all,
-/// one more than [`MOST_TAKEN`], so that an excess shows. 0 only where the source is at its end.
-/// The slice has room for 1 to 16,384 bytes.
+/// one more than [`MOST_TAKEN`], so that an excess shows. 0 only if the source is at its end. The
+/// slice holds 1 to 16,384 bytes.
 ///
 /// # Errors
 ///
-/// `Failed` only where the source's count of faults rose in this call, or is saturated; nothing is
+/// `Failed` only if the source's count of errors rose in this call, or is saturated; nothing is
 /// read then.
 pub fn read_piece<S: Source>(source: &mut S, taken: u64, piece: &mut [u8]) -> Result<usize, Failed>
     requires low { taken < 2 ^ 32 }

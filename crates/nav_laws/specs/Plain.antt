@@ -18,7 +18,7 @@ pub record PlainState : Type 0 where
   pub watermark : ℕ
   -- the last period given
   pub last : Option Place
-  -- no part has an earlier stamp
+  -- no part has an earlier time tag
   pub least : ℕ
   -- the greatest watermark at which no period was due
   pub none_at : ℕ
@@ -44,7 +44,7 @@ is_after (Some last) q = is_before last q
 abbrev pub due : List Part → ℕ → ℕ → Option Place → Place → Bool
 due parts window watermark last q = nat_lt (q.end + window) watermark && (is_after last q && quiet parts window q.key q.end)
 
--- n + 1 where there is a place after the last one given, else n
+-- n + 1 if there is a place after the last one given, else n
 abbrev pub count_after : Option Place → Option Place → ℕ → ℕ
 count_after last None n = n
 count_after last (Some q) n = if is_after last q then n + 1 else n

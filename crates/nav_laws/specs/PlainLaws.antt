@@ -1,5 +1,5 @@
--- The laws of the trait for the plain assembly: its parts are values, and a set. (An impl names the proof of a law, and code can name
--- what stands in specs/ alone.)
+-- The theorems about the trait for the plain assembly: its parts are values, and a set. (An impl
+-- names the proof of a theorem, and code can name what is in specs/ alone.)
 use Rattle.std.proofs.Common.{All, List, Contains, get_or, ◌↔◌}
 use Rattle.std.proofs.lemmas.List.Elements.{All-contains, Contains-get_or}
 use Rattle.nav_eph.specs.declared.part.Part.{Part}

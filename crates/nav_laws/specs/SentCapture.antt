@@ -12,7 +12,7 @@ use Rattle.page_send.specs.Sendable.{sent_text}
 abbrev pub sent_capture : ℕ → List NavItem → List Line
 sent_capture r items = drop 1 (lines_by false (sent_text r items))
 
--- each line of the first with a stamp is a line of the second
+-- each line of the first with a time tag is a line of the second
 abbrev pub IsOfLines : List Line → List Line → Type 0
 IsOfLines some other =
     (item : LineItem) (s : ℕ) → stamp_of item ≡ Some s → Contains (line_items_of some) item → Contains (line_items_of other) item

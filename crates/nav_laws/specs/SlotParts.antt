@@ -11,7 +11,7 @@ use Rattle.nav_eph.specs.declared.items.NavItem.{NavItem}
 use Rattle.nav_eph.specs.declared.items.NavItem.TheVariants.{Gps, Gal, Ion}
 use Rattle.page_send.specs.Slots.{galileo_second, galileo_week_number, gps_transmission, gps_week_number, no_ionosphere, slot_stamp}
 
--- the part with this stamp, satellite and content
+-- the part with this time tag, satellite and content
 abbrev pub part : ℕ → Satellite → Body → Part
 part stamp sat body = record { stamp = stamp; sat = sat; body = body }
 
@@ -29,7 +29,7 @@ galileo_parts s e =
     ∷ part (s + 9) e.sat (GalHealth e.health (Sent (galileo_week_number e) (galileo_second e)))
     ∷ part (s + 9) e.sat (GalIon no_ionosphere (galileo_week_number e) (galileo_second e)) ∷ []
 
--- the parts of an item that is transmitted from a stamp on
+-- the parts of an item that is transmitted from a time tag on
 abbrev pub parts_at : ℕ → NavItem → List Part
 parts_at s (Gps e) = gps_parts s e
 parts_at s (Gal e) = galileo_parts s e

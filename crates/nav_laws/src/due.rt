@@ -1,4 +1,4 @@
-//! The first period that is due among kept parts.
+//! The first period that is due among stored parts.
 
 ghost use Rattle.std.specs.Prelude.{◌≡◌, ◌<◌, None};
 ghost use Rattle.periods.specs.Mirrors.{best_among, best_with, is_better};

@@ -1,4 +1,4 @@
-//! A law of what lies far before a watermark: the contract of an empty function.
+//! A theorem about what lies far before a watermark: the contract of an empty function.
 
 ghost use Rattle.std.specs.Prelude.{◌≡◌, ◌+◌, ◌*◌, ◌<◌, ◌≤◌, ◌++◌};
 ghost use Rattle.std.specs.Prelude.{ℕ, List, Option, All, Contains};
@@ -7,9 +7,9 @@ ghost use Rattle.periods.specs.declared.key.Place.{Place};
 ghost use Rattle.periods.specs.Periods.{IsPeriod};
 ghost use Rattle.slot_assembly.specs.Standing.{IsAfter, NoneDue};
 
-/// Where no period is due at a watermark and later parts have stamps from it on, a stamp more than
-/// two windows before the watermark is more than a window before the end of each period not yet
-/// given.
+/// If no period is due at a watermark and later parts have time tags from it on, a time tag more
+/// than two windows before the watermark is more than a window before the end of each period not
+/// yet given.
 pub fn old_is_far()
     ensures { (window watermark : ℕ) (parts later : List Part) (last : Option Place)
         (place : Place) (stamp : ℕ)

@@ -1,4 +1,4 @@
-//! The laws: each is the contract of an empty function.
+//! The theorems: each is the contract of an empty function.
 
 ghost use Rattle.std.specs.Prelude.{◌≡◌, ◌∷◌, ◌↔◌, ℕ};
 ghost use Rattle.std.specs.Prelude.{List, None, Some, All, Contains, codes};
@@ -19,8 +19,8 @@ ghost use Rattle.nav_laws.specs.SentAgain.{IsSentAgain, SameByType};
 ghost use Rattle.nav_laws.specs.SentCapture.{IsOfLines, IsStillHeard, sent_capture};
 ghost use Rattle.nav_laws.specs.SlotParts.{slots_parts};
 
-/// The items of the periods of the parts of all slots are those that come back of a transmitted
-/// list.
+/// The items of the periods of the parts of all slots are those that are read again of a
+/// transmitted list.
 pub fn parts_of_slots_come_back()
     ensures { (r : ℕ) (items : List NavItem) → All IsItem items
         → items_in (periods_of r 7200 (slots_parts 0 (sendable r 0 items))) ≡ sent_items r items }
@@ -61,21 +61,21 @@ pub fn what_is_sent_is_heard()
     capture_log::lines_yield_what_is_heard();
 }
 
-/// What is transmitted comes back. Take a capture with a window of 7,200 s from whose further lines
-/// the same parts are received as from the transmission of a list of items. Its items are each
-/// ephemeris that may be transmitted, with the transmission time of its slot, unless it repeats the
-/// last one of its key in every field but that time; after each of Galileo the ionosphere of its
-/// slot; and no others.
+/// What is transmitted is read again. Take a capture with a window of 7,200 s from whose further
+/// lines the same parts are received as from the transmission of a list of items. Its items are
+/// each ephemeris that may be transmitted, with the transmission time of its slot, unless it
+/// repeats the last one of its key in every field but that time; after each of Galileo the
+/// ionosphere of its slot; and no others.
 ///
-/// This holds for a capture whose lines with a stamp are lines of the transmission, late or not, as
-/// long as each part is still received; and for one that has the same lines in another order or
-/// repeated, where none is late.
+/// This holds for a capture whose lines with a time tag are lines of the transmission, late or not,
+/// as long as each part is still received; and for one that has the same lines in another order or
+/// repeated, if none is late.
 ///
-/// Nor does it matter which transmission of a part is received: where each part is received at
-/// least once, at whatever second of the first two hours of its slot, the ephemerides are the same
-/// in the same order, and the ionospheres too. An ionosphere comes before the ephemeris of its slot
-/// only if it was received before a word of it. So the transmission may be repeated every 30 s, and
-/// any lines be lost, late or in another order, as long as each part is received.
+/// Nor does it matter which transmission of a part is received: if each part is received at least
+/// once, at whatever second of the first two hours of its slot, the ephemerides are the same in the
+/// same order, and the ionospheres too. An ionosphere comes before the ephemeris of its slot only
+/// if it was received before a word of it. So the transmission may be repeated every 30 s, and any
+/// lines be lost, late or in another order, as long as each part is received.
 pub fn what_is_sent_comes_back()
     ensures itself { (r : ℕ) (items : List NavItem) → All IsItem items
         → items_in (periods_of r 7200 (parts_of 7200 (sent_capture r items)))

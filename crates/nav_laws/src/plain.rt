@@ -12,7 +12,7 @@ use std::alloc::{AllocError, Global};
 use std::marker::Model;
 
 /// An assembly that keeps every part, and searches them all for what is closed, as the definition
-/// says.
+/// states.
 ///
 /// A contract sees the reference week `reference`, the `window` in seconds, the `parts` that it
 /// keeps, the greatest `watermark` given, the `last` period given, and the greatest watermark

@@ -120,7 +120,7 @@ fn fill(link: &Link, parts: &[Part], column: i64, numbers: &mut [i64])
     }
 }
 
-/// Writes what the columns of a record say of the numbers of its message; the others stay.
+/// Writes what the columns of a record have of the numbers of its message; the others stay.
 #[tactic(auto, unfolding(crate::specs::Links::filled))]
 pub fn fill_numbers(links: &[Link], parts: &[Part], columns: &[i64], numbers: &mut [i64])
     requires links { IsTrue (are_links (length numbers.old) parts.now links.now) }

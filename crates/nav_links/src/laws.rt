@@ -6,8 +6,7 @@ ghost use Rattle.nav_links.specs.declared.link.Part.{Part};
 ghost use Rattle.nav_links.specs.Links.{AreFit, AreSaid, are_apart, are_links, columns_of, filled};
 ghost use Rattle.nav_links.specs.Links.{nth, ranges_fit, say};
 
-/// Columns give back the numbers that they are of, where those that no column says were right
-/// before.
+/// Columns return the numbers that they are of, if those that no column has were right before.
 pub fn numbers_come_back()
     ensures { (parts : List Part) (links : List Link) (numbers given before : List ℤ) →
         IsTrue (are_links (length before) parts links) → AreFit parts links numbers →
@@ -16,7 +15,7 @@ pub fn numbers_come_back()
         filled parts links (columns_of parts links numbers given) before ≡ numbers }
 {}
 
-/// The numbers that columns say give these columns back.
+/// The numbers in columns give these columns back.
 pub fn columns_come_back()
     ensures { (parts : List Part) (links : List Link) (columns given before : List ℤ) →
         IsTrue (are_links (length before) parts links) → IsTrue (are_apart parts links) →

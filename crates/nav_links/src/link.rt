@@ -9,7 +9,7 @@ pub struct Part {
     pub low: u32,
 }
 
-/// What a column of a record says.
+/// What a column of a record has.
 #[derive(Clone, Copy)]
 pub enum Link {
     /// The number of a field.
@@ -41,7 +41,7 @@ pub enum Link {
         /// Its offset among these.
         place: usize,
     },
-    /// Always the same number; 999,900,000 where a time sent is not known.
+    /// Always the same number; 999,900,000 if a time sent is not known.
     Fixed {
         /// The number.
         number: i64,

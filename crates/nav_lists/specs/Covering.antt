@@ -9,8 +9,8 @@ use Rattle.nav_eph.specs.declared.items.NavItem.TheVariants.{Gps, Gal, Ion}
 use Rattle.nav_lists.specs.declared.range.CoverRange.{CoverRange}
 use Rattle.nav_lists.specs.Ranges.{InRange, around, half_of, by_place, span_of, joined}
 
--- an ephemeris covers the seconds around its toe: three hours before and after where the GPS fit interval
--- flag is 1, else two; an ionosphere covers none
+-- an ephemeris covers the seconds around its toe: three hours before and after if the GPS fit
+-- interval flag is 1, else two; an ionosphere covers none
 abbrev pub CoversSecond : NavItem → Satellite → ℕ → Type 0
 CoversSecond (Gps e) sat m = InRange (around e.sat (gps_toe_moment e) (half_of e.fit)) sat m
 CoversSecond (Gal e) sat m = InRange (around e.sat (galileo_toe_moment e) 7200) sat m

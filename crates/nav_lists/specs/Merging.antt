@@ -1,5 +1,5 @@
--- The merged list of items: of alike items (equal but for the transmission time) the one sent first, in the
--- order of rank.
+-- The merged list of items: of repeated items (equal but for the transmission time) the one sent
+-- first, in the order of rank.
 use Rattle.std.specs.Prelude.{◌≡◌, ℕ, ℤ, pos, Bool, true, false, cond, int_lt, List, [], ◌∷◌}
 use Rattle.std.specs.Cmp.Lexicographic.{slice_cmp}
 use Rattle.std.specs.List.{Contains, fold}
@@ -58,7 +58,8 @@ pub record IsMerged (items : NavItem → Type 0) (merged : List NavItem) : Type 
   pub each : (m : NavItem) → Contains merged m → IsEarliest items m
   pub every : (item : NavItem) → items item → (m : NavItem) × Contains merged m × IsAlike item m
 
--- of two alike items the one sent earlier; `y` where both were sent at the same time
+-- of two items that are equal but for the transmission time the one sent earlier; `y` if both were
+-- sent at the same time
 abbrev pub earlier_of : NavItem → NavItem → NavItem
 earlier_of x y = cond (is_sooner (sent_of x) (sent_of y)) x y
 

@@ -9,7 +9,7 @@ use Rattle.nav_eph.specs.declared.items.NavItem.{NavItem}
 use Rattle.nav_eph.specs.declared.items.NavItem.TheVariants.{Gps, Gal, Ion}
 use Rattle.nav_lists.specs.declared.range.CoverRange.{CoverRange}
 
--- half of the covered time in seconds: three hours where the fit interval flag is 1, else two
+-- half of the covered time in seconds: three hours if the fit interval flag is 1, else two
 abbrev pub half_of : ℕ → ℕ
 half_of fit = cond (fit == 1) 10800 7200
 
@@ -43,16 +43,16 @@ is_of_one a b = (place_of a.sat.system == place_of b.sat.system) && (a.sat.numbe
 abbrev pub touches : CoverRange → CoverRange → Bool
 touches a b = is_of_one a b && leb b.from a.to
 
--- the range `a`, extended to the end of `b` where that is later
+-- the range `a`, extended to the end of `b` if that is later
 abbrev pub drawn_out : CoverRange → CoverRange → CoverRange
 drawn_out a b = record a { to = max a.to b.to }
 
--- a range and the sorted ranges after it, joined where they overlap or touch
+-- a range and the sorted ranges after it, joined if they overlap or touch
 abbrev pub joined_from : CoverRange → List CoverRange → List CoverRange
 joined_from range [] = range ∷ []
 joined_from range (next ∷ rest) = cond (touches range next) (joined_from (drawn_out range next) rest) (range ∷ joined_from next rest)
 
--- sorted ranges, joined where they overlap or touch
+-- sorted ranges, joined if they overlap or touch
 abbrev pub joined : List CoverRange → List CoverRange
 joined [] = []
 joined (first ∷ rest) = joined_from first rest

@@ -64,7 +64,7 @@ impl Cover {
         }
     }
 
-    /// Removes and returns the first range; `None` where there is none.
+    /// Removes and returns the first range; `None` if there is none.
     pub fn take_first(&mut self) -> Option<CoverRange>
         ensures first { IfSome result (λ range. self.old ≡ range ∷ self.new) }
         ensures none { IfNone result ((self.old ≡ []) × (self.new ≡ [])) }

@@ -40,7 +40,7 @@ impl<'a> Iterator for Items<'a> {
 }
 
 impl<'a> Items<'a> {
-    /// The next items, up to eight, copied; `None` where none is left.
+    /// The next items, up to eight, copied; `None` if none is left.
     ///
     /// Each item lies elsewhere in memory. Copies that follow one another wait for it together.
     pub fn next_few(&mut self) -> Option<Few>

@@ -1,11 +1,11 @@
 //! Lists of broadcast navigation data: the merge of several files' items, and the times they cover.
 //!
-//! Items are alike where they are equal in every field but the transmission time. The merged list
-//! ([`Merge`]) keeps of alike items the one sent first. It is sorted by time of ephemeris
+//! Items repeat each other if they are equal in every field but the transmission time. The merged
+//! list ([`Merge`]) keeps of repeated items the one sent first. It is sorted by time of ephemeris
 //! (IS-GPS-200, 20.3.3.4.3.1; Galileo OS SIS ICD, 5.1.1), or the ionosphere's transmission time,
 //! then by class, then by the remaining fields.
 //!
-//! An ephemeris covers the seconds around its toe: three hours before and after where the GPS fit
+//! An ephemeris covers the seconds around its toe: three hours before and after if the GPS fit
 //! interval flag is 1 (IS-GPS-200, 20.3.3.4.3.1), else two. [`Cover`] gives these times as ranges,
 //! ordered by satellite and start; ranges that overlap or touch are joined.
 //!

@@ -38,9 +38,9 @@ impl Merge {
         }
     }
 
-    /// Adds an item at its place in the order of rank. Where the list has an item that is alike to
-    /// it, the one of the two that was sent first stays. Costs a search in an ordered set, and one
-    /// more where the list changes.
+    /// Adds an item at its place in the order of rank. If the list has an item that repeats it, the
+    /// one of the two that was sent first stays. Costs a search in an ordered set, and one more if
+    /// the list changes.
     ///
     /// # Errors
     ///

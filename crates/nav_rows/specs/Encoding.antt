@@ -82,7 +82,7 @@ with_head parts clock (Ok head) numbers = Ok (filled parts (head_links clock) he
 abbrev pub with_head_of : List Part → Clock → RowValue → List ℤ → Result (List ℤ) EncodeFault
 with_head_of parts clock row numbers = with_head parts clock (head_of clock row) numbers
 
--- the numbers where each is in range, and the SISA index is none of 126 to 254
+-- the numbers if each is in range, and the SISA index is none of 126 to 254
 abbrev pub judged_numbers : Kind → List ℤ → Option ℕ → Result (List ℤ) EncodeFault
 judged_numbers k numbers (Some field) = Err (faults.OutOfRange field)
 judged_numbers k numbers None
@@ -100,7 +100,7 @@ abbrev pub numbers_after : Kind → RowValue → Option Reason → Result (List 
 numbers_after k row (Some reason) = Err (faults.Epoch reason)
 numbers_after k row None = judged_row k (with_head_of k.parts.now k.clock row (said_numbers k row))
 
--- the numbers of the message of a row, or the first fault
+-- the numbers of the message of a row, or the first error
 unfoldable pub numbers_in : Kind → RowValue → Result (List ℤ) EncodeFault
 numbers_in k row = numbers_after k row (epoch_fault k.clock row.moment row.columns)
 
@@ -108,7 +108,7 @@ abbrev pub bytes_by : Kind → Result (List ℤ) EncodeFault → Result (List �
 bytes_by k (Err fault) = Err fault
 bytes_by k (Ok numbers) = Ok (message_bytes k.table numbers)
 
--- the bytes of the message of a row, or the first fault
+-- the bytes of the message of a row, or the first error
 abbrev pub message_of : Kind → RowValue → Result (List ℕ) EncodeFault
 message_of k row = bytes_by k (numbers_in k row)
 

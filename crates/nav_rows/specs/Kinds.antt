@@ -66,7 +66,7 @@ range_of clock fields parts (Parts first count) = record {
 range_of clock fields parts (Given place) = given_range clock place
 range_of clock fields parts (Fixed n) = record { low = n; high = n }
 
--- whether the link gives the SISA index, of which 126 to 254 are refused
+-- whether the link gives the SISA index, of which 126 to 254 are rejected
 abbrev pub gives_sisa : Option ℕ → Link → Bool
 gives_sisa None l = false
 gives_sisa (Some f) (Field g) = nat_eq f g

@@ -1,4 +1,4 @@
--- The order of rows, and which are alike.
+-- The order of rows, and which are duplicates.
 use Rattle.std.specs.Prelude.{◌≡◌, ℕ, ◌-◌, ◌*◌, ◌/◌, ◌%◌, List, [], ◌∷◌, ◌++◌, set, ℤ, pos}
 use Rattle.std.specs.Cmp.Lexicographic.{slice_cmp}
 use Rattle.std.specs.Ordering.{int_cmp, on, then_cmp}
@@ -49,7 +49,7 @@ pub record KindRow : Type 0 where
 abbrev pub rank : KindRow → List ℤ
 rank x = rank_of x.kind x.row
 
--- alike: equal but for the time sent and what changes from frame to frame
+-- duplicates: equal but for the time sent and what changes from frame to frame
 abbrev pub IsAlike : KindRow → KindRow → Type 0
 IsAlike x y = rank x ≡ rank y
 
@@ -57,7 +57,7 @@ IsAlike x y = rank x ≡ rank y
 abbrev pub by_rank : KindRow → KindRow → Ordering
 by_rank = on rank (slice_cmp int_cmp)
 
--- the order of rows: by rank; of those alike by the time sent, a time not known last, and then by
+-- the order of rows: by rank; of duplicates by the time sent, a time not known last, and then by
 -- all columns
 abbrev pub by_place : KindRow → KindRow → Ordering
 by_place =

@@ -86,9 +86,8 @@ lines_read k number title lines =
     need (same_satellite title (first_of lines)) reasons.BadSat >>= λ same.
     flat_said k.layout.rows.now k.layout.columns.now lines >>= judged_row k number
 
--- the row of a record by its title and the lines behind it, or the first reason. In this order:
--- satellite, number of lines,
--- the same satellite in the first line, date, numbers, epoch
+-- the row of a record by its title and the lines after it, or the first reason. In this order:
+-- satellite, number of lines, the same satellite in the first line, date, numbers, epoch
 unfoldable pub row_read : Kind → List ℕ → List (List ℕ) → Result RowValue Reason
 row_read k title lines =
     number_said k title >>= λ number. lines_read k number title (completed k.may_end_early lines)

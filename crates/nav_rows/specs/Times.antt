@@ -1,4 +1,4 @@
--- The times that the numbers of a message tell.
+-- The times in the numbers of a message.
 use Rattle.std.specs.Prelude.{ℕ, ◌+◌, ◌-◌, ◌*◌, ◌%◌, ◌^◌, ◌<◌, ◌≤◌, List, length, ℤ, pos, ◌≤ℤ◌}
 use Rattle.std.specs.Prelude.{unsigned_abs, IsTrue, Option, Some, None}
 use Rattle.gnss_week.specs.Functions.{moment_near}

@@ -264,7 +264,7 @@ fn write_numbers(kind: &Kind, row: &Row, numbers: &mut [i64]) -> Result<(), Enco
 
 /// Writes the message of a row: reserved bits 0 and, for a GLONASS frame, no additional data.
 ///
-/// The error is the first fault, in the order of [`EncodeFault`]; nothing was written then.
+/// The error is the first one, in the order of [`EncodeFault`]; nothing was written then.
 pub fn message_of_row(kind: &Kind, row: &Row, out: &mut [u8]) -> Result<(), EncodeFault>
     requires kind { IsKind kind.now }
     requires fields { AreFields kind.now.layout.columns.now row.now.columns.items }

@@ -32,7 +32,7 @@ pub enum TimeScale {
 /// How a message counts weeks, and where its times of week are.
 #[derive(Clone, Copy)]
 pub struct WeekClock {
-    /// What its week number stands for.
+    /// What its week number means.
     pub rule: WeekRule,
     /// The week, counted from 1980-01-06, that records count as 0.
     pub zero: u32,
@@ -46,7 +46,7 @@ pub struct WeekClock {
     pub toc: usize,
 }
 
-/// How a message tells its times.
+/// How a message gives its times.
 #[derive(Clone, Copy)]
 pub enum Clock {
     /// By the day and the time of its frame (message 1020).
@@ -55,7 +55,7 @@ pub enum Clock {
     Weeks(WeekClock),
 }
 
-/// A kind of ephemeris: all that tells it from others.
+/// A kind of ephemeris: all that distinguishes it from others.
 #[derive(Clone, Copy)]
 pub struct Kind {
     /// The letter of its system.
@@ -74,7 +74,7 @@ pub struct Kind {
     pub sent: usize,
     /// Whether its records may lack the last of five lines.
     pub may_end_early: bool,
-    /// How its message tells its times.
+    /// How its message gives its times.
     pub clock: Clock,
     /// The field with a SISA index, of which 126 to 254 are spare.
     pub sisa: Option<usize>,

@@ -1,4 +1,4 @@
-//! The tables of messages 1019 and 1046 say what their hand-written readers read; rows, messages
+//! The tables of messages 1019 and 1046 give what their hand-written readers read; rows, messages
 //! and records come back; rows are ordered.
 
 ghost use Rattle.std.specs.Prelude.{◌≡◌, ◌↔◌, ℕ, ◌++◌, ℤ, pos, List, IsTrue, None, Ok, true, false};
@@ -61,8 +61,8 @@ pub fn table_1046_is_read()
 {}
 
 /// The message of a row is the one that the row is of, where reserved bits are 0 and no 0 has a
-/// sign: always for kinds whose columns say all of a message; for GLONASS where its times are those
-/// of a frame without additional data, and what no column says is 0.
+/// sign: always for kinds whose columns have all of a message; for GLONASS if its times are those
+/// of a frame without additional data, and what no column has is 0.
 pub fn messages_come_back()
     ensures weeks { (k : Kind) (bytes : List ℕ) (r : ℕ) (row : RowValue) → IsKind k →
         IsTrue (is_whole k) → IsReference r → AreBytes k.table.bytes bytes →
@@ -76,7 +76,7 @@ pub fn messages_come_back()
         message_of k row ≡ Ok bytes }
 {}
 
-/// The row of the message of a row is that row near its week, where its columns are those of a
+/// The row of the message of a row is that row near its week, if its columns are those of a
 /// message: a time of transmission is not known, and spare columns are as they are written.
 pub fn rows_come_back()
     ensures { (k : Kind) (row : RowValue) (bytes : List ℕ) (r : ℕ) → IsKind k →
@@ -96,7 +96,7 @@ pub fn records_of_rows_are_read()
     layouts_are_rows();
 }
 
-/// The order of rows is total, and rows compare equal by rank exactly where they are alike.
+/// The order of rows is total, and rows compare equal by rank exactly if they are duplicates.
 pub fn rows_are_ordered()
     ensures total { IsTotalOrder by_place }
     ensures alike { (x y : KindRow) → (by_rank x y ≡ Equal) ↔ IsAlike x y }

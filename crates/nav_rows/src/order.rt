@@ -1,4 +1,4 @@
-//! The order of rows, and which are alike.
+//! The order of rows, and which are duplicates.
 
 ghost use Rattle.std.specs.Prelude.{◌≡◌, ◌≤◌, ◌<◌, ◌+◌, ◌^◌, ◌++◌, length};
 ghost use Rattle.std.specs.Ordering.{is_eq};
@@ -102,7 +102,7 @@ fn rank_of(kind: &Kind, row: &Row) -> ArrayVec<i64, 34>
 }
 
 /// Compares rows by time (toe or, of GLONASS, the epoch), system, satellite, message type, epoch
-/// and columns, and those alike by the time sent, one not known last, and their flags.
+/// and columns, and duplicates by the time sent, one not known last, and their flags.
 pub fn compare_rows(kind: &Kind, row: &Row, other_kind: &Kind, other: &Row) -> Ordering
     requires kind { IsKind kind.now }
     requires fields { AreFields kind.now.layout.columns.now row.now.columns.items }
@@ -122,8 +122,8 @@ pub fn compare_rows(kind: &Kind, row: &Row, other_kind: &Kind, other: &Row) -> O
     )
 }
 
-/// Whether rows are alike: equal but for the time sent and, of GLONASS, for p3 and the almanac's
-/// health, which change from frame to frame.
+/// Whether rows are duplicates: equal but for the time sent and, of GLONASS, for p3 and the
+/// almanac's health, which change from frame to frame.
 pub fn are_alike(kind: &Kind, row: &Row, other_kind: &Kind, other: &Row) -> bool
     requires kind { IsKind kind.now }
     requires fields { AreFields kind.now.layout.columns.now row.now.columns.items }

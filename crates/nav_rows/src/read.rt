@@ -179,8 +179,8 @@ fn completed(lines: &[[u8; 80]]) -> [[u8; 80]; 5]
     [lines[0], lines[1], lines[2], lines[3], [b' '; 80]]
 }
 
-/// The row of a record by its title and the lines behind it, each cut to 80 characters or filled
-/// with blanks. A GLONASS record may lack its last line, whose numbers are 0 then.
+/// The row of a record by its title and the lines after it, each truncated to 80 characters or
+/// filled with blanks. A GLONASS record may lack its last line, whose numbers are 0 then.
 ///
 /// The error is the first reason: satellite, number of lines, another satellite in the first line,
 /// date, numbers, epoch.

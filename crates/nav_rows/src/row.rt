@@ -69,7 +69,7 @@ fn given_of(times: &RowTimes) -> [i64; 4]
 
 /// The row of a message near a reference week.
 ///
-/// The error is the first fault, in the order of [`RowFault`].
+/// The error is the first one, in the order of [`RowFault`].
 pub fn row_of_message(kind: &Kind, payload: &[u8], reference: RefWeek) -> Result<Row, RowFault>
     requires { IsKind kind.now }
     ensures ok { IfOk result (λ row. row_in kind.now payload.now reference ≡ Ok (value row)) }
@@ -98,8 +98,8 @@ pub fn row_of_message(kind: &Kind, payload: &[u8], reference: RefWeek) -> Result
 ///
 /// # Errors
 ///
-/// `Failed` only where the sink's count of faults rose in this call or is at its maximum; a prefix
-/// of the record was appended then.
+/// `Failed` only if the sink's count of errors rose in this call or is at its maximum; a prefix of
+/// the record was appended then.
 pub fn write_record<T: Sink>(kind: &Kind, row: &Row, out: &mut T) -> Result<(), Failed>
     requires kind { IsKind kind.now }
     requires fields { AreFields kind.now.layout.columns.now row.now.columns.items }

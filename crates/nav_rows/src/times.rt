@@ -1,4 +1,4 @@
-//! The times that messages tell.
+//! The times in messages.
 
 ghost use Rattle.std.specs.Prelude.{◌≡◌, ◌<◌, ◌≤◌, ◌+◌, ◌*◌, ◌/◌, IfSome, IsTrue, length, pos};
 ghost use Rattle.std.specs.Prelude.{◌≤ℤ◌, unsigned_abs};
@@ -14,14 +14,14 @@ use crate::kind::{Clock, WeekClock};
 use gnss_week::{Moment, RefWeek, Second, Week, nearest_moment};
 use nav_days::{FrameTime, times_of, week_near};
 
-/// The times of an ephemeris as its record tells them.
+/// The times of an ephemeris as its record gives them.
 #[derive(Clone, Copy, PartialEq, Eq)]
 pub struct RowTimes {
     /// The epoch.
     pub epoch: Moment,
-    /// The week of toe as records count it; 0 where they have none.
+    /// The week of toe as records count it; 0 if they have none.
     pub week: u32,
-    /// The time of week of the frame; 0 where the message tells none.
+    /// The time of week of the frame; 0 if the message has none.
     pub sent: u32,
 }
 

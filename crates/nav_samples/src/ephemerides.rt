@@ -1,4 +1,4 @@
-//! Whole ephemerides.
+//! Complete ephemerides.
 
 use crate::galileo::{HealthNumbers, Word1Numbers, Word2Numbers, Word3Numbers, Word4Numbers};
 use crate::gps::{ClockNumbers, OrbitANumbers, OrbitBNumbers, SideNumbers};
@@ -13,7 +13,7 @@ pub struct GpsNumbers {
     pub week: u32,
     /// The clock.
     pub clock: ClockNumbers,
-    /// What stands beside the clock.
+    /// What subframe 1 has next to the clock.
     pub side: SideNumbers,
     /// The first half of the orbit.
     pub a: OrbitANumbers,

@@ -19,7 +19,7 @@ pub struct ClockNumbers {
     pub tgd: i64,
 }
 
-/// The numbers that stand beside a clock in subframe 1.
+/// The numbers next to a clock in subframe 1.
 #[derive(Clone, Copy)]
 pub struct SideNumbers {
     /// Code on L2.
@@ -112,7 +112,7 @@ impl ClockNumbers {
 }
 
 impl SideNumbers {
-    /// Whether what stands beside a clock has them.
+    /// Whether what is next to a clock has them.
     pub fn are_of(&self, side: &GpsSide) -> bool {
         (side.l2_code.value() == self.l2_code)
             & (side.ura.value() == self.ura)

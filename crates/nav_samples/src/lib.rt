@@ -4,7 +4,7 @@
 //! A row of a table can hold no value of [`nav_eph`], since a constant calls no constructor. It
 //! holds plain numbers, in the structs of this crate, which are those of `nav_eph` field by field:
 //! unscaled, as they were sent. What was read of a subframe, a word, a message or a record is
-//! compared with them by `are_of`. Samples that several crates of tests take stand here too, once.
+//! compared with them by `are_of`. Samples that several crates of tests take are here too, once.
 //!
 //! ```rust
 //! use nav_samples::G01_OF_WEEK_1783;

@@ -14,7 +14,7 @@ pub const CLOCK_OF_ZEROES: ClockNumbers = ClockNumbers {
     tgd: 0,
 };
 
-/// What stands beside a clock, all 0.
+/// What subframe 1 has next to a clock, all 0.
 pub const SIDE_OF_ZEROES: SideNumbers = SideNumbers {
     l2_code: 0,
     ura: 0,

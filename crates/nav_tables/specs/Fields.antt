@@ -1,4 +1,4 @@
--- A field of a message, and the number that its bits stand for.
+-- A field of a message, and the number that its bits encode.
 use Rattle.std.specs.Prelude.{◌≡◌, ℕ, suc, ◌+◌, ◌-◌, ◌^◌, ◌&&◌, Bool, ℤ, pos, negsuc, neg_ℤ, ◌≤ℤ◌}
 use Rattle.std.specs.Prelude.{int_le, nat_le, nat_lt, unsigned_abs, if◌then◌else◌}
 use Rattle.nav_bits.specs.Signed.{signed_of, unsigned_of}
@@ -16,7 +16,7 @@ abbrev pub sign_magnitude_bits : ℕ → ℤ → ℕ
 sign_magnitude_bits w (pos n) = n
 sign_magnitude_bits w (negsuc n) = 2 ^ (w - 1) + suc n
 
--- the number that w bits of a coding stand for
+-- the number that w bits of a coding encode
 abbrev pub number_by : Coding → ℕ → ℕ → ℤ
 number_by Unsigned w n = pos n
 number_by TwosComplement w n = signed_of w n

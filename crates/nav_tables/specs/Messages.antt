@@ -64,7 +64,7 @@ abbrev pub judged : List ℤ → Option ℕ → Result (List ℤ) TableFault
 judged numbers None = Ok numbers
 judged numbers (Some k) = Err (OutOfRange k)
 
--- the numbers of the message at the start of some bytes, or the first fault
+-- the numbers of the message at the start of some bytes, or the first error
 unfoldable pub message_in : Table → List ℕ → Result (List ℤ) TableFault
 message_in t bytes =
     if nat_lt (length bytes) t.bytes then Err Short

@@ -7,7 +7,7 @@ ghost use Rattle.nav_tables.specs.Fields.{sign_magnitude_of, start_of};
 
 use nav_bits::sign_extended;
 
-/// How the bits of a field stand for a number.
+/// How the bits of a field encode a number.
 #[derive(Clone, Copy, PartialEq, Eq)]
 pub enum Coding {
     /// An unsigned number.
@@ -16,7 +16,7 @@ pub enum Coding {
     TwosComplement,
     /// A sign bit and a magnitude. The sign with magnitude 0 is read as 0.
     SignMagnitude,
-    /// Bits that say nothing: written 0, and not looked at.
+    /// Bits without meaning: written as 0, and ignored.
     Reserved,
 }
 
@@ -25,7 +25,7 @@ pub enum Coding {
 pub struct Field {
     /// Its width in bits.
     pub width: u32,
-    /// How the bits stand for a number.
+    /// How the bits encode a number.
     pub coding: Coding,
     /// The least number.
     pub low: i64,

@@ -56,7 +56,7 @@ pub fn first_outside(fields: &[Field], numbers: &[i64]) -> Option<usize>
 /// The numbers of the message at the start of some bytes, one for each field of its table. Bytes
 /// after the message are ignored.
 ///
-/// The error is the first fault, in the order of [`TableFault`].
+/// The error is the first one, in the order of [`TableFault`].
 pub fn read_message(table: &Table, bytes: &[u8]) -> Result<ArrayVec<i64, 48>, TableFault>
     requires { IsTrue (is_table table.now) }
     ensures ok { IfOk result (λ numbers. message_in table.now bytes.now ≡ Ok numbers.items) }

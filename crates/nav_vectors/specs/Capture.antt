@@ -8,11 +8,12 @@ unfoldable pub reversed_blocks : List Sending → ℕ → List Sending
 reversed_blocks xs zero = []
 reversed_blocks xs (suc k) = reversed_blocks xs k ++ reverse (take 16 (drop (16 * k) xs))
 
--- the whole list, its blocks reversed
+-- the complete list, its blocks reversed
 unfoldable pub reversed : List Sending → List Sending
 reversed xs = reversed_blocks xs ((length xs + 15) / 16)
 
--- the transmissions of the lines: those of an hour with their blocks reversed, then those before stamp 30 in order
+-- the transmissions of the lines: those of an hour with their blocks reversed, then those before
+-- time tag 30 in order
 unfoldable pub lines_of : ℕ → List Sending
 lines_of n = reversed (sent_before n 3600) ++ sent_before n 30
 
@@ -22,7 +23,7 @@ AreLines seed n r [] text = text ≡ []
 AreLines seed n r (x ∷ xs) text =
     (line : List ℕ) × (rest : List ℕ) × (text ≡ line ++ rest) × IsLine seed n r x line × AreLines seed n r xs rest
 
--- the capture of n satellites of each system in the week r, whose values are drawn from the seed
+-- the capture of n satellites of each system in the week r, whose values are random, from the seed
 pub record IsCapture (seed n r : ℕ) (text : List ℕ) : Type 0 where
   pub rest : List ℕ
   pub lines : AreLines seed n r (lines_of n) rest

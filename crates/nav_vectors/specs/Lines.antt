@@ -88,21 +88,21 @@ abbrev pub IsLine : ℕ → ℕ → ℕ → Sending → List ℕ → Type 0
 IsLine seed n r (Subframe stamp number) line = IsSubframeLine seed n r stamp number line
 IsLine seed n r (Half stamp number signal) line = IsHalfLine seed n r stamp number signal line
 
--- the subframes of GPS satellites 1 to n at a stamp
+-- the subframes of GPS satellites 1 to n at a time tag
 unfoldable pub subframes_at : ℕ → ℕ → List Sending
 subframes_at stamp zero = []
 subframes_at stamp (suc n) = subframes_at stamp n ++ Subframe stamp (suc n) ∷ []
 
--- the page parts of Galileo satellites 1 to n at a stamp, on E1-B and then on E5b
+-- the page parts of Galileo satellites 1 to n at a time tag, on E1-B and then on E5b
 unfoldable pub halves_at : ℕ → ℕ → List Sending
 halves_at stamp zero = []
 halves_at stamp (suc n) = halves_at stamp n ++ Half stamp (suc n) E1b ∷ Half stamp (suc n) E5b ∷ []
 
--- all transmissions at a stamp; subframes every 6 seconds
+-- all transmissions at a time tag; subframes every 6 seconds
 unfoldable pub sent_at : ℕ → ℕ → List Sending
 sent_at n stamp = (if nat_eq (stamp % 6) 0 then subframes_at stamp n else []) ++ halves_at stamp n
 
--- all transmissions before a stamp, in order
+-- all transmissions before a time tag, in order
 unfoldable pub sent_before : ℕ → ℕ → List Sending
 sent_before n zero = []
 sent_before n (suc stamp) = sent_before n stamp ++ sent_at n stamp

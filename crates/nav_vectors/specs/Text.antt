@@ -14,7 +14,7 @@ use Rattle.nav_vectors.specs.Values.{gps_of, gal_of, gps_ion_of, gal_ion_of}
 use Rattle.nav_vectors.specs.Lines.{gps_sat, gal_sat, subframe_of}
 use Rattle.nav_vectors.specs.Capture.{lines_of}
 
--- the line of the subframe that a GPS satellite sends at a stamp
+-- the line of the subframe that a GPS satellite sends at a time tag
 unfoldable pub subframe_line : ℕ → ℕ → ℕ → ℕ → ℕ → List ℕ
 subframe_line seed n r stamp number =
     lnav_text stamp (gps_sat number)
@@ -32,7 +32,7 @@ word_of_page v ion number wn second (suc (suc (suc (suc zero)))) =
     word5_bytes v.health ion wn second
 word_of_page v ion number wn second (suc (suc (suc (suc (suc m))))) = replicate 16 0
 
--- the word of the page that a Galileo satellite sends at a stamp
+-- the word of the page that a Galileo satellite sends at a time tag
 abbrev pub word_at : ℕ → ℕ → ℕ → ℕ → ℕ → List ℕ
 word_at seed n r stamp number =
     word_of_page (gal_of seed n number) (gal_ion_of seed n) number ((r - 1024) % 4096)
@@ -55,6 +55,6 @@ abbrev pub text_of_lines : ℕ → ℕ → ℕ → List Sending → List ℕ
 text_of_lines seed n r [] = []
 text_of_lines seed n r (x ∷ xs) = line_of seed n r x ++ text_of_lines seed n r xs
 
--- the capture of n satellites of each system in the week r, whose values are drawn from the seed
+-- the capture of n satellites of each system in the week r, whose values are random, from the seed
 unfoldable pub capture_text : ℕ → ℕ → ℕ → List ℕ
 capture_text seed n r = codes "NAVCAP 1" ++ 10 ∷ text_of_lines seed n r (lines_of n)

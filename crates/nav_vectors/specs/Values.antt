@@ -1,5 +1,5 @@
--- The broadcast values, drawn field by field. The numbers after `draw x` are the index of the draw and the width of the
--- field in bits, that of RTCM 10403.3, messages 1019 and 1046.
+-- The broadcast values, random field by field. The numbers after `draw x` are the index of the draw
+-- and the width of the field in bits, that of RTCM 10403.3, messages 1019 and 1046.
 use Rattle.std.specs.Prelude.{ℕ, ◌+◌, ◌-◌, ◌*◌, ◌%◌}
 use Rattle.nav_eph.specs.declared.ion.GpsIon.{GpsIon}
 use Rattle.nav_eph.specs.declared.ion.GalIon.{GalIon}

@@ -14,8 +14,8 @@ use std::alloc::{AllocError, Global};
 const ROOM: usize = 605 * 88 + 7260 * 44;
 
 /// Generates a capture of one hour in the week `r`: the subframes of GPS satellites 1 to `sats` and
-/// the page parts of Galileo satellites 1 to `sats` on E1-B and E5b, with values drawn from the
-/// seed.
+/// the page parts of Galileo satellites 1 to `sats` on E1-B and E5b, with values that are random,
+/// from the seed.
 ///
 /// It has `NAVCAP 1` and then `7,865 sats` lines, about 370,000 bytes for each of `sats`. Each
 /// satellite sends one ephemeris of one issue, and all those of a system the same ionosphere. The

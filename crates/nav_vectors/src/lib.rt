@@ -3,8 +3,8 @@
 //!
 //! [`make_capture`] gives what a logger could have received in one hour: a subframe of each GPS
 //! satellite every 6 seconds (IS-GPS-200, 20.3), and a page part of each Galileo satellite every
-//! second on E1-B and on E5b (Galileo OS SIS ICD, 4.3). The broadcast values are drawn from a seed,
-//! so three small numbers determine a capture.
+//! second on E1-B and on E5b (Galileo OS SIS ICD, 4.3). The broadcast values are random, from a
+//! seed, so three small numbers determine a capture.
 //!
 //! ```rust
 //! use gnss_week::RefWeek;

@@ -16,7 +16,7 @@ use std::alloc::{AllocError, Global};
 /// The values and pages that the satellites send.
 #[derive(Drop)]
 pub struct Senders {
-    /// The seed that the values are drawn from.
+    /// The seed of the random values.
     pub seed: u32,
     /// The number of satellites of each system.
     pub sats: u8,

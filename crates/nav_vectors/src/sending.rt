@@ -13,14 +13,14 @@ use std::alloc::{AllocError, Global};
 pub enum Sending {
     /// A subframe of the GPS satellite with that number.
     Subframe {
-        /// The stamp, in seconds.
+        /// The time tag, in seconds.
         stamp: u32,
         /// The satellite number.
         number: u8,
     },
     /// A page part of the Galileo satellite with that number.
     Half {
-        /// The stamp, in seconds.
+        /// The time tag, in seconds.
         stamp: u32,
         /// The satellite number.
         number: u8,

@@ -1,4 +1,4 @@
-//! The broadcast values of the satellites, drawn field by field.
+//! The broadcast values of the satellites, random field by field.
 
 ghost use Rattle.std.specs.Prelude.{◌≡◌};
 ghost use Rattle.nav_vectors.specs.Draws.{state_after};
@@ -20,7 +20,7 @@ pub struct GpsValues {
     pub side: GpsSide,
     /// The orbit parameters of subframe 2.
     pub a: GpsOrbitA,
-    /// The fit interval flag: 1 where the curve fit interval is longer than 4 hours.
+    /// The fit interval flag: 1 if the curve fit interval is longer than 4 hours.
     pub fit: U<1>,
     /// The orbit parameters of subframe 3.
     pub b: GpsOrbitB,

@@ -1,4 +1,5 @@
--- A conversion over memory: what it makes of an input, how that stands in the rooms that it was given, and what its status says.
+-- A conversion over memory: its output for an input, how that is put into the given buffers, and
+-- what its status means.
 use Rattle.std.specs.Prelude.{◌≡◌, ◌≢◌, ◌⊎◌, ◌↔◌, ◌^◌, ◌<◌, ◌≤◌, ℕ, List, [], length, All, IsUtf8, None, IsSome, if◌then◌else◌}
 use Rattle.nav_io.specs.Prefix.{IsPrefix}
 use Rattle.bridge_engine.specs.Job.{GivesJob, IsJob}
@@ -18,19 +19,19 @@ made_of output report = record { output = output; report = report }
 abbrev pub nothing : Made
 nothing = made_of [] []
 
--- the bytes of its input that a job reads: all, or none
+-- the bytes of its input that a conversion reads: all, or none
 abbrev pub read_by : Job → List ℕ → List ℕ
 read_by job input = if (meaning_of job).reads then input else []
 
--- the job accepts the input, and made of it all that it gives
+-- the conversion accepts the input, and made of it all that it gives
 pub record IsWhole (job : Job) (input : List ℕ) (made : Made) : Type 0 where
   pub accepted : IsSome ((meaning_of job).counts (read_by job input))
   pub fits : length (read_by job input) < 2 ^ 32
   pub output : made.output ≡ (meaning_of job).whole.output (read_by job input)
   pub report : made.report ≡ (meaning_of job).whole.report (read_by job input)
 
--- The job ended before it was done: it took some prefix of the input, and made a prefix of what that gives, no less than the
--- least.
+-- The conversion ended before it was done: it took some prefix of the input, and made a prefix of
+-- what that gives, no less than the least.
 pub record IsBegun (job : Job) (input : List ℕ) (made : Made) : Type 0 where
   pub taken : List ℕ
   pub prefix : IsPrefix taken (read_by job input)
@@ -38,22 +39,22 @@ pub record IsBegun (job : Job) (input : List ℕ) (made : Made) : Type 0 where
   pub least : IsPrefix ((meaning_of job).least taken) made.output
   pub report : IsPrefix made.report ((meaning_of job).whole.report taken)
 
--- the words give a job, and this holds of it
+-- the arguments name a conversion, and this holds of it
 abbrev pub ForJob : List (List ℕ) → (Job → Type 0) → Type 0
 ForJob words holds = (job : Job) × IsJob words job × holds job
 
--- How a conversion ended that made this, by its status: what it made of the input of the job that the words give, and whether
--- there was room for it.
+-- How a conversion ended that made this, by its status: what it made of the input of the conversion
+-- that the arguments name, and whether it fitted.
 pub record HasEnded (words : List (List ℕ)) (input : List ℕ) (room report_room : ℕ) (made : Made) (status : ℕ) : Type 0 where
   -- all was made, and there was room for it
   pub done : status ≡ 0 → ForJob words (λ job. IsWhole job input made × (length made.output ≤ room) × (length made.report ≤ report_room))
-  -- the words give no job
+  -- the arguments name no conversion
   pub no_job : status ≡ 2 → ¬ GivesJob words × (made ≡ nothing)
   -- the input never fails
   pub reads : status ≢ 3
   -- all was made, and the output is longer than its room
   pub output_short : status ≡ 4 → ForJob words (λ job. IsWhole job input made × (room < length made.output))
-  -- the input is not of the form that the job reads
+  -- the input is not of the format that the conversion reads
   pub not_this_form : status ≡ 5 → ForJob words (λ job. ((meaning_of job).counts (read_by job input) ≡ None) × (made ≡ nothing))
   -- there was no memory
   pub no_memory : status ≡ 6 → (made ≡ nothing) ⊎ ForJob words (λ job. IsBegun job input made)

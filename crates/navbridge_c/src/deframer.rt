@@ -1,7 +1,7 @@
 //! A deframer in memory that C hands in (RTCM 10403.3, the transport layer).
 //!
 //! Contracts see the memory at `at` as a deframer in some state: that is theirs for the call, and
-//! comes back in the state that the contract names.
+//! afterwards in the state that the contract names.
 
 ghost use Rattle.std.specs.Prelude.{◌≡◌, ◌≤◌, take};
 ghost use Rattle.std.specs.Borrow.{sem};
@@ -31,9 +31,9 @@ pub unsafe extern "C" fn nb_deframer_init(at: *mut u8)
     std::ptr::write(place, deframer::new());
 }
 
-/// Feeds bytes from the start of a piece, and tells how many: at least one, but none where the
-/// piece is empty, a frame is decided that `nb_deframer_next` was not asked for, or
-/// `nb_deframer_finish` was called.
+/// Feeds bytes from the start of a piece, and returns how many: at least one, but none if the piece
+/// is empty, a frame is decided that `nb_deframer_next` was not asked for, or `nb_deframer_finish`
+/// was called.
 #[unsafe(no_mangle)]
 pub unsafe extern "C" fn nb_deframer_feed(at: *mut u8, bytes: &[u8]) -> usize
     ghost old: { DeframerState }
@@ -45,8 +45,8 @@ pub unsafe extern "C" fn nb_deframer_feed(at: *mut u8, bytes: &[u8]) -> usize
     deframer::feed(&mut *place, bytes)
 }
 
-/// Puts the prefix that fits of the next frame, and tells its size; 0 where no frame is decided,
-/// and after `nb_deframer_finish` where there is none.
+/// Puts the prefix that fits of the next frame, and returns its size; 0 if no frame is decided, and
+/// after `nb_deframer_finish` if there is none.
 #[unsafe(no_mangle)]
 pub unsafe extern "C" fn nb_deframer_next(at: *mut u8, frame: &mut [u8]) -> usize
     ghost old: { DeframerState }
@@ -58,7 +58,7 @@ pub unsafe extern "C" fn nb_deframer_next(at: *mut u8, frame: &mut [u8]) -> usiz
     deframer::next(&mut *place, frame)
 }
 
-/// Says that no byte follows.
+/// Ends the input: no byte follows.
 #[unsafe(no_mangle)]
 pub unsafe extern "C" fn nb_deframer_finish(at: *mut u8)
     ghost old: { DeframerState }

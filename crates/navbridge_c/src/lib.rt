@@ -11,8 +11,8 @@
 //! - [`nb_week_of_unix`] gives the week of a time;
 //! - [`nb_convert`] does a conversion over memory, as the program does it over its streams.
 //!
-//! A call that answers a number other than 0 has put nothing, but for `nb_convert`, and has set the
-//! length to 0 where it tells one.
+//! A call that returns a number other than 0 has put nothing, but for `nb_convert`, and has set the
+//! length to 0 if it returns one.
 #![tactic(auto)]
 
 mod convert;
@@ -53,22 +53,22 @@ use c_records::ItemRaw;
 use c_rows::{ColumnRaw, RowRaw};
 use std::alloc::Global;
 
-/// Does the job that the words give, as the program `navbridge` does it, from an input in memory to
-/// an output and a report in memory.
+/// Does the conversion that the arguments name, as the program `navbridge` does it, from an input
+/// in memory to an output and a report in memory.
 ///
-/// The prefix of the output that there is room for is put into `output`, and the length of the
-/// whole of it into `output_used`; the same of the report. What stands behind stays.
+/// The prefix of the output that fits is put into `output`, and its full length into `output_used`;
+/// the same of the report. What is after it is unchanged.
 ///
 /// | Status | Comes |
 /// |---|---|
-/// | 0 | the input was read to its end, and there was room for all that it gives |
-/// | 2 | the words give no job |
-/// | 4 | all was done, and there was no room for the output, whose length says how much it takes |
-/// | 5 | the first line of a capture, or the header of a navigation file, is refused |
+/// | 0 | the input was read to its end, and all that it gives fits |
+/// | 2 | the arguments name no conversion |
+/// | 4 | all was done, and the output does not fit; its length is the size that it needs |
+/// | 5 | the first line of a capture, or the header of a navigation file, is rejected |
 /// | 6 | there was no memory; of what was taken a prefix was made |
-/// | 7 | all was done, there was room for the output, and not for the report |
-/// | 8 | the input has more than 4,294,967,295 bytes, and the job reads it |
-/// | 9 | a word is not UTF-8 |
+/// | 7 | all was done, the output fits, and the report does not |
+/// | 8 | the input has more than 4,294,967,295 bytes, and the conversion reads it |
+/// | 9 | an argument is not UTF-8 |
 #[unsafe(no_mangle)]
 pub extern "C" fn nb_convert(
     alloc: Global,
@@ -93,7 +93,8 @@ pub extern "C" fn nb_convert(
     ))
 }
 
-/// Whether these bytes are one whole frame of RTCM 10403.3 with a right checksum, and nothing else.
+/// Whether these bytes are one complete frame of RTCM 10403.3 with a right checksum, and nothing
+/// else.
 #[unsafe(no_mangle)]
 pub extern "C" fn nb_is_frame(bytes: &[u8]) -> bool
     ensures frame { IsTrue result ↔ IsFrame bytes.now }
@@ -101,8 +102,8 @@ pub extern "C" fn nb_is_frame(bytes: &[u8]) -> bool
     c_messages::is_frame(bytes)
 }
 
-/// Puts the prefix that fits of the frame of a payload of at most 1,023 bytes, and tells its size;
-/// 0 exactly where the payload is longer.
+/// Puts the prefix that fits of the frame of a payload of at most 1,023 bytes, and returns its
+/// size; 0 exactly if the payload is longer.
 #[unsafe(no_mangle)]
 pub extern "C" fn nb_frame_make(payload: &[u8], frame: &mut [u8]) -> usize
     ensures frame { length payload.now ≤ 1023 →
@@ -113,7 +114,7 @@ pub extern "C" fn nb_frame_make(payload: &[u8], frame: &mut [u8]) -> usize
 }
 
 /// Puts the ephemeris in a payload of message 1019 or 1046, whose full week is the one near a
-/// reference week, 1024 to 8191; 16 to 22 where there is none.
+/// reference week, 1024 to 8191; 16 to 22 if there is none.
 #[unsafe(no_mangle)]
 pub extern "C" fn nb_message_read(payload: &[u8], week: u32, item: &mut ItemRaw) -> u32
     ensures message { IsReference week →
@@ -123,8 +124,8 @@ pub extern "C" fn nb_message_read(payload: &[u8], week: u32, item: &mut ItemRaw)
     c_messages::read_message(payload, week, item)
 }
 
-/// Puts the ephemeris in message 1019 or 1046 of a whole frame, as `nb_message_read` of its payload;
-/// 26 where the bytes are not one whole frame.
+/// Puts the ephemeris in message 1019 or 1046 of a complete frame, as `nb_message_read` of its
+/// payload; 26 if the bytes are not one complete frame.
 #[unsafe(no_mangle)]
 pub extern "C" fn nb_frame_read(frame: &[u8], week: u32, item: &mut ItemRaw) -> u32
     ensures message { IsFrame frame.now → IsReference week →
@@ -137,7 +138,7 @@ pub extern "C" fn nb_frame_read(frame: &[u8], week: u32, item: &mut ItemRaw) -> 
 }
 
 /// Puts the prefix that fits of the frame of the message of an ephemeris, and its size into `used`;
-/// 23 where the numbers stand for no item, 25 for ionospheric parameters.
+/// 23 if the numbers encode no item, 25 for ionospheric parameters.
 #[unsafe(no_mangle)]
 pub extern "C" fn nb_message_write(item: &ItemRaw, frame: &mut [u8], used: &mut usize) -> u32
     ensures item { IsItemIn (item_in item.now) →
@@ -148,7 +149,7 @@ pub extern "C" fn nb_message_write(item: &ItemRaw, frame: &mut [u8], used: &mut 
     c_messages::write_message(item, frame, used)
 }
 
-/// Puts the content of an LNAV subframe received from that GPS satellite; 48 to 62 where there is
+/// Puts the content of an LNAV subframe received from that GPS satellite; 48 to 62 if there is
 /// none.
 #[unsafe(no_mangle)]
 pub extern "C" fn nb_subframe_read(
@@ -166,7 +167,7 @@ pub extern "C" fn nb_subframe_read(
 }
 
 /// Puts the bits of the LNAV subframe with this content and TOW count; 63 for a TOW count of
-/// 100,800 or more, 23 where the numbers stand for no subframe.
+/// 100,800 or more, 23 if the numbers encode no subframe.
 #[unsafe(no_mangle)]
 pub extern "C" fn nb_subframe_write(
     subframe: &SubframeRaw,
@@ -183,7 +184,7 @@ pub extern "C" fn nb_subframe_write(
 }
 
 /// Puts the ephemeris of subframes 1, 2 and 3 of a GPS satellite, of one issue, dated near a
-/// reference week; 22, 62 or 23 where there is none.
+/// reference week; 22, 62 or 23 if there is none.
 #[unsafe(no_mangle)]
 pub extern "C" fn nb_subframes_join(
     subframes: &SubframesRaw,
@@ -204,7 +205,7 @@ pub extern "C" fn nb_subframes_join(
 }
 
 /// Puts the ephemeris of words 1 to 5 of a Galileo satellite, of one issue, dated near a reference
-/// week; 22, 62 or 23 where there is none.
+/// week; 22, 62 or 23 if there is none.
 #[unsafe(no_mangle)]
 pub extern "C" fn nb_words_join(
     words: &WordsRaw,
@@ -224,8 +225,8 @@ pub extern "C" fn nb_words_join(
     c_messages::join_words(words, satellite, week, item)
 }
 
-/// Puts the content of the word of an I/NAV page received from that Galileo satellite; 62 to 71
-/// where there is none.
+/// Puts the content of the word of an I/NAV page received from that Galileo satellite; 62 to 71 if
+/// there is none.
 #[unsafe(no_mangle)]
 pub extern "C" fn nb_page_read(page: &PageBits, satellite: u32, word: &mut WordRaw) -> u32
     ensures satellite { (IsSat Gal satellite → ⊥) → (result ≡ 62) × (word.new ≡ word.old) }
@@ -243,8 +244,8 @@ pub extern "C" fn nb_page_read(page: &PageBits, satellite: u32, word: &mut WordR
     c_messages::read_page(page, satellite, word)
 }
 
-/// Puts the I/NAV page of the word with this content, sent by that Galileo satellite; 62 where
-/// there is no such satellite, 23 where the numbers stand for no word.
+/// Puts the I/NAV page of the word with this content, sent by that Galileo satellite; 62 if there
+/// is no such satellite, 23 if the numbers encode no word.
 #[unsafe(no_mangle)]
 pub extern "C" fn nb_page_write(word: &WordRaw, satellite: u32, page: &mut PageBits) -> u32
     ensures satellite { (IsSat Gal satellite → ⊥) → (result ≡ 62) × (page.new ≡ page.old) }
@@ -257,8 +258,7 @@ pub extern "C" fn nb_page_write(word: &WordRaw, satellite: u32, page: &mut PageB
 }
 
 /// Puts the item that the text of one record of a navigation file gives, of version 4 with its
-/// title line, of version 3 without; 32 to 42 where there is none, 24 where there is no such
-/// version.
+/// title line, of version 3 without; 32 to 42 if there is none, 24 if there is no such version.
 #[unsafe(no_mangle)]
 pub extern "C" fn nb_record_read(text: &[u8], version: u32, item: &mut ItemRaw) -> u32
     ensures read { IsVersion version →
@@ -269,8 +269,8 @@ pub extern "C" fn nb_record_read(text: &[u8], version: u32, item: &mut ItemRaw) 
 }
 
 /// Puts the prefix that fits of the record of an item in a navigation file of version 4, with its
-/// title line, or 3, without, and its length into `used`; 24 where there is no such version, 23
-/// where the numbers stand for no item.
+/// title line, or 3, without, and its length into `used`; 24 if there is no such version, 23 if the
+/// numbers encode no item.
 #[unsafe(no_mangle)]
 pub extern "C" fn nb_record_write(
     item: &ItemRaw,
@@ -289,7 +289,7 @@ pub extern "C" fn nb_record_write(
 }
 
 /// How many bytes the first record of the bytes of a file has: the lines up to the next that begins
-/// one, or up to the end of the file. 0 where more bytes may decide it, and where there is none.
+/// one, or up to the end of the file. 0 where more bytes may decide it, and if there is none.
 #[unsafe(no_mangle)]
 pub extern "C" fn nb_record_size(text: &[u8], version: u32, is_end: bool) -> usize
     ensures version4 { version ≡ 4 → EndsRecord rinex4 text.now is_end result }
@@ -299,7 +299,7 @@ pub extern "C" fn nb_record_size(text: &[u8], version: u32, is_end: bool) -> usi
     c_messages::record_size(text, version, is_end)
 }
 
-/// How many bytes the header at the start of these has, with the line that ends it; 0 where none of
+/// How many bytes the header at the start of these has, with the line that ends it; 0 if none of
 /// them does.
 #[unsafe(no_mangle)]
 pub extern "C" fn nb_header_size(text: &[u8]) -> usize
@@ -309,8 +309,8 @@ pub extern "C" fn nb_header_size(text: &[u8]) -> usize
 }
 
 /// Puts the prefix that fits of the header of a navigation file of version 4 or 3, and its length
-/// into `used`; 24 where there is no such version, 27 where the date or the leap seconds cannot
-/// stand in a header.
+/// into `used`; 24 if there is no such version, 27 if the date or the leap seconds cannot are in a
+/// header.
 #[unsafe(no_mangle)]
 pub extern "C" fn nb_header_write(
     header: &HeaderRaw,
@@ -339,8 +339,8 @@ pub extern "C" fn nb_week_of_unix(seconds: u64) -> u32
     c_messages::week_of_unix(seconds)
 }
 
-/// Puts the row of a payload of an ephemeris message of any system, near a reference week; 16 to 22,
-/// 28 or 29 where there is none.
+/// Puts the row of a payload of an ephemeris message of any system, near a reference week; 16 to
+/// 22, 28 or 29 if there is none.
 #[unsafe(no_mangle)]
 pub extern "C" fn nb_row_from_message(payload: &[u8], week: u32, row: &mut RowRaw) -> u32
     ensures row { IsReference week → 3 ≤ length payload.now →
@@ -352,8 +352,8 @@ pub extern "C" fn nb_row_from_message(payload: &[u8], week: u32, row: &mut RowRa
     c_rows::read_row(payload, week, row)
 }
 
-/// Puts the prefix that fits of the record of a row (RINEX 4.01), and its length into `used`; 23
-/// where the numbers stand for no row.
+/// Puts the prefix that fits of the record of a row (RINEX 4.01), and its length into `used`; 23 if
+/// the numbers encode no row.
 #[unsafe(no_mangle)]
 pub extern "C" fn nb_row_rinex(row: &RowRaw, text: &mut [u8], used: &mut usize) -> u32
     ensures row { WritesRow row.now text.old text.new used.new result }
@@ -361,7 +361,7 @@ pub extern "C" fn nb_row_rinex(row: &RowRaw, text: &mut [u8], used: &mut usize) 
     c_rows::write_row(row, text, used)
 }
 
-/// Puts the unit of the column with that index of a row; 23 where there is none.
+/// Puts the unit of the column with that index of a row; 23 if there is none.
 #[unsafe(no_mangle)]
 pub extern "C" fn nb_row_column(row: &RowRaw, index: u32, column: &mut ColumnRaw) -> u32
     ensures column { GivesColumn row.now.message index column.old column.new result }

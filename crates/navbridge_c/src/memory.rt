@@ -19,7 +19,7 @@ impl<'a> Source for Lent<'a> {
 
     ghost never_fails = { λ _. true };
 
-    /// Gives what is left, as much as there is room for.
+    /// Gives what is left, as much as fits.
     fn read(&mut self, into: &mut [u8]) -> Result<usize, Failed> {
         let count = give(self.left, into);
         self.left = &self.left[count..];

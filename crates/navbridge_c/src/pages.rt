@@ -18,8 +18,8 @@ pub extern "C" fn nb_pages_size() -> usize
     std::mem::size_of::<PagePairs>()
 }
 
-/// Makes page parts of this memory, whatever it held: none was taken. A part is kept while its
-/// stamp is at most the window and one second below the greatest; a window below 60 seconds is
+/// Makes page parts of this memory, whatever it held: none was taken. A part is retained while its
+/// time tag is at most the window and one second below the greatest; a window below 60 seconds is
 /// taken as 60, and above 14,400 as 14,400.
 #[unsafe(no_mangle)]
 pub unsafe extern "C" fn nb_pages_init(at: *mut u8, alloc: Global, window: u32)
@@ -31,8 +31,8 @@ pub unsafe extern "C" fn nb_pages_init(at: *mut u8, alloc: Global, window: u32)
 }
 
 /// Takes a page part of 120 bits, received from that Galileo satellite on signal 1 (E1-B) or 2
-/// (E5b-I) at a stamp in seconds: 0; 6 for want of memory, 62 where there is no such satellite, 65
-/// for a part of an alert page, 72 where there is no such signal.
+/// (E5b-I) at a time tag in seconds: 0; 6 if out of memory, 62 if there is no such satellite, 65
+/// for a part of an alert page, 72 if there is no such signal.
 #[unsafe(no_mangle)]
 pub unsafe extern "C" fn nb_pages_take(
     at: *mut u8,
@@ -50,7 +50,7 @@ pub unsafe extern "C" fn nb_pages_take(
     pages::take(&mut *place, part, stamp, satellite, signal)
 }
 
-/// Puts the page of the next word that the last part made with its partners, and answers 1; 0 where
+/// Puts the page of the next word that the last part made with its partners, and returns 1; 0 if
 /// there is none.
 #[unsafe(no_mangle)]
 pub unsafe extern "C" fn nb_pages_next(at: *mut u8, page: &mut JoinedPage) -> u32
@@ -63,7 +63,7 @@ pub unsafe extern "C" fn nb_pages_next(at: *mut u8, page: &mut JoinedPage) -> u3
     pages::next(&mut *place, page)
 }
 
-/// Gives all memory back that the page parts took; none is kept, and the window is of 60 seconds.
+/// Releases all memory that the page parts took; none is retained, and the window is of 60 seconds.
 #[unsafe(no_mangle)]
 pub unsafe extern "C" fn nb_pages_close(at: *mut u8)
     ghost old: { PagesState }

@@ -1,7 +1,7 @@
 //! Conversions whose input is pushed in pieces, in memory that C hands in.
 //!
 //! Contracts see the memory at `at` as a conversion in some state: that is theirs for the call, and
-//! comes back in a state as the contract says.
+//! afterwards in a state as the contract states.
 
 ghost use Rattle.std.specs.Prelude.{◌≡◌, ◌≤◌, map};
 ghost use Rattle.std.specs.Borrow.{sem};
@@ -21,9 +21,9 @@ pub extern "C" fn nb_push_size() -> usize
     std::mem::size_of::<Conversion>()
 }
 
-/// Makes a conversion of this memory, whatever it held, and opens the job that the words give: 0; 2
-/// where they give none, 6 for want of memory, 9 where a word is not UTF-8, and 10 where the input
-/// of their job cannot be pushed.
+/// Makes a conversion of this memory, whatever it held, and opens the conversion that the arguments
+/// name: 0; 2 if they give none, 6 if out of memory, 9 if an argument is not UTF-8, and 10 if the
+/// input of their conversion cannot be pushed.
 #[unsafe(no_mangle)]
 pub unsafe extern "C" fn nb_push_open(at: *mut u8, alloc: Global, words: &[&[u8]]) -> u32
     requires* { sem 𝓛 (HasPushRoom at) }
@@ -35,8 +35,8 @@ pub unsafe extern "C" fn nb_push_open(at: *mut u8, alloc: Global, words: &[&[u8]
     push::open(&mut *place, words)
 }
 
-/// Pushes a piece of the input: 0; 5 where the first line of a capture is refused, 6 for want of
-/// memory, 8 where a capture has 2^32 bytes, or a stream 2^64. Each answer but 0 is that of each
+/// Pushes a piece of the input: 0; 5 if the first line of a capture is rejected, 6 if out of
+/// memory, 8 if a capture has 2^32 bytes, or a stream 2^64. Each return but 0 is that of each
 /// further call.
 #[unsafe(no_mangle)]
 pub unsafe extern "C" fn nb_push(at: *mut u8, bytes: &[u8]) -> u32
@@ -48,7 +48,7 @@ pub unsafe extern "C" fn nb_push(at: *mut u8, bytes: &[u8]) -> u32
     push::push(&mut *place, bytes)
 }
 
-/// Says that no byte follows: 0; 5, 6 or 8 as `nb_push`.
+/// Ends the input: 0; 5, 6 or 8 as `nb_push`.
 #[unsafe(no_mangle)]
 pub unsafe extern "C" fn nb_push_finish(at: *mut u8) -> u32
     ghost old: { PushState }
@@ -59,7 +59,7 @@ pub unsafe extern "C" fn nb_push_finish(at: *mut u8) -> u32
     push::finish(&mut *place)
 }
 
-/// Puts what waits of the output, as many bytes as there is room for, and tells how many.
+/// Puts pending output, as many bytes as fit, and returns how many.
 #[unsafe(no_mangle)]
 pub unsafe extern "C" fn nb_push_take(at: *mut u8, room: &mut [u8]) -> usize
     ghost old: { PushState }
@@ -71,7 +71,7 @@ pub unsafe extern "C" fn nb_push_take(at: *mut u8, room: &mut [u8]) -> usize
     push::take(&mut *place, room)
 }
 
-/// Puts what waits of the report, as many bytes as there is room for, and tells how many.
+/// Puts the pending report, as many bytes as fit, and returns how many.
 #[unsafe(no_mangle)]
 pub unsafe extern "C" fn nb_push_take_report(at: *mut u8, room: &mut [u8]) -> usize
     ghost old: { PushState }
@@ -83,7 +83,7 @@ pub unsafe extern "C" fn nb_push_take_report(at: *mut u8, room: &mut [u8]) -> us
     push::take_report(&mut *place, room)
 }
 
-/// Gives all memory back that the conversion took; no job is open then.
+/// Releases all memory that the conversion took; no conversion is open then.
 #[unsafe(no_mangle)]
 pub unsafe extern "C" fn nb_push_close(at: *mut u8)
     ghost old: { PushState }

@@ -82,7 +82,8 @@ value_in asked name = first_of name (rows_of (found_of asked.matches))
 abbrev pub has_flag : Asked → Text → Bool
 has_flag asked name = is_set name (rows_of (found_of asked.matches))
 
--- What is read of words: their values by the options, where they have no mistake, and else the first mistake, or want of memory.
+-- What is read of words: their values by the options, if they have no usage error, and else the
+-- first one, or out of memory.
 pub record ReadsWords (words : List Text) (result : Result Asked Error) : Type 0 where
   pub forms : Bor (List (Bor Text))
   pub targets : Bor (List (Bor Text))
@@ -94,7 +95,7 @@ pub record ReadsWords (words : List Text) (result : Result Asked Error) : Type 0
 
 -- ---- rows of the table of options, which only private functions cite
 
--- the rule with a short name, where one is there
+-- the rule with a short name, if one is there
 abbrev pub with_short : Option ℕ → Rule → Rule
 with_short None rule = rule
 with_short (Some short) rule = record rule { short = Some short }

@@ -7,7 +7,7 @@ use std::rt::Clock;
 // The seconds from 1970-01-01 to 1980-01-06, with which the weeks of GPS begin.
 const FIRST_SECOND: u64 = 315_964_800;
 
-/// The moment of the clock; the first one where it is before that, or cannot be read.
+/// The GPS time of the clock; the first one if it is before that, or cannot be read.
 pub(crate) fn now(rt: &HostRuntime) -> Moment {
     let seconds = match rt.since_1970() {
         Ok(since) => since.as_secs().saturating_sub(FIRST_SECOND),
@@ -19,12 +19,12 @@ pub(crate) fn now(rt: &HostRuntime) -> Moment {
     }
 }
 
-/// The reference week nearest to a moment.
+/// The reference week nearest to a GPS time.
 pub(crate) fn week_of(moment: Moment) -> Option<RefWeek> {
     RefWeek::new(moment.week().clamp(1024, 8191))
 }
 
-/// The date of a moment, as the header of a navigation file has it.
+/// The date of a GPS time, as the header of a navigation file has it.
 pub(crate) fn date_of(alloc: Global, moment: Moment) -> Result<String, AllocError> {
     let Civil {
         year,

@@ -16,7 +16,7 @@ use file_conversion::{Target, kind_named, target_named};
 use std::alloc::{AllocError, Global};
 use whole_file::Kind;
 
-/// What the command line asks for.
+/// What the arguments name.
 #[derive(Drop)]
 pub(crate) struct Asked<'a> {
     /// What the parser found.
@@ -72,12 +72,12 @@ impl<'a> Asked<'a> {
     }
 }
 
-/// What the words ask for; they do not include the program's name.
+/// What the arguments ask for; they do not include the program's name.
 ///
 /// # Errors
 ///
-/// Help or the version was asked for, or the words are not a valid command line: `print` writes the
-/// text to standard output or standard error.
+/// Help or the version was asked for, or the arguments are not valid: `print` writes the text to
+/// standard output or standard error.
 pub(crate) fn read_words<'a>(alloc: Global, words: &'a [String]) -> Result<Asked<'a>, Error>
     ensures { ReadsWords (map string_bytes words.now) result }
 {

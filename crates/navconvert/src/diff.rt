@@ -20,8 +20,8 @@ struct Compared<'a> {
     input: Peeked<Input<'a>>,
 }
 
-/// Writes the differences of two files to standard output; the status: 0 where they have the same
-/// items, and 1 where they have not.
+/// Writes the differences of two files to standard output; the status: 0 if they have the same
+/// items, and 1 if they have not.
 pub(crate) fn diff_asked(rt: &HostRuntime, asked: &Asked) -> u8 {
     match asked.files() {
         Some([first, second]) if !has_more(asked) => match diff(rt, asked, first, second) {

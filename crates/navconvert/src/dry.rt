@@ -85,7 +85,7 @@ fn show_kind(
     line.end(name)
 }
 
-/// The reference week of a job.
+/// The reference week of a conversion.
 pub(crate) fn week_in(job: &Job) -> Option<RefWeek> {
     match job {
         Job::Capture(job) => job.week,

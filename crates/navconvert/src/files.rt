@@ -26,7 +26,7 @@ pub(crate) struct Settings<'a> {
     pub rt: &'a HostRuntime,
     /// What is asked of each file.
     pub plan: Plan,
-    /// The bytes that stand for files which were converted before.
+    /// The bytes that replace files which were converted before.
     pub staged: &'a [Staged],
     /// What was rejected and skipped of those.
     pub before: Before,
@@ -36,21 +36,21 @@ pub(crate) struct Settings<'a> {
     pub report: Option<&'a File>,
     /// The rejections of the file that is read.
     pub rejections: &'a Rejections<'a>,
-    /// The name of the file for reports, where one is named.
+    /// The name of the file for reports, if one is named.
     pub report_name: Option<&'a str>,
-    /// The site of names by the convention of RINEX, where they are wanted.
+    /// The site of names by the convention of RINEX, if they are asked for.
     pub site: Option<&'a str>,
     /// Whether a file that has the name of an output is replaced.
     pub overwrites: bool,
-    /// Whether nothing is said of what was done.
+    /// Whether nothing is printed about what was done.
     pub quiet: bool,
-    /// Whether the words of navbridge are printed, and nothing is done.
+    /// Whether the command of navbridge is printed, and nothing is done.
     pub dry: bool,
     /// Whether standard error is a terminal.
     pub metered: bool,
 }
 
-/// Converts a file, `-` for standard input, and says what became of it; the status.
+/// Converts a file, `-` for standard input, and reports what became of it; the status.
 pub(crate) fn convert_file<'a>(
     settings: &Settings<'a>,
     file: &'a &'a str,
@@ -90,7 +90,7 @@ pub(crate) fn are_joined(target: Target, files: &[&str]) -> bool {
     files.len() > 1 && target.takes_several()
 }
 
-/// Makes one output of files, which has the name of the first where none is named; the status.
+/// Makes one output of files, which has the name of the first if none is named; the status.
 pub(crate) fn convert_joined<'a>(
     settings: &Settings<'a>,
     files: &'a [&'a str],

@@ -105,7 +105,7 @@ pub(crate) fn file_kind(
     input_kind(settings, named, opened(settings.rt, inputs))
 }
 
-/// The form under which an input that was opened is read, where this one is named.
+/// The format under which an input that was opened is read, if this one is named.
 pub(crate) fn input_kind(
     settings: &Settings,
     named: Option<Kind>,

@@ -21,15 +21,15 @@ pub(crate) enum Bytes<'a> {
     Files(Files<'a>),
 }
 
-/// The bytes that stand for a file, where it was converted before.
+/// The bytes that replace a file, if it was converted before.
 pub(crate) type Staged = Option<Vec<u8>>;
 
-/// Files that are read as one: their names, and the bytes that stand for them, where there are any.
+/// Files that are read as one: their names, and the bytes that replace them, if there are any.
 #[derive(Clone, Copy)]
 pub(crate) struct Inputs<'a> {
     /// The names, `-` alone for standard input.
     pub names: &'a [&'a str],
-    /// The bytes that stand for the first of them.
+    /// The bytes that replace the first of them.
     pub staged: &'a [Staged],
 }
 

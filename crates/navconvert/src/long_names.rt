@@ -115,7 +115,7 @@ pub(crate) struct LongName<'x, 'a> {
     first: &'x str,
     site: &'x str,
     known: &'x Known,
-    /// The status, where no name was given and that was said.
+    /// The status, if no name was given and that was reported.
     pub status: Option<u8>,
     faults: u64,
 }

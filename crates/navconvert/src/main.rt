@@ -1,11 +1,10 @@
 //! `navconvert` converts files of GNSS broadcast orbits: `navconvert log.ubx` makes a navigation
 //! file of what a receiver logged, and `navconvert -t rtcm station.navcap` frames of RTCM 3.
 //!
-//! The form of each file is told by what is in it, and gives the job of `navbridge` for it. An
-//! output is written as a part beside its name, and gets the name once it is whole:
+//! The format of each file is recognised by its content, and gives the conversion of `navbridge`
+//! for it. An output is written as a part next to its name, and gets the name once it is complete:
 //! [`file_conversion::convert_one`] has the contract. What a file came to is one line on standard
-//! error.
-//! The status is that of the first file that failed, as `navbridge` has it.
+//! error. The status is that of the first file that failed, as `navbridge` has it.
 #![tactic(auto)]
 
 mod choices;

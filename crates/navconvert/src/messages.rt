@@ -52,7 +52,7 @@ impl Messages {
         self.sbf.see(piece);
     }
 
-    /// The messages that are skipped of a file of this form, which is at its end.
+    /// The messages that are skipped of a file of this format, which is at its end.
     pub(crate) fn skips(&mut self, kind: Kind) -> Skips {
         match kind {
             Kind::Stream => self.rtcm.end(),

@@ -10,7 +10,7 @@ const PAUSE: u64 = 500;
 // The time at which a line is shown that never is.
 const NEVER: u64 = u64::MAX;
 
-/// A line on standard error that says how far a file has come.
+/// A line on standard error that shows how far a file has come.
 #[derive(Drop)]
 pub(crate) struct Meter<'a> {
     rt: &'a HostRuntime,
@@ -22,7 +22,7 @@ pub(crate) struct Meter<'a> {
 }
 
 impl<'a> Meter<'a> {
-    /// For a file of this size, 0 where it has none. The line is shown after half a second.
+    /// For a file of this size, 0 if it has none. The line is shown after half a second.
     pub(crate) fn on(rt: &'a HostRuntime, file: &'a str, size: u64) -> Meter<'a> {
         let begun = now(rt);
         Meter {

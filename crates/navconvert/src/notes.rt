@@ -1,4 +1,4 @@
-//! What the report says of a log while it is read: the messages that are refused, as `navlog` has
+//! What the report has of a log while it is read: the messages that are rejected, as `navlog` has
 //! them.
 
 use crate::tally::Reported;
@@ -6,7 +6,7 @@ use nav_io::Failed;
 use receiver_log::{Refused, refusal};
 use receiver_messages::Reason;
 
-/// Who writes the messages of a log that are refused to the report.
+/// Who writes the messages of a log that are rejected to the report.
 #[derive(Drop)]
 pub(crate) struct Notes<'a> {
     to: Reported<'a>,

@@ -14,9 +14,9 @@ use std::path::{AsPath, Path, PathBuf};
 /// Where outputs go.
 #[derive(Clone, Copy)]
 pub(crate) enum Output<'a> {
-    /// Beside their inputs.
+    /// Next to their inputs.
     Beside,
-    /// Into a folder.
+    /// Into a directory.
     Folder(&'a str),
     /// To one file.
     File(&'a str),
@@ -24,7 +24,7 @@ pub(crate) enum Output<'a> {
     Standard,
 }
 
-/// Where the words want outputs.
+/// Where the arguments place outputs.
 pub(crate) fn output_of<'a>(rt: &HostRuntime, asked: &Asked<'a>) -> Output<'a> {
     match asked.value("output") {
         None => Output::Beside,
@@ -40,7 +40,7 @@ pub(crate) fn output_of<'a>(rt: &HostRuntime, asked: &Asked<'a>) -> Output<'a> {
     }
 }
 
-/// The size of a file of this name, 0 where it has none.
+/// The size of a file of this name, 0 if it has none.
 pub(crate) fn size_of(rt: &HostRuntime, name: &str) -> u64 {
     match fs::metadata(rt, name) {
         Ok(there) => there.len(),
@@ -48,7 +48,7 @@ pub(crate) fn size_of(rt: &HostRuntime, name: &str) -> u64 {
     }
 }
 
-/// The name of the output of a file, with this ending, in whatever folder.
+/// The name of the output of a file, with this ending, in whatever directory.
 pub(crate) fn name_of(alloc: Global, file: &str, ending: &str) -> Result<String, Refusal<'static>> {
     if file == "-" {
         return Err(Refusal::NoName);
@@ -68,7 +68,7 @@ pub(crate) fn owned(alloc: Global, name: &str) -> Result<String, Refusal<'static
     }
 }
 
-/// A name beside a file, or in the folder of outputs.
+/// A name next to a file, or in the directory of outputs.
 pub(crate) fn placed(
     alloc: Global,
     output: Output,

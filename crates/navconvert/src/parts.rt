@@ -14,8 +14,8 @@ const MOST: usize = 239;
 
 const SHORT: usize = 200;
 
-/// The name of the part of an output: that name, without its end where it would be too long, with
-/// `.navconvert.part` behind it.
+/// The name of the part of an output: that name, without its end if it would be too long, with
+/// `.navconvert.part` after it.
 pub(crate) fn part_name(alloc: Global, name: &str) -> Result<String, AllocError> {
     let own = match Path::new(name).file_name() {
         Some(own) => own.len(),
@@ -32,7 +32,7 @@ pub(crate) fn part_name(alloc: Global, name: &str) -> Result<String, AllocError>
 }
 
 /// Begins a part: a new file, locked while it is written. One that no run holds was left by a run
-/// that was cut off, and is taken away.
+/// that was interrupted, and is removed.
 pub(crate) fn begun(rt: &HostRuntime, part: &str) -> Result<File, FileFault> {
     match created(rt, part) {
         Err(error) if error.kind() == ErrorKind::AlreadyExists => {

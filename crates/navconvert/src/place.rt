@@ -1,4 +1,4 @@
-//! The folder of a conversion: what is read may be standard input or several files, and what is
+//! The directory of a conversion: what is read may be standard input or several files, and what is
 //! made may go to standard output, to memory, or nowhere.
 
 ghost use Rattle.std.specs.Prelude.{◌≡◌, IfOk};
@@ -91,7 +91,7 @@ pub(crate) struct Seen {
     pub made: Made,
 }
 
-/// The files of the system, of which some are read as one, and where what is made of them goes.
+/// The files of the system, of which some are read as one, and where their output goes.
 #[derive(Drop)]
 pub(crate) struct Place<'a> {
     folder: HostFolder<'a, HostRuntime>,
@@ -119,7 +119,7 @@ impl<'a> Place<'a> {
         }
     }
 
-    /// What was seen of an input that was read under this form, and of what was made of it.
+    /// What was seen of an input that was read under this format, and of what was made of it.
     pub(crate) fn seen(&mut self, kind: Option<Kind>) -> Seen {
         let skips = match kind {
             None => Skips::new(),
@@ -217,7 +217,7 @@ impl<'a> Folder for Place<'a> {
         }
     }
 
-    /// Removes the part, where there is one.
+    /// Removes the part, if there is one.
     fn discard(&mut self, draft: Draft, part: &str) -> Result<(), FileFault> {
         match draft.outlet {
             Outlet::File(file) => self.folder.discard(file, part),

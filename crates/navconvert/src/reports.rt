@@ -11,7 +11,7 @@ use std::io;
 use std::path::Path;
 use whole_file::{FileFault, fault_of};
 
-/// The file for reports, where one is named and can have them.
+/// The file for reports, if one is named and can have them.
 pub(crate) fn report_of<'a>(
     rt: &HostRuntime,
     asked: &Asked<'a>,

@@ -48,8 +48,8 @@ impl Before {
     }
 }
 
-/// The bytes that stand for those of the files which are of RINEX 3, where they are merged, and what
-/// was rejected and skipped of them; the status, where one was not converted.
+/// The bytes that replace those of the files which are of RINEX 3, if they are merged, and what was
+/// rejected and skipped of them; the status, if one was not converted.
 pub(crate) fn staged_of<'a>(
     settings: &Settings<'a>,
     files: &'a [&'a str],
@@ -72,7 +72,7 @@ pub(crate) fn staged_of<'a>(
     Ok((all, before))
 }
 
-/// Whether a file that can be read again is of RINEX 3, by its bytes, whatever form is named.
+/// Whether a file that can be read again is of RINEX 3, by its bytes, whatever format is named.
 pub(crate) fn is_three(settings: &Settings, file: &str) -> bool {
     if file == "-" || is_read_once(settings.rt, file) {
         return false;

@@ -19,15 +19,15 @@ pub(crate) struct Goes<'x> {
     pub goal: Goal,
     /// The name of the part.
     pub part: &'x str,
-    /// The name of the output where it is known, and else that of the part.
+    /// The name of the output if it is known, and else that of the part.
     pub name: &'x str,
-    /// What is said of the output, where that is not its name.
+    /// What is reported of the output, if that is not its name.
     pub shown: Option<&'x str>,
 }
 
-/// Converts files, the first of which has this name, and says what came of them, unless the output
-/// has no name, which the namer says. The status, and the name of the output where it was made: it
-/// may have been where its report was not.
+/// Converts files, the first of which has this name, and reports what came of them, unless the
+/// output has no name, which the namer reports. The status, and the name of the output if it was
+/// made: it may have been if its report was not.
 pub(crate) fn made_by<'x, 'a, A: Namer<Option<Done>>>(
     settings: &'x Settings<'a>,
     first: &'a str,
@@ -59,7 +59,8 @@ pub(crate) fn made_by<'x, 'a, A: Namer<Option<Done>>>(
     }
 }
 
-/// Converts files, the first of which has this name, with what is reported of them where that is asked.
+/// Converts files, the first of which has this name, with what is reported of them if that is
+/// asked.
 pub(crate) fn converted<'a, A: Namer<Option<Done>>>(
     settings: &Settings<'a>,
     place: &mut Place<'a>,

@@ -12,10 +12,10 @@ use receiver_log::LogCounts;
 use std::fmt;
 use whole_file::Kind;
 
-/// What a job has counted.
+/// What a conversion has counted.
 #[derive(Clone, Copy)]
 pub(crate) struct JobCounts {
-    /// The ephemerides and ionosphere records that were made; none, where they are not counted.
+    /// The ephemerides and ionosphere records that were made; none, if they are not counted.
     pub items: Option<u64>,
     /// What was rejected, and what else is amiss, in the order of [`AMISS`].
     pub amiss: [u64; KINDS],
@@ -23,8 +23,8 @@ pub(crate) struct JobCounts {
     pub skipped: u64,
 }
 
-/// What is counted of what a job has done. Of a capture the messages that are not used are not told
-/// apart.
+/// What is counted of what a conversion has done. Of a capture the messages that are not used are
+/// not told apart.
 pub(crate) fn counted(done: &Option<Done>) -> JobCounts {
     let (items, amiss, skipped) = match done {
         None | Some(Done::Frames(_) | Done::Generated(_)) => (None, [0; KINDS], 0),

@@ -1,6 +1,6 @@
 //! What a file has of other systems and messages, which are skipped.
 
-/// The systems and messages that are told apart.
+/// The systems and messages that are distinguished.
 pub(crate) const SYSTEMS: [&str; COUNT] = [
     "GLONASS",
     "BeiDou",

@@ -1,4 +1,4 @@
-//! Whether an output may have its name: what stands there, and what was made.
+//! Whether an output may have its name: what exists there, and what was made.
 
 use file_conversion::Refusal;
 use std::alloc::AllocError;
@@ -89,7 +89,7 @@ pub(crate) fn input_path(name: &str) -> &str {
     if name == "-" { "/dev/stdin" } else { name }
 }
 
-/// Whether standard input is closed: the root folder has its place then.
+/// Whether standard input is closed: the root directory has its place then.
 pub(crate) fn is_closed(rt: &HostRuntime) -> bool {
     match identity_of(rt, input_path("-")) {
         None => true,
@@ -97,7 +97,7 @@ pub(crate) fn is_closed(rt: &HostRuntime) -> bool {
     }
 }
 
-/// Whether it can be read only once: a pipe, say.
+/// Whether it can be read only once, such as a pipe.
 pub(crate) fn is_read_once(rt: &HostRuntime, name: &str) -> bool {
     match fs::metadata(rt, input_path(name)) {
         Ok(there) => !there.is_file() && !there.is_dir(),

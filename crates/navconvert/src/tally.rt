@@ -1,4 +1,4 @@
-//! The report of a job, which is written where a file is named for it, and whose rejections are
+//! The report of a conversion, which is written if a file is named for it, and whose rejections are
 //! printed where files are only checked.
 
 ghost use Rattle.std.specs.Prelude.{◌≡◌};
@@ -8,10 +8,10 @@ use nav_io::{Failed, Sink};
 use std::fs::File;
 use std::io::Write;
 
-/// Where the report of a file goes.
+/// If the report of a file goes.
 #[derive(Clone, Copy)]
 pub(crate) struct Reported<'a> {
-    /// The file for reports, where one is named.
+    /// The file for reports, if one is named.
     pub report: Option<&'a File>,
     /// The rejections that are printed.
     pub rejections: &'a Rejections<'a>,
@@ -48,7 +48,7 @@ impl Sink for ReportFile<'_> {
 
     ghost faults = { λ s. s.faults };
 
-    /// Writes the piece. An `Err` of the file counts one fault.
+    /// Writes the piece. An `Err` of the file counts one error.
     fn write(&mut self, piece: &[u8]) -> Result<(), Failed> {
         if self.to.is_put(piece) {
             return Ok(());
@@ -58,7 +58,7 @@ impl Sink for ReportFile<'_> {
     }
 }
 
-/// Writes a piece, where a file is there; whether that was done.
+/// Writes a piece, if a file is there; whether that was done.
 pub(crate) fn is_put(file: Option<&File>, piece: &[u8]) -> bool {
     match file {
         None => true,

@@ -1,4 +1,4 @@
-//! What is said on standard error.
+//! What is printed on standard error.
 
 ghost use Rattle.std.specs.Prelude.{◌≡◌};
 ghost use Rattle.file_conversion.specs.Says.{status_of};
@@ -21,7 +21,7 @@ use whole_file::{FileFault, Kind};
 // What takes the line of a meter away: to its end, however long it is.
 const CLEARED: &str = "\r\x1b[K";
 
-/// Says why nothing is done; the status.
+/// Reports why nothing is done; the status.
 pub(crate) fn tell_program(rt: &HostRuntime, refusal: &Refusal) -> u8
     ensures { result ≡ status_of refusal.now }
 {
@@ -29,7 +29,8 @@ pub(crate) fn tell_program(rt: &HostRuntime, refusal: &Refusal) -> u8
     refusal.status()
 }
 
-/// Says why a file is not converted, with the command that unpacks it if it is packed; the status.
+/// Reports why a file is not converted, with the command that unpacks it if it is packed; the
+/// status.
 pub(crate) fn tell_file(settings: &Settings, file: &str, refusal: &Refusal) -> u8
     ensures { result ≡ status_of refusal.now }
 {
@@ -95,14 +96,14 @@ fn first_bytes(rt: &HostRuntime, file: &str) -> [u8; 6] {
     first
 }
 
-/// Who says what became of a file, under its name and that of its output.
+/// Who reports what became of a file, under its name and that of its output.
 #[derive(Drop)]
 pub(crate) struct Saying<'x, 'a> {
     /// What is asked for all files.
     pub settings: &'x Settings<'a>,
     /// The file.
     pub file: &'x str,
-    /// What is said of its output, where that is not its name.
+    /// What is reported of its output, if that is not its name.
     pub name: Option<&'x str>,
     /// What was seen of both.
     pub seen: Seen,

@@ -10,7 +10,7 @@ use gnss_week::{Moment, RefWeek};
 use rinex_write::HeaderWords;
 use std::alloc::{AllocError, Global};
 
-/// What is asked of each file, by the clock where a value is not named.
+/// What is asked of each file, by the clock if a value is not named.
 pub(crate) fn plan_of<'a>(rt: &HostRuntime, asked: &Asked<'a>) -> Result<Plan, Refusal<'a>> {
     let leap = match leap_of(asked.leap()) {
         Ok(leap) => leap,

@@ -1,4 +1,4 @@
-//! What is seen of an input while it is read, beside its conversion: what of it is skipped, and
+//! What is seen of an input while it is read, during its conversion: what of it is skipped, and
 //! whether a navigation file has records of another version.
 
 ghost use Rattle.std.specs.Prelude.{◌≡◌, ◌↔◌, IsNone};
@@ -79,7 +79,7 @@ impl Watch {
         }
     }
 
-    /// What is skipped of an input that is read under this form, which is at its end.
+    /// What is skipped of an input that is read under this format, which is at its end.
     pub(crate) fn skips(&mut self, kind: Kind) -> Skips {
         if !self.is_told {
             self.tell();

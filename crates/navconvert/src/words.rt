@@ -1,4 +1,4 @@
-//! The words of the command line.
+//! The arguments.
 
 use std::alloc::{AllocError, Global};
 use std::env::FillError;
@@ -9,8 +9,8 @@ const ROOM: usize = 4096;
 
 const MOST: usize = 1 << 20;
 
-/// The words of the command line, the name of the program first. Each byte that is no part of UTF-8
-/// is a NUL and two hexadecimal digits; no word has a NUL of its own.
+/// The arguments, the name of the program first. Each byte that is no part of UTF-8 is a NUL and
+/// two hexadecimal digits; no argument has a NUL of its own.
 ///
 /// # Errors
 ///
@@ -52,7 +52,7 @@ fn text_of(alloc: Global, bytes: &[u8]) -> Result<String, AllocError> {
     Ok(text)
 }
 
-/// Whether a word had bytes that are no text.
+/// Whether an argument had bytes that are no text.
 pub(crate) fn is_broken(word: &str) -> bool {
     word.as_bytes().contains(&0)
 }

@@ -1,4 +1,4 @@
--- The cause of each fault of a run: the count of faults of the object that failed rose.
+-- The cause of each error of a run: the count of errors of the object that failed rose.
 use Rattle.std.specs.Prelude.{◌≡◌, ℕ, Result, Ok, Err}
 use Rattle.nav_io.specs.Causes.{Rose}
 use Rattle.nav_io.specs.declared.lines.LineFault.{LineFault}
@@ -6,7 +6,7 @@ use Rattle.nav_io.specs.declared.lines.LineFault.TheVariants as lines
 use Rattle.one_run.specs.declared.fault.BridgeFault.{BridgeFault}
 use Rattle.one_run.specs.declared.fault.BridgeFault.TheVariants.{ReadFault, WriteFault, ReportFault, TooLong}
 
--- the counts of faults that a run may raise
+-- the counts of errors that a run may raise
 pub record Faults : Type 0 where
   pub input : ℕ
   pub output : ℕ
@@ -16,7 +16,7 @@ pub record Faults : Type 0 where
 abbrev pub faults_of : ℕ → ℕ → ℕ → Faults
 faults_of input output report = record { input = input; output = output; report = report }
 
--- the count of the object that failed rose, and no count rose where the run is done
+-- the count of the object that failed rose, and no count rose if the run is done
 abbrev pub HasItsCause : {T : Type 0} → Faults → Faults → Result T BridgeFault → Type 0
 HasItsCause before now (Ok x) = now ≡ before
 HasItsCause before now (Err ReadFault) = Rose before.input now.input
@@ -24,7 +24,7 @@ HasItsCause before now (Err WriteFault) = Rose before.output now.output
 HasItsCause before now (Err ReportFault) = Rose before.report now.report
 HasItsCause before now (Err fault) = Unit {0}
 
--- the fault of a run whose lines could not be read
+-- the error of a run whose lines could not be read
 abbrev pub fault_by : LineFault → BridgeFault
 fault_by lines.ReadFault = ReadFault
 fault_by lines.TooLong = TooLong

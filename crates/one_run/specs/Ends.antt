@@ -35,7 +35,7 @@ number_of statuses.ReportFault = 7
 number_of statuses.TooLong = 8
 number_of statuses.NoText = 9
 
--- the exit status of a run that a fault ended
+-- the exit status of a run that an error ended
 abbrev pub fault_status : BridgeFault → ℕ
 fault_status ReadFault = 3
 fault_status WriteFault = 4
@@ -55,7 +55,7 @@ pub record EndedBy {S T U : Type 0} (m : Meaning (Unit {0})) (before after : Wor
   pub ended : Ended m before after result
   pub is : status ≡ status_of result
 
--- the same by what input, output and report tell, followed by each object before and after
+-- the same by what input, output and report state, followed by each object before and after
 abbrev pub RanBy : {S T U : Type 0} → Meaning (Unit {0})
     → (S → Option (List ℕ)) → (S → Bool) → (S → ℕ) → (T → Option (List ℕ)) → (T → ℕ) → (U → Option (List ℕ)) → (U → ℕ)
     → S → S → T → T → U → U → ℕ → Type 0

@@ -21,16 +21,16 @@ pub record Meaning (C : Type 0) : Type 0 where
   pub memory : Bool
   -- the number of bytes at which an input is too long
   pub limit : ℕ
-  -- what it counts in the bytes; none where they do not begin as the format requires
+  -- what it counts in the bytes; none if they do not begin as the format requires
   pub counts : List ℕ → Option C
-  -- what it writes and reports of a whole input
+  -- what it writes and reports of a complete input
   pub whole : Texts
   -- what it has written at least once these bytes were read, whatever fails
   pub least : List ℕ → List ℕ
   -- exactly what was written and reported of the bytes read when a read fails, if the meaning determines it
   pub flushed : Option Texts
 
--- nothing: the least output where no more is promised
+-- nothing: the least output if no more is guaranteed
 abbrev pub no_least : List ℕ → List ℕ
 no_least bytes = []
 
@@ -41,8 +41,8 @@ pub record AppendsBetween (old new : Option (List ℕ)) (least whole : List ℕ)
   pub no_less : IsPrefix least prefix
   pub grew : Appends old new prefix
 
--- Input, output and report as a run sees them: the objects, the bytes known of them, whether the input is known not to fail,
--- and the counts of faults.
+-- Input, output and report as a run sees them: the objects, the bytes known of them, whether the
+-- input is known not to fail, and the counts of errors.
 pub record World (S T U : Type 0) : Type 0 where
   pub input : S
   pub output : T
@@ -70,7 +70,7 @@ world input left never_fails reads_failed output written writes_failed report re
   reports_failed = reports_failed;
 }
 
--- the bytes that a run has to read, where they are known; empty for a run that reads nothing
+-- the bytes that a run has to read, if they are known; empty for a run that reads nothing
 abbrev pub bytes_for : {C S T U : Type 0} → Meaning C → World S T U → Option (List ℕ)
 bytes_for m w = if m.reads then w.left else Some []
 
@@ -107,7 +107,7 @@ Flushes None taken before after = Unit {0}
 Flushes (Some texts) taken before after =
     Appends before.written after.written (texts.output taken) × Appends before.reported after.reported (texts.report taken)
 
--- what each fault means for a run that read these bytes
+-- what each error means for a run that read these bytes
 abbrev pub Says : {C S T U : Type 0} → Meaning C → List ℕ → World S T U → World S T U → BridgeFault → Type 0
 Says m taken before after ReadFault =
     (m.reads ≡ true) × Rose before.reads_failed after.reads_failed × (IsTrue before.never_fails → ⊥) × Flushes m.flushed taken before after
@@ -118,8 +118,8 @@ Says m taken before after NotThisForm =
 Says m taken before after TooLong = length taken ≡ m.limit
 Says m taken before after NoMemory = (m.memory ≡ true) × Accepts m before
 
--- The run ended early with a fault: a prefix of the output of the bytes read was written, no less than the least, and a
--- prefix of their report.
+-- The run ended early with an error: a prefix of the output of the bytes read was written, no less
+-- than the least, and a prefix of their report.
 pub record Broke {C S T U : Type 0} (m : Meaning C) (before after : World S T U) (fault : BridgeFault) : Type 0 where
   pub taken : List ℕ
   pub consumes : Consumes (bytes_for m before) (bytes_for m after) taken
@@ -133,8 +133,8 @@ abbrev pub Ended : {C S T U : Type 0} → Meaning C → World S T U → World S 
 Ended m before after (Ok counts) = Done m before after counts
 Ended m before after (Err fault) = Broke m before after fault
 
--- The same by what input, output and report tell: the bytes left, whether no read fails, the bytes written, and the counts of
--- faults; then each object before and after.
+-- The same by what input, output and report state: the bytes left, whether no read fails, the bytes
+-- written, and the counts of errors; then each object before and after.
 abbrev pub Ran : {C S T U : Type 0} → Meaning C
     → (S → Option (List ℕ)) → (S → Bool) → (S → ℕ) → (T → Option (List ℕ)) → (T → ℕ) → (U → Option (List ℕ)) → (U → ℕ)
     → S → S → T → T → U → U → Result C BridgeFault → Type 0

@@ -5,8 +5,8 @@
 //! - [`read_piece`] reads a piece of an input that has a limit;
 //! - [`Text`] is a short text in a buffer of fixed size; no memory is allocated.
 //!
-//! `specs/Runs.antt` has the contract: `Ended` says how a run ended, from the known bytes and the
-//! fault counts of its input, output and report before and after.
+//! `specs/Runs.antt` has the contract: `Ended` states how a run ended, from the known bytes and the
+//! error counts of its input, output and report before and after.
 //!
 //! ```rust
 //! let mut text = Text::new();

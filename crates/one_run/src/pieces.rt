@@ -10,12 +10,12 @@ use nav_io::{Failed, Source};
 /// Reads a piece of a source of which a run may still read `left` bytes, and gives its length in
 /// bytes.
 ///
-/// The piece is written from the start of the slice, which has room for 1 to 16,384 bytes. 0 only
-/// where the source is at its end.
+/// The piece is written from the start of the slice, which holds 1 to 16,384 bytes. 0 only if the
+/// source is at its end.
 ///
 /// # Errors
 ///
-/// `Failed` only where the source's count of faults rose in this call, or is saturated; nothing is
+/// `Failed` only if the source's count of errors rose in this call, or is saturated; nothing is
 /// read then.
 pub fn read_piece<S: Source>(source: &mut S, left: u64, piece: &mut [u8]) -> Result<usize, Failed>
     requires more { 0 < left }

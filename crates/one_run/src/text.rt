@@ -14,7 +14,7 @@ pub const ROOM: usize = 640;
 /// A text of at most 640 bytes.
 pub type Text = ArrayVec<u8, ROOM>;
 
-/// Appends a piece; there must be room for it.
+/// Appends a piece; it must fit.
 pub fn append(text: &mut Text, piece: &[u8])
     requires { array_vec_len text.old + length piece.now ≤ 640 }
     ensures items { text.new.items ≡ text.old.items ++ piece.now }

@@ -1,4 +1,4 @@
-//! Tests of weeks, ephemerides and the periods in which they are heard.
+//! Tests of weeks, ephemerides and the issues in which they are received.
 //!
 //! A module for each library below: `gnss_week`, `nav_eph`, `nav_lists`, `periods`,
 //! `slot_assembly`, `nav_vectors`. The expected values come from

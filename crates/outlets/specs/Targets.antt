@@ -31,7 +31,7 @@ item_text Rtcm line item = rtcm_item item
 item_text ToList line item = list_item line item
 item_text Count line item = []
 
--- the text of the item of a whole period; nothing for any other
+-- the text of the item of a complete period; nothing for any other
 abbrev pub verdict_item : (NavItem → List ℕ) → Verdict → List ℕ
 verdict_item text (Whole item) = text item
 verdict_item text _ = []
@@ -44,7 +44,7 @@ period_text Rtcm c = verdict_item rtcm_item c.verdict
 period_text ToList c = list_period c
 period_text Count c = []
 
--- the last text: the counts, where only these are asked for
+-- the last text: the counts, if only these are asked for
 abbrev pub back_text : Target → List ℕ → List ℕ
 back_text (Rinex words) counts = []
 back_text (Rinex3 words) counts = []

@@ -19,6 +19,6 @@ abbrev pub times_with : Option Times → List NavItem → Option Times
 times_with times [] = times
 times_with times (item ∷ items) = times_with (with_item times item) items
 
--- the times of items; none where no item is an ephemeris
+-- the times of items; none if no item is an ephemeris
 abbrev pub times_of : List NavItem → Option Times
 times_of items = times_with None items

@@ -17,8 +17,8 @@ impl Target {
     ///
     /// # Errors
     ///
-    /// `Failed` only where the sink's count of faults rose in this call or is at its maximum; a
-    /// prefix of the text was appended then. So in the other three.
+    /// `Failed` only if the sink's count of errors rose in this call or is at its maximum; a prefix
+    /// of the text was appended then. So in the other three.
     pub fn begin<T: Sink>(&self, out: &mut T) -> Result<(), Failed>
         ensures { Writes (T.written out.old) (T.written out.new) (T.faults out.old) (T.faults out.new)
             result (prefix_text self.now) }
@@ -63,7 +63,7 @@ impl Target {
         }
     }
 
-    /// Writes the last text: the counts, where only these are asked for.
+    /// Writes the last text: the counts, if only these are asked for.
     pub fn end<T: Sink>(&self, counts: &[u8], out: &mut T) -> Result<(), Failed>
         ensures { Writes (T.written out.old) (T.written out.new) (T.faults out.old) (T.faults out.new)
             result (back_text self.now counts.now) }

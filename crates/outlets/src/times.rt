@@ -16,7 +16,7 @@ pub struct Times {
     pub last: Moment,
 }
 
-/// The times together with the epoch of an item, where it is an ephemeris.
+/// The times together with the epoch of an item, if it is an ephemeris.
 pub fn with_item(times: Option<Times>, item: &NavItem) -> Option<Times>
     ensures { result ≡ with_item times item.now }
 {

@@ -32,7 +32,7 @@ is_far r (Gps e) = not (near_gps r e.toe_week)
 is_far r (Gal e) = not (near_galileo r e.toe_week)
 is_far r (Ion e) = false
 
--- the slot's stamps do not fit in 32 bits; those of 198,842 slots do
+-- the slot's time tags do not fit in 32 bits; those of 198,842 slots do
 abbrev pub is_full : ℕ → Bool
 is_full slot = nat_le 198842 slot
 

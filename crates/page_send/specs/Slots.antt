@@ -17,7 +17,7 @@ use Rattle.capture_lines.specs.Texts.{half_text, lnav_text}
 use Rattle.capture_lines.specs.declared.item.LineItem.{LineItem}
 use Rattle.capture_lines.specs.declared.item.LineItem.TheVariants.{Pass, Lnav, Half, Frame, Malformed}
 
--- the stamp at which a slot begins, one every six hours
+-- the time tag at which a slot begins, one every six hours
 abbrev pub slot_stamp : ℕ → ℕ
 slot_stamp slot = 21600 * slot
 
@@ -47,15 +47,15 @@ galileo_week_number e = (e.toe_week + 3072) % 4096
 abbrev pub no_ionosphere : GalIon
 no_ionosphere = record { ai0 = 0; ai1 = pos 0; ai2 = pos 0; regions = 0 }
 
--- a subframe with its TOW count, at a stamp
+-- a subframe with its TOW count, at a time tag
 unfoldable pub subframe_item : ℕ → Satellite → SubframeOut → ℕ → LineItem
 subframe_item stamp sat body tow_count = Lnav stamp sat (subframe_bytes body tow_count)
 
--- a page part on E1-B, at a stamp
+-- a page part on E1-B, at a time tag
 unfoldable pub half_item : ℕ → Satellite → ℕ → LineItem
 half_item stamp sat half = Half stamp sat E1b (bytes_of_half half)
 
--- the page of a word on E1-B: the even part at the stamp, the odd part one second later
+-- the page of a word on E1-B: the even part at the time tag, the odd part one second later
 abbrev pub page_items : ℕ → Satellite → List ℕ → List LineItem
 page_items stamp sat word =
     half_item stamp sat (even_of word) ∷ half_item (stamp + 1) sat (odd_of word) ∷ []
@@ -77,7 +77,7 @@ galileo_items s e =
     ++ page_items (s + 8) e.sat
     (word5_bytes e.health no_ionosphere (galileo_week_number e) (galileo_second e)))))
 
--- what is sent from a stamp on; nothing of ionosphere parameters
+-- what is sent from a time tag on; nothing of ionosphere parameters
 abbrev pub items_at : ℕ → NavItem → List LineItem
 items_at s (Gps e) = gps_items s e
 items_at s (Gal e) = galileo_items s e

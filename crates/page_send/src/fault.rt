@@ -18,7 +18,7 @@ pub enum SendFault {
     /// The transmitted week number would be resolved to another week than that of toe.
     #[error("week")]
     Week,
-    /// No slot is left: the stamps of 198,842 slots fit in 32 bits.
+    /// No slot is left: the time tags of 198,842 slots fit in 32 bits.
     #[error("room")]
     Room,
 }
@@ -62,7 +62,7 @@ fn is_past_the_last(slot: u32) -> bool
 ///
 /// The first of these that holds, in this order:
 ///
-/// - `Issue`: a GPS ephemeris where the low eight bits of IODC differ from IODE;
+/// - `Issue`: a GPS ephemeris if the low eight bits of IODC differ from IODE;
 /// - `Week`: the week of toe is not one that the transmitted number resolves to near `r`: for GPS
 ///   the 1024 weeks from `r` - 512 on, for Galileo the 4096 weeks from `r` - 2048 or 1024 on,
 ///   whichever is later;

@@ -1,4 +1,4 @@
-//! Laws of what is sent. Each function does nothing; its contract is the law.
+//! Theorems about what is sent. Each function does nothing; its contract is the theorem.
 
 ghost use Rattle.std.specs.Prelude.{◌≡◌, ℕ, ◌+◌, ◌*◌, ◌<◌};
 ghost use Rattle.std.specs.Prelude.{◌≤◌, ◌++◌, List, length, None, true};
@@ -7,7 +7,7 @@ ghost use Rattle.nav_eph.specs.declared.items.NavItem.{NavItem};
 ghost use Rattle.page_send.specs.Sendable.{IsEphemeris, is_sent, send_fault, sendable, slots_items};
 ghost use Rattle.page_send.specs.Slots.{text_of_items};
 
-/// An item is sent in a slot exactly where it is an ephemeris without a fault.
+/// An item is sent in a slot exactly if it is an ephemeris without an error.
 pub fn what_may_be_sent()
     ensures sent { (r slot : ℕ) (item : NavItem) → IsEphemeris item
         → send_fault r item slot ≡ None → is_sent r item slot ≡ true }

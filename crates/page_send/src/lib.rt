@@ -5,7 +5,7 @@
 //! one as the pages of word types 1 to 5 of the I/NAV message on E1-B (OS SIS ICD, 4.3.2). Each has
 //! a slot of six hours of its own, so that parts of two ephemerides are never combined.
 //!
-//! - [`can_send`] tells whether an ephemeris may be sent in a slot, or the first reason why not
+//! - [`can_send`] returns whether an ephemeris may be sent in a slot, or the first reason why not
 //!   ([`SendFault`]);
 //! - [`send_item`] writes the lines of a slot.
 //!

@@ -14,7 +14,7 @@ use lnav_subframe::{SubframeOut, write_subframe};
 use nav_bits::{Bits, U};
 use nav_eph::{Sat, Signal};
 
-/// Room for the lines of a slot: three of at most 94 bytes, or ten of at most 50.
+/// Memory for the lines of a slot: three of at most 94 bytes, or ten of at most 50.
 pub(crate) type SlotText = ArrayVec<u8, 500>;
 
 // Appends a line.

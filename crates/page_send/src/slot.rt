@@ -121,8 +121,8 @@ fn slot_lines(stamp: u32, item: &NavItem) -> SlotText
     text
 }
 
-/// Writes the lines of an ephemeris in its slot, by one write. Slot `slot` begins at stamp 21,600
-/// times its number.
+/// Writes the lines of an ephemeris in its slot, by one write. Slot `slot` begins at time tag
+/// 21,600 times its number.
 ///
 /// GPS: subframes 1, 2 and 3, one every six seconds; subframe 1 begins at toe rounded down to a
 /// multiple of 6 s, and its TOW count is the start of subframe 2 (IS-GPS-200, 20.3.3.2). Galileo:
@@ -135,8 +135,8 @@ fn slot_lines(stamp: u32, item: &NavItem) -> SlotText
 ///
 /// # Errors
 ///
-/// `Failed` only where the sink's count of faults rose in this call or is at its maximum; a prefix
-/// of the lines was appended then.
+/// `Failed` only if the sink's count of errors rose in this call or is at its maximum; a prefix of
+/// the lines was appended then.
 #[tactic(auto, unfolding(crate::specs::Slots::slot_text))]
 pub fn send_item<T: Sink>(item: &NavItem, r: RefWeek, slot: u32, out: &mut T) -> Result<(), Failed>
     requires ephemeris { IsEphemeris item.now }

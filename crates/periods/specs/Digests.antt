@@ -46,7 +46,8 @@ IsDigest (GpsIon content) members (IonForm s) = IsFirstBy (IsEarlier transmissio
 IsDigest (GalIon content) members (IonForm s) = IsFirstBy (IsEarlier transmission_numbers) (HasValue IonTransmission members) s
 IsDigest key members digest = ⊥
 
--- the health that a period takes; none where there is none in the window up to the end nor in that after it
+-- the health that a period takes; none if there is none in the window up to the end nor in that
+-- after it
 abbrev pub IsBestHealth : (ℕ × GalHealth × SentTag → Type 0) → (ℕ × GalHealth × SentTag → Type 0) → Option (ℕ × GalHealth × SentTag) → Type 0
 IsBestHealth before behind None = IsEmpty before × IsEmpty behind
 IsBestHealth before behind (Some h) = IsHealth before behind h

@@ -1,4 +1,5 @@
--- Digests, findings and verdicts as functions; the law `digests_are` states that they meet `IsDigest` and `IsFound`.
+-- Digests, findings and verdicts as functions; the theorem `digests_are` states that they meet
+-- `IsDigest` and `IsFound`.
 use Rattle.std.specs.Prelude.{ℕ, ◌*◌, Bool, true, false, ◌||◌, if◌then◌else◌, List, Option, None, Some}
 use Rattle.nav_eph.specs.Satellite.{Satellite}
 use Rattle.nav_eph.specs.declared.galileo.GalHealth.{GalHealth}
@@ -105,14 +106,15 @@ abbrev pub transmission_with : Transmission → Option Transmission → Transmis
 transmission_with s None = s
 transmission_with s (Some t) = if earlier transmission_numbers t s then t else s
 
--- the finding of a GPS period without differing contents: complete where all is there
+-- the finding of a GPS period without differing contents: complete if all is there
 abbrev pub gps_item : ℕ → Satellite → Option GpsClock → Option GpsOrbitA → Option GpsOrbitB → Option (ℕ × GpsSide) → Option (ℕ × ℕ) → Option (ℕ × SentTag) → Finding
 gps_item r satellite (Some c) (Some o) (Some q) (Some s) (Some f) (Some t) =
     let week = toe_week_of (gps_moment r t.1) (16 * o.toe) in
     Complete (GpsItem (record { sat = satellite; clock = c; side = s.1; a = o; fit = f.1; b = q; toe_week = week; sent = sent_second t.1 (gps_moment r t.1) week }))
 gps_item r satellite c o q s f t = Misses
 
--- the finding of a Galileo period without differing contents: complete where all four words and health are there
+-- the finding of a Galileo period without differing contents: complete if all four words and health
+-- are there
 abbrev pub gal_item : ℕ → Satellite → Option GalWord1 → Option GalWord2 → Option GalWord3 → Option GalWord4 → Option (ℕ × GalHealth × SentTag) → Finding
 gal_item r satellite (Some x) (Some y) (Some z) (Some u) (Some h) =
     let week = toe_week_of (gal_moment r h.2) (60 * x.toe) in
@@ -166,7 +168,8 @@ verdict_of before Misses = Partial
 verdict_of before LacksHealth = NoHealth
 verdict_of before (Complete item) = verdict_on_item before item
 
--- the satellite's last health in the window up to an end or, where there is none, the first one in the window after it
+-- the satellite's last health in the window up to an end or, if there is none, the first one in the
+-- window after it
 abbrev pub satellite_health : ℕ → List Part → Satellite → ℕ → Option (ℕ × GalHealth × SentTag)
 satellite_health window parts satellite e =
     or_else (best_among (reading (HealthOf satellite)) (up_to_end window e) (later health_numbers) parts None)

@@ -1,4 +1,4 @@
--- Ends in a set of stamps: those with no other stamp in the window after them.
+-- Ends in a set of time tags: those with no other time tag in the window after them.
 use Rattle.std.specs.Prelude.{ℕ, ◌+◌, ◌<◌, ◌≤◌, ◌⊎◌}
 
 -- something was received at e, and nothing in the window after e
@@ -6,13 +6,13 @@ pub record IsEnd (window : ℕ) (heard_at : ℕ → Type 0) (e : ℕ) : Type 0 w
   pub heard : heard_at e
   pub quiet : (s : ℕ) → heard_at s → e < s → e + window < s
 
--- e is the first end at or after the stamp s
+-- e is the first end at or after the time tag s
 pub record IsEndOf (window : ℕ) (heard_at : ℕ → Type 0) (e s : ℕ) : Type 0 where
   pub is_end : IsEnd window heard_at e
   pub after : s ≤ e
   pub first : (other : ℕ) → IsEnd window heard_at other → s ≤ other → e ≤ other
 
--- the second set has the stamps of the first, and further ones only from the watermark on
+-- the second set has the time tags of the first, and further ones only from the watermark on
 pub record IsLaterSet (watermark : ℕ) (old new : ℕ → Type 0) : Type 0 where
   pub keeps : (s : ℕ) → old s → new s
   pub later : (s : ℕ) → new s → old s ⊎ (watermark ≤ s)

@@ -40,11 +40,12 @@ abbrev pub sent_second : SentTag → ℕ → ℕ → SentSecond
 sent_second (Sent wn second) moment toe_week = At (pos moment -ℤ pos (604800 * toe_week))
 sent_second (Toe wn second) moment toe_week = Unknown
 
--- the satellite's health: the last one up to the end or, where there is none, the first one after it
+-- the satellite's health: the last one up to the end or, if there is none, the first one after it
 abbrev pub IsHealth : (ℕ × GalHealth × SentTag → Type 0) → (ℕ × GalHealth × SentTag → Type 0) → ℕ × GalHealth × SentTag → Type 0
 IsHealth before behind health = IsFirstOrElse (IsLater health_numbers) (IsEarlier health_numbers) before behind health
 
--- the tag of GPS: the earliest that names the transmission time or, where there is none, the earliest that names a toe
+-- the tag of GPS: the earliest that names the transmission time or, if there is none, the earliest
+-- that names a toe
 abbrev pub IsGpsTag : (Part → Type 0) → ℕ × SentTag → Type 0
 IsGpsTag members tag = IsFirstOrElse (IsEarlier tag_numbers) (IsEarlier tag_numbers) (HasValue TransmissionTag members) (HasValue ToeTag members) tag
 
@@ -77,7 +78,8 @@ pub record IsGalItemOf (r : ℕ) (satellite : Satellite) (members : Part → Typ
   pub toe_week : e.toe_week ≡ toe_week_of (gal_moment r heard.2) (60 * e.w1.toe)
   pub sent : e.sent ≡ sent_second heard.2 (gal_moment r heard.2) e.toe_week
 
--- the GPS time of a GPS ionosphere, sent without a week: the one nearest to the stamp counted from the start of reference week r
+-- the GPS time of a GPS ionosphere, sent without a week: the one nearest to the time tag counted
+-- from the start of reference week r
 abbrev pub gps_ion_moment : ℕ → Transmission → ℕ
 gps_ion_moment r s = moment_near (604800 * r + s.stamp) s.second
 

@@ -1,4 +1,5 @@
--- The test whether a part is of a key; the law `keys_are_told` states that it agrees with `key_of`.
+-- The test whether a part is of a key; the theorem `keys_are_told` states that it agrees with
+-- `key_of`.
 use Rattle.std.specs.Prelude.{Bool, false, ◌&&◌, ◌==◌, Option, None, Some}
 use Rattle.nav_eph.specs.declared.part.Part.{Part}
 use Rattle.nav_eph.specs.contracts.ion.GpsIonPartialEq.TheImpl.{eq-value as gps_ion_eq}

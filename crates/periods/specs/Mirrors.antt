@@ -1,4 +1,5 @@
--- Mirrors of the code's loops and choices, which only private functions cite; the functions of digests and periods use them.
+-- Executable counterparts of the code's loops and choices, which only private functions cite; the
+-- functions of digests and periods use them.
 use Rattle.std.specs.Prelude.{ℕ, ◌+◌, Bool, true, false, ◌&&◌, ◌||◌, ◌==◌, nat_lt, nat_le, if◌then◌else◌, List, [], ◌∷◌, Option, None, Some}
 use Rattle.nav_eph.specs.declared.galileo.GalHealth.{GalHealth}
 use Rattle.nav_eph.specs.declared.tag.SentTag.{SentTag}
@@ -43,7 +44,7 @@ best_join better None b = b
 best_join better (Some x) None = Some x
 best_join better (Some x) (Some y) = if better y x then Some y else Some x
 
--- the first option, or the second where it is none
+-- the first option, or the second if it is none
 abbrev pub or_else : {V : Type 0} → Option V → Option V → Option V
 or_else None b = b
 or_else (Some x) b = Some x
@@ -85,7 +86,7 @@ gal_lacks d =
     if seen_differs d.w1 || (seen_differs d.w2 || (seen_differs d.w3 || seen_differs d.w4)) then false
     else seen_nothing d.w1 || (seen_nothing d.w2 || (seen_nothing d.w3 || seen_nothing d.w4))
 
--- the content, where there is exactly one
+-- the content, if there is exactly one
 abbrev pub seen_only : {X : Type 0} → Seen X → Option X
 seen_only (One x) = Some x
 seen_only Nothing = None

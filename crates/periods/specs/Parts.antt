@@ -56,7 +56,7 @@ pub data Kind : Type 0 where
   IonTransmission : Kind
   HealthOf : Satellite → Kind
 
--- the values of a kind; those sent along with a content have the stamp of their part
+-- the values of a kind; those sent along with a content have the time tag of their part
 abbrev pub Value : Kind → Type 0
 Value Clock = GpsClock
 Value OrbitA = GpsOrbitA
@@ -109,22 +109,22 @@ AnyOf P [] = ⊥
 AnyOf P (k ∷ []) = P k
 AnyOf P (k ∷ l ∷ ks) = P k ⊎ AnyOf P (l ∷ ks)
 
--- the order of SV statuses: by stamp, then by the number of their bits
+-- the order of SV statuses: by time tag, then by the number of their bits
 abbrev pub side_numbers : ℕ × GpsSide → List ℕ
 side_numbers v = v.0 ∷ side_number v.1 ∷ []
 
--- the order of fit interval flags: by stamp, then by flag
+-- the order of fit interval flags: by time tag, then by flag
 abbrev pub fit_numbers : ℕ × ℕ → List ℕ
 fit_numbers v = v.0 ∷ v.1 ∷ []
 
--- the order of tags: by stamp, then by the number of their bits
+-- the order of tags: by time tag, then by the number of their bits
 abbrev pub tag_numbers : ℕ × SentTag → List ℕ
 tag_numbers v = v.0 ∷ tag_number v.1 ∷ []
 
--- the order of healths: by stamp, then by the number of their bits and those of the tag
+-- the order of healths: by time tag, then by the number of their bits and those of the tag
 abbrev pub health_numbers : ℕ × GalHealth × SentTag → List ℕ
 health_numbers v = v.0 ∷ health_number v.1 v.2 ∷ []
 
--- the order of transmissions: by stamp, satellite, and week number and second
+-- the order of transmissions: by time tag, satellite, and week number and second
 abbrev pub transmission_numbers : Transmission → List ℕ
 transmission_numbers s = s.stamp ∷ place_of s.sat.system ∷ s.sat.number ∷ gal_transmission s.wn s.second ∷ []

@@ -10,7 +10,7 @@ use Rattle.periods.specs.declared.key.Place.{Place}
 use Rattle.periods.specs.Values.{IsBelow}
 use Rattle.periods.specs.Parts.{key_of}
 
--- a part of the key was received at the stamp
+-- a part of the key was received at the time tag
 pub record IsHeardAt (parts : Part → Type 0) (key : Key) (stamp : ℕ) : Type 0 where
   pub part : Part
   pub here : parts part

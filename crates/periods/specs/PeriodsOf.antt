@@ -19,15 +19,15 @@ use Rattle.periods.specs.DigestsOf.{digest_of, digest_join, digest_finding, heal
 use Rattle.periods.specs.KeyTests.{is_of}
 use Rattle.periods.specs.Mirrors.{earlier, best_among}
 
--- the part is not a part of the key in the window after stamp e
+-- the part is not a part of the key in the window after time tag e
 abbrev pub quiet_at : ℕ → Key → ℕ → Part → Bool
 quiet_at window key e p = not (is_of key p) || (nat_le p.stamp e || nat_lt (e + window) p.stamp)
 
--- no part of the key is in the window after stamp e
+-- no part of the key is in the window after time tag e
 abbrev pub quiet : List Part → ℕ → Key → ℕ → Bool
 quiet parts window key e = list_all (quiet_at window key e) parts
 
--- the end and key of a period that ends with a part of that stamp and key
+-- the end and key of a period that ends with a part of that time tag and key
 abbrev pub place_in : ℕ → Option Key → Option Place
 place_in stamp None = None
 place_in stamp (Some key) = Some (record { end = stamp; key = key })
@@ -36,11 +36,11 @@ place_in stamp (Some key) = Some (record { end = stamp; key = key })
 abbrev pub place_at : Part → Option Place
 place_at p = place_in p.stamp (key_of p)
 
--- the stamp of a part of the key; none for other parts
+-- the time tag of a part of the key; none for other parts
 abbrev pub stamp_of : Key → Part → Option ℕ
 stamp_of key p = if is_of key p then Some p.stamp else None
 
--- stamp s of a part of the key is an end of it, below e
+-- time tag s of a part of the key is an end of it, below e
 abbrev pub end_below : List Part → ℕ → Key → ℕ → ℕ → Bool
 end_below parts window key e s = nat_lt s e && quiet parts window key s
 
@@ -48,7 +48,7 @@ end_below parts window key e s = nat_lt s e && quiet parts window key s
 abbrev pub end_before : List Part → ℕ → Key → ℕ → Option ℕ
 end_before parts window key e = best_among (stamp_of key) (end_below parts window key e) (λ a b. nat_lt b a) parts None
 
--- the stamp is after the end before, if there is one
+-- the time tag is after the end before, if there is one
 abbrev pub is_above : Option ℕ → ℕ → Bool
 is_above None s = true
 is_above (Some before) s = nat_lt before s
@@ -68,7 +68,7 @@ abbrev pub members_digest : Key → ℕ → Option ℕ → List Part → Option 
 members_digest key e before [] all = all
 members_digest key e before (p ∷ ps) all = members_digest key e before ps (if is_member key e before p then join_some all (digest_of p) else all)
 
--- the finding of the members' digest; `Misses` where there is none
+-- the finding of the members' digest; `Misses` if there is none
 abbrev pub finding_with : ℕ → ℕ → List Part → Place → Option Digest → Finding
 finding_with r window parts place None = Misses
 finding_with r window parts place (Some d) = digest_finding r place.key d (health_at window parts place.key place.end)
@@ -82,7 +82,7 @@ finding_at r window parts place =
 abbrev pub end_place : Key → ℕ → Place
 end_place key e = record { end = e; key = key }
 
--- stamp s of a part of the key ends a complete period of it, below e
+-- time tag s of a part of the key ends a complete period of it, below e
 abbrev pub complete_below : ℕ → ℕ → List Part → Key → ℕ → ℕ → Bool
 complete_below r window parts key e s = end_below parts window key e s && is_complete (finding_at r window parts (end_place key s))
 
@@ -118,12 +118,12 @@ closed_with place verdict = record { end = place.end; key = place.key; verdict =
 abbrev pub is_before : Place → Place → Bool
 is_before = earlier place_numbers
 
--- inserts a period into a sorted list; unchanged where it has one with that end and key
+-- inserts a period into a sorted list; unchanged if it has one with that end and key
 abbrev pub insert : Closed → List Closed → List Closed
 insert c [] = c ∷ []
 insert c (d ∷ ds) = if is_before (closed_place c) (closed_place d) then c ∷ d ∷ ds else (if is_before (closed_place d) (closed_place c) then d ∷ insert c ds else d ∷ ds)
 
--- inserts the period at a place into a list, where no part of the key is in the window after its end
+-- inserts the period at a place into a list, if no part of the key is in the window after its end
 abbrev pub insert_at : ℕ → ℕ → List Part → Option Place → List Closed → List Closed
 insert_at r window parts None cs = cs
 insert_at r window parts (Some q) cs = if quiet parts window q.key q.end then insert (closed_with q (verdict_at r window parts q)) cs else cs

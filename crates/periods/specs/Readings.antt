@@ -12,17 +12,17 @@ use Rattle.periods.specs.Parts.{Kind, Clock, OrbitA, OrbitB, Word1, Word2, Word3
 abbrev pub same_sat : Satellite → Satellite → Bool
 same_sat s t = (place_of s.system == place_of t.system) && (s.number == t.number)
 
--- a tag with its stamp, where it names a transmission time
+-- a tag with its time tag, if it names a transmission time
 abbrev pub sent_in : ℕ → SentTag → Option (ℕ × SentTag)
 sent_in stamp (Sent wn second) = Some (stamp, Sent wn second)
 sent_in stamp (Toe wn second) = None
 
--- a tag with its stamp, where it names a toe
+-- a tag with its time tag, if it names a toe
 abbrev pub toe_in : ℕ → SentTag → Option (ℕ × SentTag)
 toe_in stamp (Sent wn second) = None
 toe_in stamp (Toe wn second) = Some (stamp, Toe wn second)
 
--- the value of a kind in a part's stamp, satellite and body
+-- the value of a kind in a part's time tag, satellite and body
 abbrev pub reading_in : (k : Kind) → ℕ → Satellite → Body → Option (Value k)
 reading_in Clock stamp sat (OfClock clock side tag) = Some clock
 reading_in OrbitA stamp sat (OfOrbitA orbit fit) = Some orbit

@@ -23,7 +23,7 @@ pub record IsFirstBy {X : Type 0} (R : X → X → Type 0) (values : X → Type 
   pub here : values v
   pub first : (w : X) → values w → R w v → ⊥
 
--- the first of one set or, where that is empty, the first of another
+-- the first of one set or, if that is empty, the first of another
 abbrev pub IsFirstOrElse : {X : Type 0} → (X → X → Type 0) → (X → X → Type 0) → (X → Type 0) → (X → Type 0) → X → Type 0
 IsFirstOrElse R S values others v = IsFirstBy R values v ⊎ (IsEmpty values × IsFirstBy S others v)
 

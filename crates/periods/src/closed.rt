@@ -33,7 +33,7 @@ pub enum Verdict {
 /// A period to which no further part can belong.
 #[derive(Clone, Copy, PartialEq, Eq)]
 pub struct Closed {
-    /// The stamp of its last part.
+    /// The time tag of its last part.
     pub end: u32,
     /// The key of its parts.
     pub key: Key,

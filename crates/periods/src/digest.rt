@@ -24,13 +24,13 @@ pub struct GpsDigest {
     pub a: Seen<GpsOrbitA>,
     /// The orbit parameters of subframe 3.
     pub b: Seen<GpsOrbitB>,
-    /// The latest SV status of subframe 1, with its stamp.
+    /// The latest SV status of subframe 1, with its time tag.
     pub side: Option<(u32, GpsSide)>,
-    /// The latest fit interval flag, with its stamp.
+    /// The latest fit interval flag, with its time tag.
     pub fit: Option<(u32, U<1>)>,
-    /// The earliest tag that names a transmission time, with its stamp.
+    /// The earliest tag that names a transmission time, with its time tag.
     pub sent: Option<(u32, SentTag)>,
-    /// The earliest tag that names a toe, with its stamp.
+    /// The earliest tag that names a toe, with its time tag.
     pub toe: Option<(u32, SentTag)>,
 }
 

@@ -311,7 +311,7 @@ impl Digest {
     }
 
     /// The finding of a period from the digest of its members and the health near its end; week
-    /// numbers are resolved near the reference week `r`. `Misses` where the key is of another kind
+    /// numbers are resolved near the reference week `r`. `Misses` if the key is of another kind
     /// than the digest.
     pub fn finding(self, r: RefWeek, key: Key, health: Option<(u32, GalHealth, SentTag)>) -> Finding
         ensures { result ≡ digest_finding r key self health }

@@ -1,11 +1,11 @@
-//! Laws of ends: each function does nothing, and its contract is the law.
+//! Theorems about ends: each function does nothing, and its contract is the theorem.
 
 ghost use Rattle.std.specs.Prelude.{◌≡◌, ◌+◌, ◌∷◌, ◌++◌, ◌<◌, ◌≤◌};
 ghost use Rattle.std.specs.Prelude.{ℕ, List, [], All, Contains};
 ghost use Rattle.periods.specs.Ends.{IsEnd, IsEndOf};
 ghost use Rattle.periods.specs.Joining.{IsJoinedEnd, IsTouchedEnd, StaysEnd};
 
-/// Each stamp has exactly one end.
+/// Each time tag has exactly one end.
 pub fn each_stamp_has_one_end()
     ensures some { (window : ℕ) (stamps : List ℕ) (s : ℕ) → Contains stamps s
         → (e : ℕ) × IsEndOf window (Contains stamps) e s }
@@ -14,7 +14,7 @@ pub fn each_stamp_has_one_end()
         → IsEndOf window (Contains stamps) e s → d ≡ e }
 {}
 
-/// One more stamp: the ends within the window of it, at most two, become one end with it; all
+/// One more time tag: the ends within the window of it, at most two, become one end with it; all
 /// others stay.
 pub fn one_more_stamp()
     ensures one { (window : ℕ) (stamps : List ℕ) (stamp : ℕ)
@@ -30,8 +30,8 @@ pub fn one_more_stamp()
         → StaysEnd window (Contains stamps) (Contains (stamps ++ stamp ∷ [])) e }
 {}
 
-/// Later stamps change neither the ends whose window they do not reach nor the stamps of these, and
-/// add no end there.
+/// Later time tags change neither the ends whose window they do not reach nor the time tags of
+/// these, and add no end there.
 pub fn later_stamps_change_no_closed_end()
     ensures end_stays { (window watermark : ℕ) (stamps later : List ℕ) (e : ℕ)
         → All (λ s. watermark ≤ s) later → e + window < watermark → IsEnd window (Contains stamps) e

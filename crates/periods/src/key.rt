@@ -19,7 +19,7 @@ pub enum Key {
 /// What identifies a period: its end and its key. A key has at most one period with a given end.
 #[derive(Clone, Copy)]
 pub struct Place {
-    /// The stamp of the last part of the period.
+    /// The time tag of the last part of the period.
     pub end: u32,
     /// The key of its parts.
     pub key: Key,
@@ -28,7 +28,7 @@ pub struct Place {
 /// The transmission of an ionosphere: by which satellite, and when.
 #[derive(Clone, Copy)]
 pub struct Transmission {
-    /// The stamp at which it was received, in seconds of the logger's clock.
+    /// The time tag at which it was received, in seconds of the logger's clock.
     pub stamp: u32,
     /// The satellite that sent it.
     pub sat: Sat,

@@ -1,4 +1,4 @@
-//! Laws of periods: each function does nothing, and its contract is the law.
+//! Theorems about periods: each function does nothing, and its contract is the theorem.
 
 ghost use Rattle.std.specs.Prelude.{◌≡◌, ◌+◌, ◌*◌, ◌<◌, ◌≤◌};
 ghost use Rattle.std.specs.Prelude.{◌∷◌, ◌++◌, ◌↔◌, ◌⊎◌, ℕ, List, []};
@@ -113,7 +113,7 @@ pub fn digests_are()
         (digest_finding r place.key d (health_at window parts place.key place.end)) }
 {}
 
-/// The test `is_of` holds exactly where the key is that of the part.
+/// The test `is_of` holds exactly if the key is that of the part.
 pub fn keys_are_told()
     ensures { (key : Key) (part : Part)
         → (is_of key part ≡ true) ↔ (key_of part ≡ Some key) }
@@ -131,7 +131,7 @@ pub fn items_concatenate()
         → items_in (some ++ more) ≡ items_in some ++ items_in more }
 {}
 
-/// The item of a period meets the conditions of the item constructors, where each part is of a
+/// The item of a period meets the conditions of the item constructors, if each part is of a
 /// satellite of the right system and its fields are within their widths: field ranges, system,
 /// issue of data, transmission time, week of an ionosphere.
 pub fn items_fit_together()

@@ -14,12 +14,13 @@
 //! further item.
 //!
 //! The definitions depend on the set of the parts alone; `periods_of` computes the periods of any
-//! list of parts. The laws state that order and repetition do not matter, and which periods later
-//! parts leave unchanged. An assembly of parts is built from the calls: the digest of the members
-//! of a period ([`Digest`]), and the search for the verdict among stored parts ([`verdict_on`]).
+//! list of parts. The theorems state that order and repetition do not matter, and which periods
+//! later parts leave unchanged. An assembly of parts is built from the calls: the digest of the
+//! members of a period ([`Digest`]), and the search for the verdict among stored parts
+//! ([`verdict_on`]).
 //!
-//! Periods stand on the ends of a set of stamps ([`one_more_stamp`]): an end is a stamp with no
-//! other in the window after it, whatever was received then.
+//! Periods are based on the ends of a set of time tags ([`one_more_stamp`]): an end is a time tag
+//! with no other in the window after it, whatever was received then.
 //!
 //! ```rust
 //! use periods::order_does_not_matter;

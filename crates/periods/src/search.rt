@@ -16,7 +16,7 @@ fn is_quiet_at(window: u32, key: &Key, end: u32, part: &Part) -> bool
         || (part.stamp <= end || end as u64 + (window as u64) < part.stamp as u64)
 }
 
-/// No part of the key has a stamp in the window after `end`.
+/// No part of the key has a time tag in the window after `end`.
 pub fn is_quiet(parts: &[Part], window: u32, key: &Key, end: u32) -> bool
     ensures { result ≡ quiet parts.now window key.now end }
 {

@@ -2,8 +2,8 @@ ghost use Rattle.nav_eph.specs.Values.{IsPartValue};
 
 use nav_eph::{Body, Part};
 
-/// Does nothing; its contract states that the stamp of a part has 32 bits, and that the numbers by
-/// which contents and tags are compared are within their widths in bits.
+/// Does nothing; its contract states that the time tag of a part has 32 bits, and that the numbers
+/// by which contents and tags are compared are within their widths in bits.
 pub fn note_value(part: &Part)
     ensures { IsPartValue part.now }
 {

@@ -31,7 +31,7 @@ pub record IsHeading (h : Heading) : Type 0 where
   pub waits : (xs ys : List ℕ) → h.begins xs ≡ true → length xs + length ys < h.wanted xs
       → (h.begins (xs ++ ys) ≡ true) × (h.wanted (xs ++ ys) ≡ h.wanted xs)
 
--- the size of the complete message of right checksum at the start of the bytes; 0 where there is none
+-- the size of the complete message of right checksum at the start of the bytes; 0 if there is none
 abbrev pub size_by : Heading → List ℕ → ℕ
 size_by h xs = if h.begins xs && nat_le (h.wanted xs) (length xs)
     && h.is_right (take (h.wanted xs) xs) then h.wanted xs else 0

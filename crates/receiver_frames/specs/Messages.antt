@@ -4,7 +4,8 @@ use Rattle.std.specs.Prelude.{if◌then◌else◌, List, [], ◌∷◌, ◌++◌
 
 -- a format of messages
 pub record Format : Type 0 where
-  -- the size of the complete message of right checksum at the start of the bytes; 0 where there is none
+  -- the size of the complete message of right checksum at the start of the bytes; 0 if there is
+  -- none
   pub size : List ℕ → ℕ
   -- the bytes begin with an incomplete message
   pub is_open : List ℕ → Bool
@@ -50,7 +51,7 @@ open_past format (x ∷ xs) zero =
     else if nat_lt 0 (format.size (x ∷ xs)) then open_past format xs (format.size (x ∷ xs) - 1)
     else open_past format xs 0
 
--- the bytes from the first incomplete message on; none where there is no such message
+-- the bytes from the first incomplete message on; none if there is no such message
 abbrev pub undecided : Format → List ℕ → List ℕ
 undecided format bytes = open_past format bytes 0
 

@@ -4,7 +4,8 @@ use Rattle.std.specs.Prelude.{length}
 use Rattle.receiver_frames.specs.Messages.{Format}
 use Rattle.receiver_frames.specs.State.{IsWaiting}
 
--- the bytes from the first offset on where a message begins or, where more bytes may come, an incomplete one does
+-- the bytes from the first offset on where a message begins or, if more bytes may come, an
+-- incomplete one does
 abbrev pub from_first : Format → Bool → List ℕ → List ℕ
 from_first format more [] = []
 from_first format more (x ∷ xs) =

@@ -3,11 +3,12 @@ use Rattle.std.specs.Prelude.{◌≡◌, ℕ, zero, suc, ◌+◌, ◌<◌, ◌�
 use Rattle.std.specs.Prelude.{true, IsTrue, if◌then◌else◌, List, [], ◌∷◌, take, drop}
 use Rattle.receiver_frames.specs.Messages.{Format}
 
--- the size of the message that begins at offset p, or 0 where none does
+-- the size of the message that begins at offset p, or 0 if none does
 abbrev pub size_at : Format → List ℕ → ℕ → ℕ
 size_at format bytes p = format.size (drop p bytes)
 
--- An offset is chosen exactly where a message begins and no chosen message before it reaches past it.
+-- An offset is chosen exactly if a message begins there and no chosen message before it reaches
+-- past it.
 pub record AreChosen (format : Format) (bytes : List ℕ) (chosen : ℕ → Bool) : Type 0 where
   pub exactly : (p : ℕ) → IsTrue (chosen p)
       ↔ ((0 < size_at format bytes p)

@@ -5,7 +5,7 @@ use Rattle.receiver_frames.specs.Headings.{Heading}
 use Rattle.receiver_frames.specs.Syncs.{Sync, heading_by}
 use Rattle.receiver_frames.specs.SbfRegister.{crc_from}
 
--- the length of the whole block, in its header
+-- the length of the complete block, in its header
 abbrev pub announced : List ℕ → ℕ
 announced xs = (slice_index xs 7 * 256 + slice_index xs 6) % 65536
 

@@ -138,7 +138,7 @@ same_wanted_many s xs ys sync some many =
     ∙ sync.size_prefix xs ys many
     ∙ sym (wanted_many s xs some many)
 
--- a complete message has its whole header
+-- a complete message has its complete header
 pub whole_has_header : (s : Sync) (xs : List ℕ) → IsSync s → wanted_by s xs ≤ length xs
     → s.header ≤ length xs
 whole_has_header s xs sync h =

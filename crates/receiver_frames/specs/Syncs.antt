@@ -36,7 +36,8 @@ begins_by s xs =
     && (nat_lt (length xs) 2 || (slice_index xs 1 == s.second
     && (nat_lt (length xs) s.header || s.fits xs))))
 
--- how many bytes are needed to know more: up to the first, the second, the header, the whole message
+-- how many bytes are needed to know more: up to the first, the second, the header, the complete
+-- message
 unfoldable pub wanted_by : Sync → List ℕ → ℕ
 wanted_by s xs =
     if nat_lt (length xs) 1 then 1

@@ -96,11 +96,11 @@ impl<J: Judge> Deframer<J> {
     }
 
     /// Finds the next message, which `message` then gives, and passes the bytes up to its end;
-    /// `false` where there is none.
+    /// `false` if there is none.
     ///
-    /// Before `finish` it gives `false` exactly where no message is decided: the bytes held then
-    /// begin with an incomplete message, or none are held. After `finish` it gives `false` exactly
-    /// where no message is left, and then holds nothing.
+    /// Before `finish` it gives `false` exactly if no message is decided: the bytes held then begin
+    /// with an incomplete message, or none are held. After `finish` it gives `false` exactly if no
+    /// message is left, and then holds nothing.
     pub fn next_message(&mut self) -> bool
         ensures message { IsTrue result → TakesMessage (format_of J.heading)
             (not self.old.finished) self.old.rest self.new.message self.new.rest }
@@ -134,8 +134,8 @@ impl<J: Judge> Deframer<J> {
         &self.bytes.as_slice()[self.found..self.start]
     }
 
-    /// Says that no byte follows: an incomplete message stays incomplete, and messages inside its
-    /// bytes are searched for.
+    /// Ends the input: an incomplete message stays incomplete, and messages inside its bytes are
+    /// searched for.
     pub fn finish(&mut self)
         ensures rest { self.new.rest ≡ self.old.rest }
         ensures finished { self.new.finished ≡ true }

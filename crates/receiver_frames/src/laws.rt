@@ -1,4 +1,5 @@
-//! Laws of messages of any format: each function does nothing, and its contract is the law.
+//! Theorems about messages of any format: each function does nothing, and its contract is the
+//! theorem.
 
 ghost use Rattle.std.specs.Prelude.{◌≡◌, ℕ, ◌&&◌, ◌++◌};
 ghost use Rattle.std.specs.Prelude.{nat_lt, Bool, List, [], drop};

@@ -1,17 +1,17 @@
 //! Messages in the byte stream of a receiver: UBX of u-blox, SBF of Septentrio, and any format
 //! whose messages give their size in their first bytes.
 //!
-//! A message is searched for at each byte: where a complete message with the right checksum begins,
-//! the search continues after it, else one byte further. A format defines how messages begin, their
-//! size and their checksum ([`Judge`]). This crate has
+//! A message is searched for at each byte: if a complete message with the right checksum begins
+//! there, the search continues after it, else one byte further. A format defines how messages
+//! begin, their size and their checksum ([`Judge`]). This crate has
 //!
 //! - [`Deframer`], which takes the bytes of a stream in any pieces and gives the messages in them;
-//! - laws of messages of any format: at which offsets they are, and which are decided while more
-//!   bytes may come;
+//! - theorems about messages of any format: at which offsets they are, and which are decided while
+//!   more bytes may come;
 //! - [`UbxJudge`]: the sync bytes B5 62, class, ID, a payload length of two bytes (low byte first),
 //!   the payload, and the checksum of all bytes from class to payload: CK_A, the sum of the bytes,
 //!   and CK_B, the sum of its running values, both modulo 256;
-//! - [`SbfJudge`]: the sync bytes `$@`, a CRC, a block ID and the length of the whole block, two
+//! - [`SbfJudge`]: the sync bytes `$@`, a CRC, a block ID and the length of the complete block, two
 //!   bytes each, low byte first, and the body. The length is at least 8 and a multiple of 4. The
 //!   CRC covers all bytes after it: polynomial x^16 + x^12 + x^5 + 1, initial value 0, no
 //!   reflection.

@@ -28,12 +28,12 @@ abbrev pub state_after : LogState → List Reception → LogState
 state_after s [] = s
 state_after s (r ∷ rs) = state_after (given s r).state rs
 
--- the report line of a refused message, by its number in the log
+-- the report line of a rejected message, by its number in the log
 abbrev pub refusal_line : ℕ → Option Reason → List ℕ
 refusal_line number None = []
 refusal_line number (Some reason) = report_line (codes "message") number (reason_word reason)
 
--- the report line of a reception, if it was refused
+-- the report line of a reception, if it was rejected
 abbrev pub refusal_text : LogState → Reception → List ℕ
 refusal_text s r = refusal_line r.number (given s r).refused
 
@@ -59,7 +59,7 @@ abbrev pub capture_of : Heading → (List ℕ → Said) → List ℕ → List �
 capture_of heading said bytes =
     lines_from begun (receptions_of said (messages (format_of heading) bytes))
 
--- the report of a log: a line for each refused message, and the counts
+-- the report of a log: a line for each rejected message, and the counts
 abbrev pub report_of : Heading → (List ℕ → Said) → List ℕ → List ℕ
 report_of heading said bytes =
     refusals_from begun (receptions_of said (messages (format_of heading) bytes))

@@ -24,7 +24,7 @@ one_more n = min (n + 1) (2 ^ 64 - 1)
 abbrev pub more_if : Bool → ℕ → ℕ
 more_if b n = if b then one_more n else n
 
--- the result of a subframe or a page: the new state, its lines, and the reason where it is refused
+-- the result of a subframe or a page: the new state, its lines, and the reason if it is rejected
 pub record LinesGiven : Type 0 where
   pub state : LogState
   pub text : List ℕ
@@ -34,24 +34,24 @@ pub record LinesGiven : Type 0 where
 abbrev pub head_line : ℕ → List ℕ
 head_line week = (codes "NAVCAP 2 " ++ decimal week) ++ codes " 7200\n"
 
--- the week of the first line: that of the second two hours before the first stamp
+-- the week of the first line: that of the second two hours before the first time tag
 abbrev pub week_of : Option ℕ → ℕ → ℕ
 week_of (Some week) first = week
 week_of None first = (first - 7200) / 604800
 
--- the first line, before the first stamp only
+-- the first line, before the first time tag only
 abbrev pub head_text : Option ℕ → ℕ → List ℕ
 head_text (Some week) first = []
 head_text None first = head_line (week_of None first)
 
--- why lines from the first to the last of these seconds are refused in a capture of this week
+-- why lines from the first to the last of these seconds are rejected in a capture of this week
 abbrev pub reason_in : ℕ → ℕ → ℕ → Option Reason
 reason_in week first last =
     if nat_lt first (604800 * week) then Some Late
     else if nat_le (604800 * (week + 512)) last then Some Far
     else None
 
--- the result of a refused message
+-- the result of a rejected message
 abbrev pub refused_by : LogState → Reason → LinesGiven
 refused_by s reason = record {
   state = record s { counts = record s.counts { refused = one_more s.counts.refused } };
@@ -103,7 +103,7 @@ given_at s None (Page sat signal even odd) = refused_by s Untimed
 given_at s (Some time) (Page sat signal even odd) =
     page_in s time sat signal even odd (reason_in (week_of s.week (time - 1)) (time - 1) time)
 
--- a time message counts where it gives a time; without one it counts as other
+-- a time message counts if it gives a time; without one it counts as other
 abbrev pub counted_as : Said → MessageCounts → MessageCounts
 counted_as Other c = record c { other = one_more c.other }
 counted_as (Time (Some time)) c = record c { times = one_more c.times }

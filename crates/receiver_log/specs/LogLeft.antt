@@ -8,7 +8,7 @@ use Rattle.receiver_log.specs.Capture.{capture_of, lines_from, too_many}
 use Rattle.receiver_log.specs.Mirrors.{ahead}
 use Rattle.receiver_log.specs.Steps.{LogView}
 
--- the capture of a log's bytes, where they are known
+-- the capture of a log's bytes, if they are known
 abbrev pub capture_left : Heading → (List ℕ → Said) → Option (List ℕ) → Option (List ℕ)
 capture_left heading said None = None
 capture_left heading said (Some bytes) = Some (capture_of heading said bytes)
@@ -33,7 +33,8 @@ KeepsLength taken None taken_new left_new = ⊤
 KeepsLength taken (Some xs) taken_new None = ⊥
 KeepsLength taken (Some xs) taken_new (Some ys) = taken_new + length ys ≡ taken + length xs
 
--- A read that succeeds leaves the log's count of faults; one that fails has raised it, or too many bytes were read.
+-- A read that succeeds leaves the log's count of errors; one that fails has raised it, or too many
+-- bytes were read.
 pub record HasLogCause {T E : Type 0} (before now taken : ℕ) (result : Result T E) : Type 0 where
   pub stays : OnOk result (now ≡ before)
   pub failed : OnErr result (Rose before now ⊎ (too_many ≤ taken))

@@ -11,7 +11,7 @@ use Rattle.receiver_log.specs.declared.state.MessageCounts.{MessageCounts}
 use Rattle.receiver_log.specs.Log.{none_counted, one_more}
 use Rattle.receiver_log.specs.Receptions.{between, is_open, nearest, parts_to}
 
--- the time of what lies behind a time message; none yet where it is open
+-- the time of what lies after a time message; none yet if it is open
 abbrev pub decision : Bool → Option ℕ → List Said → ℕ → Option (Option ℕ)
 decision more time behind parts =
     if is_open time behind parts && more then None else Some (between time (nearest behind) parts)
@@ -23,7 +23,8 @@ stamped None (x ∷ xs) = []
 stamped (Some time) (x ∷ xs) =
     record { number = x.number; time = time; content = x.content } ∷ stamped (Some time) xs
 
--- the receptions of messages behind a time message, and so many subframes and pages; `number` is that of the message before
+-- the receptions of messages after a time message, and so many subframes and pages; `number` is
+-- that of the message before
 abbrev pub behind_time : Bool → Option ℕ → ℕ → ℕ → List Said → List Reception
 behind_time more time parts number [] = []
 behind_time more time parts number (Other ∷ says) =
@@ -40,7 +41,7 @@ behind_time more time parts number (Dated own content ∷ says) =
 
 -- what a contract sees of the subframes and pages that wait
 pub record QueueState : Type 0 where
-  -- those behind the last time message, or those left of them once their time is settled
+  -- those after the last time message, or those left of them once their time is settled
   pub waiting : List Pending
   -- the second that the last time message gave
   pub time : Option ℕ
@@ -63,7 +64,8 @@ to_come_by more None q number says =
 abbrev pub to_come : Bool → QueueState → ℕ → List Said → List Reception
 to_come more q number says = to_come_by more q.settled q number says
 
--- where a run over a log stands: the bytes fed and not yet passed, what waits, and the counts of the messages before
+-- where a run over a log is: the bytes fed and not yet passed, what waits, and the counts of the
+-- messages before
 pub record Place : Type 0 where
   pub rest : List ℕ
   pub queue : QueueState
@@ -77,13 +79,14 @@ start_of bytes = record { rest = bytes; queue = empty_queue; counts = none_count
 abbrev pub fed_with : Place → List ℕ → Place
 fed_with p bytes = record p { rest = p.rest ++ bytes }
 
--- the receptions to come from a place, where these bytes follow; with more to come, those that are decided
+-- the receptions to come from a place, if these bytes follow; with more to come, those that are
+-- decided
 abbrev pub ahead : Heading → (List ℕ → Said) → Bool → Place → List ℕ → List Reception
 ahead h said more p following =
     to_come more p.queue p.counts.messages
     (map said (messages_past (format_of h) more (p.rest ++ following) 0))
 
--- one where a time is not settled, and so many wait for it
+-- one if a time is not settled, and so many wait for it
 abbrev pub unsettled : Option (Option ℕ) → ℕ → ℕ
 unsettled None parts = min parts 1
 unsettled (Some time) parts = 0

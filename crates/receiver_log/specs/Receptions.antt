@@ -5,7 +5,7 @@ use Rattle.receiver_messages.specs.declared.said.Said.{Said}
 use Rattle.receiver_messages.specs.declared.said.Said.TheVariants.{Other, Time, Heard, Dated}
 use Rattle.receiver_log.specs.declared.reception.Reception.{Reception}
 
--- the second that the nearest time message gives; none where it gives none, or where there is none
+-- the second that the nearest time message gives; none if it gives none, or if there is none
 abbrev pub nearest : List Said → Option ℕ
 nearest [] = None
 nearest (Other ∷ says) = nearest says
@@ -29,8 +29,8 @@ has_time (Time time ∷ says) = true
 has_time (Heard content ∷ says) = has_time says
 has_time (Dated time content ∷ says) = has_time says
 
--- the second of what lies between two time messages: that of the first, where that of the second is 1 s before to 60 s
--- after it, and at most 1,024 subframes and pages lie between
+-- the second of what lies between two time messages: that of the first, if that of the second is 1
+-- s before to 60 s after it, and at most 1,024 subframes and pages lie between
 abbrev pub between : Option ℕ → Option ℕ → ℕ → Option ℕ
 between (Some first) (Some second) parts =
     if nat_le first (second + 1) && nat_le second (first + 60) && nat_le parts 1024
@@ -38,7 +38,8 @@ between (Some first) (Some second) parts =
 between (Some first) None parts = None
 between None second parts = None
 
--- whether the next time message may give what lies behind the last one its time: none has come yet, and there is room
+-- whether the next time message may give what lies after the last one its time: none has come yet,
+-- and there is room
 abbrev pub is_open : Option ℕ → List Said → ℕ → Bool
 is_open (Some first) behind parts = not (has_time behind) && nat_le parts 1024
 is_open None behind parts = false
@@ -47,8 +48,9 @@ is_open None behind parts = false
 abbrev pub parts_round : List Said → List Said → ℕ
 parts_round before behind = parts_to before + 1 + parts_to behind
 
--- the reception that a message gives: its number in the log, from 1; its time, which is its own or that between the
--- messages before and behind it, the nearest first; what it contains. Where more messages may come, none while its time is open
+-- the reception that a message gives: its number in the log, from 1; its time, which is its own or
+-- that between the messages before and after it, the nearest first; what it contains. Where more
+-- messages may come, none while its time is open
 abbrev pub received : Bool → List Said → Said → List Said → List Reception
 received more before Other behind = []
 received more before (Time time) behind = []
@@ -62,7 +64,7 @@ received more before (Heard content) behind =
       content = content;
     } ∷ []
 
--- the receptions of messages behind those before, the nearest first
+-- the receptions of messages after those before, the nearest first
 abbrev pub received_from : Bool → List Said → List Said → List Reception
 received_from more before [] = []
 received_from more before (said ∷ behind) =

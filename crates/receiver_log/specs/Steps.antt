@@ -57,7 +57,8 @@ pub record Passes (h : Heading) (said : List ℕ → Said) (a b : LogView) (fed 
       ≡ counts_after said b.place.counts (messages (format_of h) (b.place.rest ++ following))
   pub stays : a.ended ≡ true → (b.ended ≡ true) × (fed ≡ [])
 
--- Receptions were passed; their lines came to those that wait, and this is so of the report of those that were refused.
+-- Receptions were passed; their lines came to those that wait, and this is so of the report of
+-- those that were rejected.
 pub record Hears (h : Heading) (said : List ℕ → Said) (a b : LogView) (fed lines lines_new : List ℕ)
     (tells : List ℕ → Type 0) : Type 0 where
   pub heard : List Reception
@@ -70,7 +71,7 @@ pub record Hears (h : Heading) (said : List ℕ → Said) (a b : LogView) (fed l
 abbrev pub IsOver : Option (List ℕ) → ℕ → Type 0
 IsOver left taken = IsAtEnd left × (taken < too_many)
 
--- the same, where the bytes were read
+-- the same, if the bytes were read
 pub record Reads (h : Heading) (said : List ℕ → Said) (a b : LogView)
     (left left_new : Option (List ℕ)) (lines lines_new : List ℕ) (tells : List ℕ → Type 0) :
     Type 0 where
@@ -86,12 +87,12 @@ pub record IsIdle (h : Heading) (said : List ℕ → Said) (a : LogView) : Type 
   pub last : ahead h said (not a.ended) a.place [] ≡ []
   pub rest : a.ended ≡ true → a.place.rest ≡ []
 
--- what was reported of a text before this fault: a prefix where the report failed, else all of it
+-- what was reported of a text before this error: a prefix if the report failed, else all of it
 abbrev pub Tells : BridgeFault → Option (List ℕ) → Option (List ℕ) → List ℕ → Type 0
 Tells ReportFault reported reported_new text = AppendsPrefix reported reported_new text
 Tells fault reported reported_new text = Appends reported reported_new text
 
--- why no more lines come, by the fault: of a read, of the report, or because the log is too long
+-- why no more lines come, by the error: of a read, of the report, or because the log is too long
 abbrev pub Stops : Heading → (List ℕ → Said) → LogView → List ℕ → Bool → ℕ → ℕ → ℕ → ℕ → BridgeFault
     → Type 0
 Stops h said a waiting never_fails reads reads_new reports reports_new ReadFault =

@@ -25,7 +25,7 @@ const WEEK: u64 = 604_800;
 // Half the range in weeks of a ten-bit week number.
 const FAR: u64 = 512;
 
-/// Processes a subframe or a page: appends its lines, and gives the reason where it is refused.
+/// Processes a subframe or a page: appends its lines, and gives the reason if it is rejected.
 pub fn hear(state: &mut LogState, reception: &Reception, lines: &mut LineBuffer) -> Option<Reason>
     requires room { array_vec_len lines.old + 8192 ≤ 16384 }
     requires system { IsOfSystem reception.now.content }

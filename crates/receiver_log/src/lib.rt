@@ -1,15 +1,15 @@
 //! Captures of GNSS receiver logs.
 //!
 //! A receiver's log has UBX messages or SBF blocks, with any other bytes between them. Its GPS LNAV
-//! subframes and Galileo I/NAV pages become lines of a capture, each stamped with its second
+//! subframes and Galileo I/NAV pages become lines of a capture, each with its second as time tag,
 //! counted from the start of the week in the first line.
 //!
 //! - [`Receiver`], a format of messages and their content: `UbxJudge` and `SbfJudge`;
 //! - [`hear`], the lines of one subframe or page;
 //! - [`run_log`], which writes the capture of a log, and reports rejected messages and counts;
 //! - [`LogSource`], over a source of the log's bytes, which gives the same capture however reads
-//!   cut it, so that a conversion of captures can read a log; [`Refused`], who is told of its
-//!   rejected messages, [`refusal`] and [`counts_text`], what the report says of them.
+//!   split it, so that a conversion of captures can read a log; [`Refused`], who is notified of its
+//!   rejected messages, [`refusal`] and [`counts_text`], what the report has of them.
 //!
 //! ```rust
 //! let mut input = ReadSource::new(rt.stdin());

@@ -56,9 +56,9 @@ impl<J: Receiver> Log<J> {
     ///
     /// # Errors
     ///
-    /// - `ReadFault` where a read fails; nothing more is decided then.
+    /// - `ReadFault` if a read fails; nothing more is decided then.
     /// - `TooLong` where 18,446,744,073,709,551,615 bytes were read.
-    /// - `ReportFault` where a rejected message can't be reported.
+    /// - `ReportFault` if a rejected message can't be reported.
     pub(crate) fn next_lines<S: Source, R: Refused>(
         &mut self,
         source: &mut S,
@@ -242,7 +242,7 @@ impl<J: Receiver> Log<J> {
         &self.lines.as_slice()[self.given..]
     }
 
-    /// Gives lines that wait, as many bytes as there is room for, and how many.
+    /// Gives lines that wait, as many bytes as fit, and how many.
     pub(crate) fn give(&mut self, into: &mut [u8]) -> usize
         ensures within { result ≤ length into.new }
         ensures some { 0 < length into.new → 0 < length (waiting_of self.old) → 0 < result }

@@ -1,4 +1,4 @@
-//! Subframes and pages that wait for the time message behind them.
+//! Subframes and pages that wait for the time message after them.
 
 ghost use Rattle.std.specs.Prelude.{◌≡◌, ℕ, Bool, List, ◌∷◌, [], Some, None, ◌≤◌, ◌<◌, ◌+◌, ◌-◌};
 ghost use Rattle.arrayvec.specs.ArrayVec.{array_vec_len};

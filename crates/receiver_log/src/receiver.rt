@@ -17,7 +17,7 @@ pub trait Receiver: Judge {
     // Whether messages have times of their own; else time messages stand between them.
     ghost has_times: { Bool };
 
-    /// The content of a whole message.
+    /// The content of a complete message.
     fn tell(message: &[u8]) -> Said
         ensures value { result ≡ said message.now }
         ensures system { SaysOfSystem result }

@@ -8,7 +8,7 @@ use receiver_messages::Content;
 pub struct Reception {
     /// The number of its message in the log, from 1.
     pub number: u64,
-    /// Its time of reception; `None` where that is not known.
+    /// Its time of reception; `None` if that is not known.
     pub time: Option<Moment>,
     /// The subframe or the page.
     pub content: Content,

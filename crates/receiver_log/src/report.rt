@@ -1,4 +1,4 @@
-//! The lines of the report, and who is told of rejected messages.
+//! The lines of the report, and who is notified of rejected messages.
 
 ghost use Rattle.std.specs.Prelude.{◌≡◌, ◌≤◌, ℕ, List, length, codes, Option, Some, MatchResult};
 ghost use Rattle.std.specs.Io.KnownBytes.{Appends};
@@ -13,7 +13,7 @@ use nav_io::{Failed, Sink};
 use one_run::{Text, append_count, report_text};
 use receiver_messages::Reason;
 
-/// Who is told of rejected messages: any sink, as lines of a report, or [`Nobody`].
+/// Who is notified of rejected messages: any sink, as lines of a report, or [`Nobody`].
 pub trait Refused {
     // The report so far, where it is known.
     ghost reported: { Self → Option (List ℕ) };
@@ -41,7 +41,7 @@ impl<U: Sink> Refused for U {
     }
 }
 
-/// Nobody is told.
+/// No one is notified.
 #[derive(Clone, Copy, Drop)]
 pub struct Nobody;
 
@@ -57,7 +57,7 @@ impl Refused for Nobody {
     }
 }
 
-/// The report line of a refused message.
+/// The report line of a rejected message.
 pub fn refusal(number: u64, reason: Reason) -> Text
     ensures { result.items ≡ report_line (codes "message") number (reason_word reason) }
 {

@@ -11,16 +11,16 @@ use one_run::BridgeFault;
 
 /// Reads a log to its end, writes its capture, and reports rejected messages and counts.
 ///
-/// The lines of a subframe or page are written as soon as the time message behind it is whole, and
-/// nothing before that is open.
+/// The lines of a subframe or page are written as soon as the time message after it is complete,
+/// and nothing before that is open.
 ///
 /// # Errors
 ///
-/// - `ReadFault`, `WriteFault`, `ReportFault` only where the fault count of the input, the output
-///   or the report rose, or is at its maximum. After a failed read exactly the lines and the
-///   rejections of all that the bytes read decide were written and reported. After any fault a
+/// - `ReadFault`, `WriteFault`, `ReportFault` only if the error count of the input, the output or
+///   the report rose, or is at its maximum. After a failed read exactly the lines and the
+///   rejections of all that the bytes read decide were written and reported. After any error a
 ///   prefix of the capture and of the report of the bytes read was.
-/// - `TooLong` only where 18,446,744,073,709,551,615 bytes were read.
+/// - `TooLong` only if 18,446,744,073,709,551,615 bytes were read.
 pub fn run_log<J: Receiver, S: Source, T: Sink, U: Sink>(
     input: &mut S,
     output: &mut T,

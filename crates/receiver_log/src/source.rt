@@ -40,7 +40,7 @@ impl<N: Refused> Refused for Heedless<N> {
 pub struct LogParts<S: Source, N: Refused> {
     /// The source of the log's bytes.
     pub source: S,
-    /// Who was told of rejected messages.
+    /// Who was notified of rejected messages.
     pub refused: N,
     /// What was counted.
     pub counts: LogCounts,
@@ -48,12 +48,12 @@ pub struct LogParts<S: Source, N: Refused> {
     pub taken: u64,
 }
 
-/// The capture of a log, read as the log's bytes come: a line is given when its message is whole
+/// The capture of a log, read as the log's bytes come: a line is given when its message is complete
 /// and nothing before it is open.
 ///
-/// Where the log's bytes are known to a contract, so are those of the capture. A read fails where a
-/// read of the log fails, or where 18,446,744,073,709,551,615 bytes were read of it; the next one
-/// goes on where this one began. Who is told of rejected messages changes nothing of what is read.
+/// If the log's bytes are known to a contract, so are those of the capture. A read fails if a read
+/// of the log fails, or if 18,446,744,073,709,551,615 bytes were read of it; the next one continues
+/// where this one began. Who is notified of rejected messages changes nothing of what is read.
 #[derive(Drop)]
 pub struct LogSource<J: Receiver, S: Source, N: Refused> {
     source: S,
@@ -82,7 +82,8 @@ impl<J: Receiver, S: Source, N: Refused> LogSource<J, S, N> {
         }
     }
 
-    /// The source of the log's bytes, who was told, what was counted, and how many bytes were read.
+    /// The source of the log's bytes, who was notified, what was counted, and how many bytes were
+    /// read.
     pub fn into_parts(self) -> LogParts<S, N>
         ensures source { result.source ≡ self.source }
         ensures taken { result.taken ≡ self.log.taken }
@@ -115,8 +116,8 @@ impl<J: Receiver, S: Source, N: Refused> Source for LogSource<J, S, N> {
 
     /// Gives lines that wait, or those of the messages decided next.
     ///
-    /// Fails only where a read of the log failed in this call, or where 18,446,744,073,709,551,615
-    /// bytes were read of the log.
+    /// Fails only if a read of the log failed in this call, or if 18,446,744,073,709,551,615 bytes
+    /// were read of the log.
     fn read(&mut self, into: &mut [u8]) -> Result<usize, Failed>
         requires asks { length into.old ≤ 16384 }
         ensures bound { ReadsAtMost result into.new }

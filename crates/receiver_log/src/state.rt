@@ -29,7 +29,7 @@ pub struct CaptureCounts {
     pub subframes: u64,
     /// Pages written.
     pub pages: u64,
-    /// Messages with a subframe or a page that were refused.
+    /// Messages with a subframe or a page that were rejected.
     pub refused: u64,
     /// Subframes whose words had to be inverted back.
     pub turned: u64,

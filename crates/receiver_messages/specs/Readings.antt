@@ -1,4 +1,4 @@
--- The three forms in which receivers log the words of a subframe.
+-- The three ways in which receivers log the words of a subframe.
 use Rattle.std.specs.Prelude.{◌≡◌, ℕ, ◌%◌, ◌==◌, ◌⊎◌, if◌then◌else◌, List, [], ◌∷◌, bit_xor}
 use Rattle.receiver_messages.specs.Words.{data_mask, whole_mask}
 
@@ -6,7 +6,8 @@ use Rattle.receiver_messages.specs.Words.{data_mask, whole_mask}
 abbrev pub IsMask : ℕ → Type 0
 IsMask mask = (mask ≡ 0) ⊎ ((mask ≡ data_mask) ⊎ (mask ≡ whole_mask))
 
--- words sent after one that ends in the bits of last, as logged: inverted where the word sent before ends in 1 (D30*)
+-- words sent after one that ends in the bits of last, as logged: inverted if the word sent before
+-- ends in 1 (D30*)
 abbrev pub logged_behind : ℕ → ℕ → List ℕ → List ℕ
 logged_behind mask last [] = []
 logged_behind mask last (word ∷ words) =

@@ -14,7 +14,7 @@ use Rattle.receiver_messages.specs.declared.said.Reason.TheVariants.{Length}
 use Rattle.receiver_messages.specs.declared.said.Said.{Said}
 use Rattle.receiver_messages.specs.declared.said.Said.TheVariants.{Other, Dated}
 
--- the time stamp of a block: TOW in milliseconds at offset 8, WNc at 12
+-- the time tag of a block: TOW in milliseconds at offset 8, WNc at 12
 abbrev pub time_at : List ℕ → Option ℕ
 time_at block = time_in (two_at block 12) (four_at block 8)
 
@@ -45,6 +45,6 @@ block_said number block =
     if number == 4017 then subframe_said block else if number == 4023 then pages_said block else
     Other
 
--- the content of a whole block; its ID is the lower 13 bits of the two bytes after the CRC
+-- the content of a complete block; its ID is the lower 13 bits of the two bytes after the CRC
 unfoldable pub sbf_said : List ℕ → Said
 sbf_said block = if nat_lt (length block) 8 then Other else block_said (two_at block 4 % 8192) block

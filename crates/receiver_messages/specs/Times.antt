@@ -1,4 +1,4 @@
--- GPS times in messages, rounded to whole seconds (halves up).
+-- GPS times in messages, rounded to integer seconds (halves up).
 use Rattle.std.specs.Prelude.{ℕ, ◌+◌, ◌-◌, ◌*◌, ◌/◌, ◌%◌, ◌^◌, ◌==◌, ◌&&◌, ◌||◌, nat_lt, nat_le}
 use Rattle.std.specs.Prelude.{if◌then◌else◌, Bool, List, length, slice_index, Option, Some, None}
 use Rattle.std.specs.Prelude.{Result, Ok, Err}
@@ -38,7 +38,8 @@ minute_at payload = record {
 abbrev pub nearest_week : ℕ → ℕ → ℕ
 nearest_week second milliseconds = (1000 * second + 302400000 - milliseconds) / 604800000
 
--- the GPS time with this time of week (milliseconds) nearest to a second of a minute; none where the date does not exist
+-- the GPS time with this time of week (milliseconds) nearest to a second of a minute; none if the
+-- date does not exist
 abbrev pub nearest_time : Result ℕ WeekFault → ℕ → ℕ → Option ℕ
 nearest_time (Ok minute) second milliseconds = time_in
     (nearest_week (minute + second) milliseconds) milliseconds

@@ -70,7 +70,7 @@ payload_said class number payload =
     else if class == 2 && number == 0x13 then words_said payload
     else Other
 
--- the content of a whole message
+-- the content of a complete message
 unfoldable pub ubx_said : List ℕ → Said
 ubx_said message =
     if nat_lt (length message) 8 then Other

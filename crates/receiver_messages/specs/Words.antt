@@ -1,5 +1,6 @@
--- The words of a subframe as receivers log them: the data bits, and perhaps also the parity bits, may be given as sent or
--- as source bits, inverted where the word before ends in 1 (D30*; IS-GPS-200, 20.3.5.2).
+-- The words of a subframe as receivers log them: the data bits, and perhaps also the parity bits,
+-- may be given as sent or as source bits, inverted if the word before ends in 1 (D30*; IS-GPS-200,
+-- 20.3.5.2).
 use Rattle.std.specs.Prelude.{ℕ, ◌+◌, ◌%◌, ◌^◌, ◌==◌, ◌&&◌, if◌then◌else◌, Bool, true, not}
 use Rattle.std.specs.Prelude.{List, [], ◌∷◌, slice_index, bit_xor}
 use Rattle.lnav_subframe.specs.ParityFunctions.{is_good}
@@ -7,7 +8,8 @@ use Rattle.nav_bits.specs.Fields.{Field, unsigned, reserved}
 use Rattle.nav_bits.specs.Packed.{packed}
 use Rattle.receiver_messages.specs.Numbers.{four_at}
 
--- words read after one that ends in the bits of last: XOR the mask where the word before, as read, ends in 1
+-- words read after one that ends in the bits of last: XOR the mask if the word before, as read,
+-- ends in 1
 abbrev pub reading_behind : ℕ → ℕ → List ℕ → List ℕ
 reading_behind mask last [] = []
 reading_behind mask last (word ∷ words) =
@@ -18,7 +20,7 @@ reading_behind mask last (word ∷ words) =
 abbrev pub reading : ℕ → List ℕ → List ℕ
 reading mask words = reading_behind mask 0 words
 
--- all words have right parity, where the word before the first ends in the bits of last
+-- all words have right parity, if the word before the first ends in the bits of last
 abbrev pub are_good_behind : ℕ → List ℕ → Bool
 are_good_behind last [] = true
 are_good_behind last (word ∷ words) = is_good word (last % 4) && are_good_behind word words
@@ -35,7 +37,8 @@ data_mask = 0x3FFFFFC0
 abbrev pub whole_mask : ℕ
 whole_mask = 0x3FFFFFFF
 
--- the reading with right parity by mask 0, the data mask or the whole mask; the words as logged where there is none
+-- the reading with right parity by mask 0, the data mask or the mask of all bits; the words as
+-- logged if there is none
 unfoldable pub read_words : List ℕ → List ℕ
 read_words words =
     if are_good words then words

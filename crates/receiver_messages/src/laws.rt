@@ -1,4 +1,4 @@
-//! Laws of receiver messages: each function does nothing, and its contract is the law.
+//! Theorems about receiver messages: each function does nothing, and its contract is the theorem.
 
 ghost use Rattle.std.specs.Prelude.{◌≡◌, ℕ, List, true};
 ghost use Rattle.receiver_messages.specs.Words.{are_good, read_words, reading};
@@ -14,7 +14,7 @@ pub fn one_reading_is_good()
         → are_good (reading mask words) ≡ true → read_words words ≡ reading mask words }
 {}
 
-/// Words sent with right parity are read as sent, in whichever of the three forms the receiver
+/// Words sent with right parity are read as sent, in whichever of the three ways the receiver
 /// logged them (IS-GPS-200, 20.3.5.2).
 pub fn sent_words_are_read()
     ensures { (sent : List ℕ) (mask : ℕ) → IsMask mask → are_good sent ≡ true

@@ -1,9 +1,9 @@
 //! Decoding of GNSS receiver messages for a capture: times, GPS LNAV subframes and Galileo I/NAV
 //! pages, from u-blox UBX and Septentrio SBF.
 //!
-//! - [`ubx_said`] and [`sbf_said`], the content of a whole message ([`Said`]): a time, a subframe
-//!   or a page ([`Content`]), or nothing that is used;
-//! - [`read_words`], the ten words of a subframe as sent, in whichever of three forms the receiver
+//! - [`ubx_said`] and [`sbf_said`], the content of a complete message ([`Said`]): a time, a
+//!   subframe or a page ([`Content`]), or nothing that is used;
+//! - [`read_words`], the ten words of a subframe as sent, in whichever of three ways the receiver
 //!   logged them (IS-GPS-200, 20.3.5.2), and [`subframe_bits`], their 300 bits.
 //!
 //! ```rust

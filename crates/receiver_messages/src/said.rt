@@ -49,9 +49,10 @@ pub enum Content {
 pub enum Said {
     /// Nothing that a capture uses.
     Other,
-    /// The receiver's time from here on; `None` where it is not valid.
+    /// The receiver's time from here on; `None` if it is not valid.
     Time(Option<Moment>),
-    /// A subframe or a page without a time of its own: time messages stand around it.
+    /// A subframe or a page without a time of its own: it takes one from the time messages around
+    /// it.
     Heard(Content),
     /// A subframe or a page with its own time of reception.
     Dated(Option<Moment>, Content),

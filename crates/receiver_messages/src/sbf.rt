@@ -15,7 +15,7 @@ use crate::words::words_from;
 use gnss_week::Moment;
 use nav_eph::{Signal, System};
 
-/// The content of a whole SBF block.
+/// The content of a complete SBF block.
 ///
 /// GPSRawCA gives a subframe, GALRawINAV a page of E1-B or E5b, each with the block's own time, or
 /// the reason why it gives none.

@@ -12,7 +12,7 @@ use crate::times::{time_of_date, time_of_raw, time_of_week};
 use crate::words::words_from;
 use nav_eph::{Sat, Signal, System};
 
-/// The content of a whole UBX message, from sync bytes to checksum.
+/// The content of a complete UBX message, from sync bytes to checksum.
 ///
 /// NAV-TIMEGPS, NAV-PVT and RXM-RAWX set the time, or clear it where theirs is not valid; RXM-SFRBX
 /// gives a GPS L1 C/A subframe or a Galileo E1-B or E5b page, or the reason why it gives none.

@@ -1,4 +1,4 @@
-//! The words of a subframe, in whichever of three forms the receiver logged them.
+//! The words of a subframe, in whichever of three ways the receiver logged them.
 
 ghost use Rattle.std.specs.Prelude.{◌≡◌, ◌+◌, ◌%◌, ◌^◌, ◌<◌};
 ghost use Rattle.std.specs.Prelude.{◌≤◌, ◌==◌, if◌then◌else◌, length};
@@ -21,7 +21,7 @@ const WHOLE: u64 = 0x3FFF_FFFF;
 /// The words of a subframe, as read.
 #[derive(Clone, Copy, PartialEq, Eq)]
 pub struct ReadWords {
-    /// The ten words as sent; as logged where no reading has right parity.
+    /// The ten words as sent; as logged if no reading has right parity.
     pub words: [U<30>; 10],
     /// Whether all ten have right parity.
     pub is_good: bool,
@@ -30,7 +30,7 @@ pub struct ReadWords {
 }
 
 /// The words of a subframe as sent: the one of three readings in which all ten have right parity
-/// (IS-GPS-200, 20.3.5.2), or the words as logged where there is none.
+/// (IS-GPS-200, 20.3.5.2), or the words as logged if there is none.
 #[tactic(auto, unfolding(crate::specs::Words::read_words, crate::specs::Words::has_good_reading, crate::specs::Words::is_inverted))]
 pub fn read_words(words: &[U<30>; 10]) -> ReadWords
     ensures words { result.words ≡ read_of words.now }

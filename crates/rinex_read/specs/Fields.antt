@@ -16,7 +16,7 @@ abbrev pub ◌>>=◌ : {A B : Type 0} → Result A Reason → (A → Result B Re
 (Ok x) >>= f = f x
 (Err e) >>= f = Err e
 
--- the number where it is from low to high, else `OutOfRange`
+-- the number if it is from low to high, else `OutOfRange`
 abbrev pub in_range : ℤ → ℤ → ℤ → Result ℤ Reason
 in_range low high z = if int_le low z && int_le z high then Ok z else Err reasons.OutOfRange
 
@@ -24,7 +24,8 @@ in_range low high z = if int_le low z && int_le z high then Ok z else Err reason
 abbrev pub flag_of : ℕ → Result ℤ Reason
 flag_of n = if n == 0 || n == 4 then Ok (pos 0) else if n == 2 || n == 3 then Err reasons.Fit else Ok (pos 1)
 
--- the transmission time, unknown where it is not from -302,400 to 907,199 s: the week of toe and half a week around it
+-- the transmission time, unknown if it is not from -302,400 to 907,199 s: the week of toe and half
+-- a week around it
 abbrev pub sent_or_unknown : ℤ → ℤ
 sent_or_unknown z = if int_le (negsuc 302399) z && int_le z (pos 907199) then z else pos 999900000
 

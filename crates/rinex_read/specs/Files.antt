@@ -1,5 +1,5 @@
--- Navigation files of a form as read: the header, the records with their line numbers, and the list of items (RINEX 4.01 and
--- 3.05, header section and navigation records).
+-- Navigation files of a format as read: the header, the records with their line numbers, and the
+-- list of items (RINEX 4.01 and 3.05, header section and navigation records).
 use Rattle.std.specs.Prelude.{◌≡◌, ℕ, ◌+◌, ◌-◌, ◌&&◌, Bool, if◌then◌else◌, List, [], ◌∷◌, ◌++◌, codes, length, take, Result, Ok, Err}
 use Rattle.nav_eph.specs.declared.items.NavItem.{NavItem}
 use Rattle.rinex_read.specs.declared.judged.Judged.{Judged}
@@ -68,7 +68,7 @@ but_last [] = []
 but_last (x ∷ []) = []
 but_last (x ∷ y ∷ ys) = x ∷ but_last (y ∷ ys)
 
--- the records that are whole whatever lines follow: those after which another one begins
+-- the records that are complete whatever lines follow: those after which another one begins
 abbrev pub whole_behind : Result (List ItemRead) HeaderFault → Result (List ItemRead) HeaderFault
 whole_behind (Ok rs) = Ok (but_last rs)
 whole_behind (Err fault) = Err fault
@@ -81,7 +81,7 @@ whole_in f lines = whole_behind (reads_behind f (header_of f 0 lines))
 abbrev pub whole_reads : Form → List ℕ → Result (List ItemRead) HeaderFault
 whole_reads f bytes = whole_in f (ended_lines bytes)
 
--- the records of a file, none where its header is refused
+-- the records of a file, none if its header is rejected
 abbrev pub records_in : Result (List ItemRead) HeaderFault → List ItemRead
 records_in (Ok rs) = rs
 records_in (Err fault) = []

@@ -1,5 +1,5 @@
--- The form of RINEX 3 navigation files: its versions, and how its records are judged (RINEX 3.05, navigation message files;
--- GPS LNAV and Galileo I/NAV).
+-- The format of RINEX 3 navigation files: its versions, and how its records are judged (RINEX 3.05,
+-- navigation message files; GPS LNAV and Galileo I/NAV).
 use Rattle.std.specs.Prelude.{ℕ, ◌/◌, ◌%◌, ◌==◌, ◌&&◌, ◌||◌, nat_le, not, Bool, false, if◌then◌else◌, List, [], ◌∷◌, ◌++◌, length, get_or, codes, Result, Ok, Err, ℤ, pos, unsigned_abs}
 use Rattle.scaled_decimal.specs.declared.scales.Scale.{Scale}
 use Rattle.scaled_decimal.specs.declared.reading.DecimalFault.{DecimalFault}
@@ -22,7 +22,7 @@ is_three _ = false
 abbrev pub is_inav_number : ℕ → Bool
 is_inav_number n = n / 2 % 2 == 0 && (n % 2 == 1 || n / 4 % 2 == 1)
 
--- where there is no number from 0 to 1023 it is not I/NAV
+-- if there is no number from 0 to 1023 it is not I/NAV
 abbrev pub says_inav : Result ℤ DecimalFault → Bool
 says_inav (Ok z) = is_inav_number (unsigned_abs z)
 says_inav (Err fault) = false
@@ -40,8 +40,8 @@ is_inav lines =
 abbrev pub titled : List ℕ → List ℕ → List ℕ
 titled message line = codes "> EPH " ++ (columns 0 3 line ++ 32 ∷ message)
 
--- how a record is judged: GPS, and Galileo whose data sources say I/NAV, as the RINEX 4 record with the title added; others
--- are passed over
+-- how a record is judged: GPS, and Galileo whose data sources name I/NAV, as the RINEX 4 record
+-- with the title added; others are skipped
 unfoldable pub judged3 : List (List ℕ) → Judged
 judged3 [] = judgments.PassedOver
 judged3 (l ∷ ls) =

@@ -1,4 +1,4 @@
--- File forms: what tells the files of one RINEX version from those of another.
+-- File formats: what distinguishes the files of one RINEX version from those of another.
 use Rattle.std.specs.Prelude.{◌≡◌, ℕ, ◌==◌, ◌&&◌, Bool, false, List, [], ◌∷◌, map, take, get_or}
 use Rattle.scaled_decimal.specs.NumberReading.{trim_start, trim_end, is_decimal}
 use Rattle.nav_eph.specs.declared.items.NavItem.{NavItem}
@@ -9,9 +9,9 @@ use Rattle.rinex_read.specs.Lines.{columns}
 use Rattle.rinex_read.specs.Kept.{padded}
 use Rattle.rinex_read.specs.Judging.{judged}
 
--- a form of navigation files
+-- a format of navigation files
 pub record Form : Type 0 where
-  -- the text in columns 1-9 of the first line, without blanks around it, is a version of the form
+  -- the text in columns 1-9 of the first line, without blanks around it, is a version of the format
   pub names : List ℕ → Bool
   -- a line with this first character begins a record
   pub starts : ℕ → Bool
@@ -26,7 +26,7 @@ LooksAtKept f = (lines : List (List ℕ)) → f.judged (map padded (take 9 lines
 abbrev pub GivesItems : Form → Type 0
 GivesItems f = (lines : List (List ℕ)) (item : NavItem) → f.judged lines ≡ judgments.Item item → IsItem item
 
--- the version, in columns 1-9 with blanks around it allowed, is one of the form
+-- the version, in columns 1-9 with blanks around it allowed, is one of the format
 unfoldable pub is_version : Form → List ℕ → Bool
 is_version f line = f.names (trim_end (trim_start (columns 0 9 line)))
 

@@ -35,7 +35,7 @@ use Rattle.rinex_read.specs.declared.judged.Judged.TheVariants as judgments
 use Rattle.rinex_read.specs.Lines.{columns, stands_at}
 use Rattle.rinex_read.specs.Fields.{◌>>=◌, read_rows}
 
--- true where the condition holds, else the reason
+-- true if the condition holds, else the reason
 abbrev pub need : Bool → Reason → Result Bool Reason
 need true e = Ok true
 need false e = Err e
@@ -293,7 +293,7 @@ abbrev pub outcome : Result NavItem Reason → Judged
 outcome (Ok item) = judgments.Item item
 outcome (Err reason) = judgments.Refused reason
 
--- how a record is judged; records of other kinds are passed over
+-- how a record is judged; records of other kinds are skipped
 unfoldable pub judged : List (List ℕ) → Judged
 judged [] = judgments.PassedOver
 judged (title ∷ lines) =

@@ -1,4 +1,5 @@
--- The lines kept of a record: the first nine, of each the first 80 characters, filled with blanks.
+-- The lines stored of a record: the first nine, of each the first 80 characters, filled with
+-- blanks.
 use Rattle.std.specs.Prelude.{ℕ, nat_lt, if◌then◌else◌, List, [], ◌∷◌, ◌++◌, length}
 use Rattle.rinex_read.specs.Lines.{columns}
 

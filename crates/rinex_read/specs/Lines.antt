@@ -16,7 +16,7 @@ stands_at a (c ∷ cs) line = (get_or line a 32 == c) && stands_at (a + 1) cs li
 abbrev pub lines_of : List ℕ → List (List ℕ)
 lines_of bytes = map without_cr (pieces false bytes)
 
--- the complete lines, where more bytes may come
+-- the complete lines, if more bytes may come
 abbrev pub ended_lines : List ℕ → List (List ℕ)
 ended_lines bytes = map without_cr (pieces true bytes)
 

@@ -200,7 +200,7 @@ IsRecord (Refused line reason) = Unit {0}
 IsRecord (PassedOver line) = Unit {0}
 IsRecord End = ⊥
 
--- the record in progress, or the end where there was none
+-- the record in progress, or the end if there was none
 abbrev pub EndsWith : Form → List (List ℕ) → ℕ → ItemRead → Type 0
 EndsWith f [] first read = read ≡ End
 EndsWith f (k ∷ ks) first read = read ≡ read_at first (f.judged (k ∷ ks))
@@ -217,7 +217,7 @@ header_after f OtherVersion line = OtherVersion
 abbrev pub state_of : HeaderState → List (List ℕ) → ℕ → LinesState → RecordsState
 state_of header kept first lines = record { header = header; kept = kept; first = first; lines = lines }
 
--- the error of a header that was refused
+-- the error of a header that was rejected
 abbrev pub HeaderRefused : HeaderState → HeaderFault → Type 0
 HeaderRefused header faults.NotRinexNav = header ≡ NotRinexNav
 HeaderRefused header faults.Version = header ≡ OtherVersion

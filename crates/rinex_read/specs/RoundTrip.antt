@@ -1,4 +1,4 @@
--- What the laws of written and read files assume and state.
+-- What the theorems about written and read files assume and state.
 use Rattle.std.specs.Prelude.{◌≡◌, ℕ, ◌+◌, true, false, List, [], ◌∷◌, ◌++◌, length, Ok}
 use Rattle.nav_eph.specs.declared.items.NavItem.{NavItem}
 use Rattle.nav_eph.specs.Ranges.{IsItem}
@@ -14,7 +14,7 @@ abbrev pub AreItems : List NavItem → Type 0
 AreItems [] = Unit {0}
 AreItems (i ∷ is) = IsItem i × AreItems is
 
--- no line begins a record of the form
+-- no line begins a record of the format
 abbrev pub NoneBegins : Form → List (List ℕ) → Type 0
 NoneBegins f [] = Unit {0}
 NoneBegins f (l ∷ ls) = (begins f l ≡ false) × NoneBegins f ls

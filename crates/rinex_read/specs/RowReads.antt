@@ -1,4 +1,4 @@
--- What the lines of a row say, whatever its kind.
+-- What the lines of a row encode, whatever its kind.
 use Rattle.std.specs.Prelude.{ℕ, nat_le, List, length, Result, Ok, ℤ}
 use Rattle.rinex_write.specs.declared.columns.Column.{Column}
 use Rattle.rinex_read.specs.declared.reason.Reason.{Reason}
@@ -20,7 +20,7 @@ row_said rows lines = do
   fields ← read_rows rows 23 lines
   Ok (record { moment = moment; fields = fields })
 
--- the same where the columns of all rows are one list
+-- the same if the columns of all rows are one list
 unfoldable pub flat_said : List ℕ → List Column → List (List ℕ) → Result RowContent Reason
 flat_said rows columns lines = do
   all ← need (nat_le (length rows) (length lines)) reasons.Short

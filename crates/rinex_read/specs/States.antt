@@ -18,7 +18,7 @@ use Rattle.rinex_read.specs.Files.{but_last, header_of, header_passed, up_to_nex
 pub record RecordsState : Type 0 where
   -- the state of the header
   pub header : HeaderState
-  -- the lines kept of the record in progress, empty where there is none
+  -- the lines stored of the record in progress, empty if there is none
   pub kept : List (List ℕ)
   -- the number of its first line
   pub first : ℕ
@@ -30,11 +30,11 @@ abbrev pub held_reads : Form → List (List ℕ) → ℕ → ℕ → List (List 
 held_reads f [] first n ls = reads f n ls
 held_reads f (k ∷ ks) first n ls = read_at first (f.judged ((k ∷ ks) ++ up_to_next f ls)) ∷ reads f n ls
 
--- the records still to be read after the header, where these bytes follow
+-- the records still to be read after the header, if these bytes follow
 abbrev pub records_to_come : Form → RecordsState → List ℕ → List ItemRead
 records_to_come f s following = held_reads f s.kept s.first s.lines.number (told_lines (s.lines.rest ++ following))
 
--- the records still to be read of the file, where these lines follow
+-- the records still to be read of the file, if these lines follow
 abbrev pub file_by : Form → HeaderState → RecordsState → List (List ℕ) → Result (List ItemRead) HeaderFault
 file_by f New s ls = reads_behind f (header_of f s.lines.number ls)
 file_by f Open s ls = reads_behind f (header_passed s.lines.number ls)
@@ -42,7 +42,7 @@ file_by f Passed s ls = Ok (held_reads f s.kept s.first s.lines.number ls)
 file_by f NotRinexNav s ls = Err faults.NotRinexNav
 file_by f OtherVersion s ls = Err faults.Version
 
--- the same where these bytes follow
+-- the same if these bytes follow
 abbrev pub file_to_come : Form → RecordsState → List ℕ → Result (List ItemRead) HeaderFault
 file_to_come f s following = file_by f s.header s (told_lines (s.lines.rest ++ following))
 
@@ -82,8 +82,9 @@ pub record IsPaused (s : RecordsState) : Type 0 where
   pub more : s.lines.ended ≡ false
   pub none : ends s.lines.rest ≡ false
 
--- Lines were read and these records given: they come before those of the new state, whatever bytes follow. Unless the file is
--- over, they also come before in the list of the records that are whole.
+-- Lines were read and these records given: they come before those of the new state, whatever bytes
+-- follow. Unless the file is over, they also come before in the list of the records that are
+-- complete.
 pub record Steps (f : Form) (left left_new : Option (List ℕ)) (old new : RecordsState) (given : List ItemRead) : Type 0 where
   pub lines : List Line
   pub reads : Reads left left_new old.lines new.lines lines
@@ -94,8 +95,8 @@ pub record Steps (f : Form) (left left_new : Option (List ℕ)) (old new : Recor
       → but_last (held_reads f old.kept old.first old.lines.number (map text_of_line lines ++ next))
       ≡ given ++ but_last (held_reads f new.kept new.first new.lines.number next)
 
--- What is held of the bytes held before and taken is their end, at most 4,096 of them where no more were held before; and not too
--- many were taken.
+-- What is held of the bytes held before and taken is their end, at most 4,096 of them if no more
+-- were held before; and not too many were taken.
 pub record HoldsEnd (old new : LinesState) (taken : List ℕ) : Type 0 where
   pub prefix : List ℕ
   pub split : old.rest ++ taken ≡ prefix ++ new.rest
@@ -107,7 +108,7 @@ abbrev pub AreEarly : LinesState → List ℕ → List Line → Type 0
 AreEarly old taken lines = length old.rest ≤ 4096 → old.taken < 2 ^ 32
     → length (lines_by true (take (length (old.rest ++ taken) - 4096) (old.rest ++ taken))) ≤ length lines
 
--- Steps behind which what is held is the end of the bytes.
+-- Steps after which what is held is the end of the bytes.
 pub record NearSteps (f : Form) (left left_new : Option (List ℕ)) (old new : RecordsState) (given : List ItemRead) : Type 0 where
   pub steps : Steps f left left_new old new given
   pub near : HoldsEnd old.lines new.lines steps.reads.taken
@@ -168,7 +169,7 @@ pub record HeaderSteps (f : Form) (left left_new : Option (List ℕ)) (old new :
   pub told : (next : List (List ℕ)) → MayStand new next
       → file_by f old.header old (map text_of_line lines ++ next) ≡ file_by f new.header new next
 
--- Header steps behind which what is held is the end of the bytes.
+-- Header steps after which what is held is the end of the bytes.
 pub record NearHeader (f : Form) (left left_new : Option (List ℕ)) (old new : RecordsState) : Type 0 where
   pub steps : HeaderSteps f left left_new old new
   pub near : HoldsEnd old.lines new.lines steps.reads.taken
@@ -189,13 +190,13 @@ pub record PassesHeader (f : Form) (left left_new : Option (List ℕ)) (old new 
   pub header : new.header ≡ Passed
   pub low : ReadLow old new
 
--- how a header is refused, or can be read on
+-- how a header is rejected, or can be read on
 abbrev pub RefusedBy : HeaderFault → RecordsState → RecordsState → Type 0
 RefusedBy faults.NotRinexNav old new = (new.header ≡ NotRinexNav) × ReadLow old new
 RefusedBy faults.Version old new = (new.header ≡ OtherVersion) × ReadLow old new
 RefusedBy (faults.Line fault) old new = (is_waiting new.header ≡ true) × BrokeBy fault new
 
--- The header is refused, or can be read on.
+-- The header is rejected, or can be read on.
 pub record BreaksHeader (f : Form) (left left_new : Option (List ℕ)) (old new : RecordsState) (fault : HeaderFault) : Type 0 where
   pub steps : HeaderSteps f left left_new old new
   pub early : AreEarly old.lines steps.reads.taken steps.lines

@@ -1,4 +1,4 @@
-//! File forms: what tells the files of one RINEX version from those of another.
+//! File formats: what distinguishes the files of one RINEX version from those of another.
 
 ghost use Rattle.std.specs.Prelude.{◌≡◌};
 ghost use Rattle.rinex_read.specs.Forms.{is_four};
@@ -7,9 +7,9 @@ use crate::judged::Judged;
 use crate::record::RecordLines;
 use scaled_decimal::is_decimal;
 
-/// A form of navigation files, read by a [`RecordReader`](crate::RecordReader).
+/// A format of navigation files, read by a [`RecordReader`](crate::RecordReader).
 ///
-/// Contracts see the form as a ghost: its versions, the first characters of its records, and how
+/// Contracts see the format as a ghost: its versions, the first characters of its records, and how
 /// the lines of a record are judged.
 pub trait FileForm {
     ghost use Rattle.std.specs.Prelude.{◌≡◌};
@@ -18,7 +18,7 @@ pub trait FileForm {
     ghost form: { Form };
 
     /// Whether the text in columns 1-9 of the first line, without blanks around it, is a version of
-    /// the form.
+    /// the format.
     fn names(text: &[u8]) -> bool
         ensures { result ≡ form.names text.now };
 
@@ -30,13 +30,13 @@ pub trait FileForm {
     fn judge(lines: &RecordLines) -> Judged
         ensures { result ≡ form.judged lines.now };
 
-    /// Only what [`RecordLines`] keeps of a record matters. It does nothing; its contract is the
-    /// law.
+    /// Only what [`RecordLines`] stores of a record matters. It does nothing; its contract is the
+    /// theorem.
     fn looks_at_kept()
         ensures { LooksAtKept form };
 
     /// Each item that a record gives is consistent, each field within its width. It does nothing;
-    /// its contract is the law.
+    /// its contract is the theorem.
     fn gives_items()
         ensures { GivesItems form };
 }

@@ -1,4 +1,4 @@
-//! The form of RINEX 3.
+//! The format of RINEX 3.
 
 ghost use Rattle.std.specs.Prelude.{◌≡◌, List, ℕ, length, pos};
 ghost use Rattle.rinex_read.specs.Form3.{is_inav, is_inav_number, is_three};
@@ -91,8 +91,8 @@ fn judge(lines: &RecordLines) -> Judged
 /// navigation message files).
 ///
 /// A GPS record is judged as the RINEX 4 record with the title `> EPH G05 LNAV` of its satellite
-/// before it, a Galileo record whose data sources say I/NAV with `> EPH E11 INAV`. Other records
-/// are passed over.
+/// before it, a Galileo record whose data sources name I/NAV with `> EPH E11 INAV`. Other records
+/// are skipped.
 pub struct Rinex3;
 
 impl FileForm for Rinex3 {

@@ -23,7 +23,7 @@ pub enum ItemRead {
         /// The item.
         item: NavItem,
     },
-    /// A record that is refused.
+    /// A record that is rejected.
     Refused {
         /// The number of its first line, counted from 1.
         line: u32,
@@ -44,7 +44,7 @@ pub enum ItemRead {
 pub enum HeaderFault {
     /// The first line is not that of a RINEX navigation file, or no line ends the header.
     NotRinexNav,
-    /// The version is not one of the form.
+    /// The version is not one of the format.
     Version,
     /// The lines could not be read.
     Line(LineFault),
@@ -55,12 +55,12 @@ pub enum HeaderFault {
 pub enum HeaderState {
     /// No line was read.
     New,
-    /// The first line was read: a navigation file, of a version of the form.
+    /// The first line was read: a navigation file, of a version of the format.
     Open,
-    /// The whole header was read.
+    /// The complete header was read.
     Passed,
     /// It is not the header of a navigation file.
     NotRinexNav,
-    /// The version is not one of the form.
+    /// The version is not one of the format.
     OtherVersion,
 }

@@ -1,4 +1,5 @@
-//! Laws of written and read records and files. Each function does nothing; its contract is the law.
+//! Theorems about written and read records and files. Each function does nothing; its contract is
+//! the theorem.
 
 ghost use Rattle.std.specs.Prelude.{◌≡◌, ℕ, ◌+◌, ◌^◌, ◌<◌, ◌++◌, [], List};
 ghost use Rattle.std.specs.Prelude.{Option, Err, Ok, true, length, map, take};
@@ -41,7 +42,7 @@ pub fn header_lines_are_read()
 {}
 
 /// A file that is written from a header and records that give items is read as these items, each
-/// with its first line's number; no record is refused or passed over.
+/// with its first line's number; no record is rejected or skipped.
 pub fn written_files_are_read<F: FileForm>()
     ensures { (header : List (List ℕ)) (write : NavItem → List (List ℕ)) (items : List NavItem)
         → AreHeaderLines F.form header → AllStand F.form write items
@@ -79,8 +80,8 @@ pub fn columns_behind_the_last_are_not_looked_at()
     ensures { (lines : List (List ℕ)) → judged (map padded (take 9 lines)) ≡ judged lines }
 {}
 
-/// A list of items that is written and read back is that list, and no record is refused or passed
-/// over.
+/// A list of items that is written and read back is that list, and no record is rejected or
+/// skipped.
 pub fn files_are_read()
     ensures list { (h : HeaderWords) (items : List NavItem) → IsHeader h → AreItems items
         → rinex_list (rinex_text h items) ≡ items }
@@ -135,8 +136,8 @@ pub fn steps_compose<F: FileForm>()
         → HeaderSteps F.form left left_new old new }
 {}
 
-/// A reader that has paused, as after a failed read, has given exactly the records that are whole
-/// in the bytes read: those after which another one begins, in a complete line.
+/// A reader that has paused, as after a failed read, has given exactly the records that are
+/// complete in the bytes read: those after which another one begins, in a complete line.
 pub fn whole_records_are_given<F: FileForm>()
     ensures records { (left middle left_new : Option (List ℕ)) (old now new : RecordsState)
         (given : List ItemRead) → IsNew old → (header : PassesHeader F.form left middle old now)
@@ -149,7 +150,7 @@ pub fn whole_records_are_given<F: FileForm>()
     F::looks_at_kept();
 }
 
-/// The records that are whole in all bytes taken but the last 4,096 were given, also where the
+/// The records that are complete in all bytes taken but the last 4,096 were given, also if the
 /// reader broke off; before the end of a header there are none.
 pub fn early_records_are_given<F: FileForm>()
     ensures records { (left middle left_new : Option (List ℕ)) (old now new : RecordsState)

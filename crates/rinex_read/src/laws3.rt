@@ -1,4 +1,5 @@
-//! Laws of written and read records and files. Each function does nothing; its contract is the law.
+//! Theorems about written and read records and files. Each function does nothing; its contract is
+//! the theorem.
 
 ghost use Rattle.std.specs.Prelude.{◌≡◌, List, ℕ, Ok};
 ghost use Rattle.nav_eph.specs.declared.items.NavItem.{NavItem};
@@ -26,7 +27,7 @@ pub fn headers3_are_read()
 {}
 
 /// A list of items that is written and read back is the list of its ephemerides, each with its
-/// first line's number; no record is refused or passed over.
+/// first line's number; no record is rejected or skipped.
 pub fn files3_are_read()
     ensures list { (h : HeaderWords) (items : List NavItem) → IsHeader h → AreItems items
         → rinex3_list (rinex3_text h items) ≡ ephemerides items }

@@ -3,17 +3,17 @@
 //! navigation records; RINEX 3.05, navigation message files).
 //!
 //! [`Records`] reads the header of a [`Source`](nav_io::Source) and then its records one by one, in
-//! buffers of fixed size: an item, a refused record with its first [`Reason`], or a record of
+//! buffers of fixed size: an item, a rejected record with its first [`Reason`], or a record of
 //! another kind, each with the number of its `>` line. It is the [`RecordReader`] of version 4,
-//! over the form [`Rinex4`]. A [`FileForm`] says which versions a header may name, what begins a
-//! record and how it is judged; the contracts hold for each form. [`RecordLines`] judges a single
-//! record. Reading is exact: each number gives the nearest raw integer, ties to even, and the
-//! record that `rinex_write` writes of an item is read as that item ([`records_are_read`],
+//! over the format [`Rinex4`]. A [`FileForm`] defines which versions a header may name, what begins
+//! a record and how it is judged; the contracts hold for each format. [`RecordLines`] judges a
+//! single record. Reading is exact: each number gives the nearest raw integer, ties to even, and
+//! the record that `rinex_write` writes of an item is read as that item ([`records_are_read`],
 //! [`files_are_read`], [`joined_files_are_read`]).
 //!
-//! [`Records3`] is the same reader over the form [`Rinex3`]: a record has no title, begins at each
-//! line whose first column is not blank, and is judged as the RINEX 4 record with its title added
-//! ([`records3_are_read`], [`files3_are_read`]).
+//! [`Records3`] is the same reader over the format [`Rinex3`]: a record has no title, begins at
+//! each line whose first column is not blank, and is judged as the RINEX 4 record with its title
+//! added ([`records3_are_read`], [`files3_are_read`]).
 //!
 //! ```rust
 //! let mut source = ReadSource::new(rt.stdin());

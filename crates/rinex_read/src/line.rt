@@ -1,4 +1,4 @@
-//! Lines of a record, cut to 80 characters.
+//! Lines of a record, truncated to 80 characters.
 
 ghost use Rattle.std.specs.Prelude.{◌≡◌, ◌+◌, ◌≤◌, length};
 ghost use Rattle.rinex_read.specs.Kept.{padded};
@@ -46,7 +46,7 @@ pub(crate) fn stands_at(line: &PaddedLine, place: usize, text: &[u8]) -> bool
     true
 }
 
-/// The line begins a record of the form.
+/// The line begins a record of the format.
 pub(crate) fn begins<F: FileForm>(line: &[u8]) -> bool
     ensures { result ≡ begins F.form line.now }
 {

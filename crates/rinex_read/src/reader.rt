@@ -21,7 +21,7 @@ use crate::record::RecordLines;
 use nav_io::{LineFault, LineKind, Lines, Source};
 use std::marker::{Model, PhantomData};
 
-/// Reads the records of a RINEX navigation file of one form one by one, in buffers of fixed size.
+/// Reads the records of a RINEX navigation file of one format one by one, in buffers of fixed size.
 ///
 /// Contracts see the state `header` of the header, the lines `kept` of the record in progress, the
 /// number `first` of its first line, and the reader of `lines`; they determine what is still to be
@@ -270,12 +270,12 @@ impl<F: FileForm> RecordReader<F> {
     /// Reads the header of a file.
     ///
     /// Its first line has `RINEX VERSION / TYPE` in columns 61-80, `N` in column 21, and in columns
-    /// 1-9 a version of the form, for [`Records`] `4.` and one digit or two; the lines up to the
+    /// 1-9 a version of the format, for [`Records`] `4.` and one digit or two; the lines up to the
     /// next with `END OF HEADER` in columns 61-73 are skipped (RINEX 4.01, header section).
     /// `NotRinexNav`: the first line is another one, or no line ends the header. `Version`: another
     /// version. Each further call gives the same error. `Line`: as for `next_item`; after a failed
     /// read a further call continues with the same header, and `TooLong` stays. The other results
-    /// come only where at most 4,294,967,295 bytes were read.
+    /// come only if at most 4,294,967,295 bytes were read.
     pub fn read_header<S: Source>(&mut self, source: &mut S) -> Result<(), HeaderFault>
         // The rest of the file is its records, whatever bytes follow.
         ensures header { OnOk result (PassesHeader F.form (S.left source.old)
@@ -316,7 +316,7 @@ impl<F: FileForm> RecordReader<F> {
     ///
     /// A record is a line that begins one, for [`Records`] with `>`, and the lines up to the next
     /// such line or the end. Its number is that of its first line in the file, counted from 1.
-    /// `ReadFault`: a read failed, and the source's count of faults rose; a further call continues
+    /// `ReadFault`: a read failed, and the source's count of errors rose; a further call continues
     /// with the same record. `TooLong`: there were more than 4,294,967,295 bytes.
     pub fn next_item<S: Source>(&mut self, source: &mut S) -> Result<ItemRead, LineFault>
         requires header { self.old.header ≡ Passed }

@@ -1,6 +1,6 @@
 use thiserror::Error;
 
-/// Why a record is refused: the first of these that holds, in the order in which a record is
+/// Why a record is rejected: the first of these that holds, in the order in which a record is
 /// judged.
 #[derive(Clone, Copy, PartialEq, Eq, Debug, Error)]
 pub enum Reason {

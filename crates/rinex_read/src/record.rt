@@ -146,7 +146,7 @@ impl RecordLines {
         self.keep(line);
     }
 
-    /// The kept lines, each filled with blanks to 80 characters.
+    /// The stored lines, each filled with blanks to 80 characters.
     pub fn lines(&self) -> &[[u8; 80]]
         ensures { result.now ≡ self.now }
     {
@@ -164,7 +164,7 @@ impl RecordLines {
     /// Judges the record (RINEX 4.01, navigation records: EPH LNAV and INAV, and ION).
     ///
     /// It gives an item, or the first [`Reason`] why a record of these kinds gives none; records of
-    /// other kinds, and no lines, are passed over.
+    /// other kinds, and no lines, are skipped.
     pub fn judge(&self) -> Judged
         ensures { result ≡ judged self.now }
     {

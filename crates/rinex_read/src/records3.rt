@@ -11,8 +11,8 @@ use std::marker::Model;
 
 /// Reads the records of a RINEX 3 navigation file one by one, in buffers of fixed size.
 ///
-/// Contracts see the same as of a [`RecordReader`]: the state of the header, the lines kept of the
-/// record in progress and the number of its first line, and the reader of lines.
+/// Contracts see the same as of a [`RecordReader`]: the state of the header, the lines stored of
+/// the record in progress and the number of its first line, and the reader of lines.
 #[derive(Drop)]
 pub struct Records3 {
     records: RecordReader<Rinex3>,
@@ -83,7 +83,7 @@ impl Records3 {
     /// [`next_item`](RecordReader::next_item).
     ///
     /// A record is a line whose first column is not blank and the lines up to the next such line or
-    /// the end. Records of GPS and of Galileo I/NAV are judged; others are passed over.
+    /// the end. Records of GPS and of Galileo I/NAV are judged; others are skipped.
     pub fn next_item3<S: Source>(&mut self, source: &mut S) -> Result<ItemRead, LineFault>
         requires header { self.old.header ≡ Passed }
 

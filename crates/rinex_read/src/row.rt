@@ -14,7 +14,7 @@ use crate::reason::Reason;
 use gnss_week::Moment;
 use rinex_write::RecordLayout;
 
-/// What the lines of a row say.
+/// What the lines of a row encode.
 #[derive(Drop)]
 pub struct RowSaid {
     /// The date.
@@ -23,7 +23,7 @@ pub struct RowSaid {
     pub fields: Fields,
 }
 
-/// What the lines of a row say after its title, or the first reason why they say nothing.
+/// What the lines of a row encode after its title, or the first reason why they encode nothing.
 #[tactic(auto, unfolding(crate::specs::RowReads::flat_said))]
 pub fn read_row_lines(layout: &RecordLayout, lines: &[[u8; 80]]) -> Result<RowSaid, Reason>
     requires layout { IsLayout layout.now.columns.now layout.now.rows.now }
@@ -39,7 +39,7 @@ pub fn read_row_lines(layout: &RecordLayout, lines: &[[u8; 80]]) -> Result<RowSa
     Ok(RowSaid { moment, fields })
 }
 
-/// The lines of a row that was written say its moment and its fields, whatever lines follow.
+/// The lines of a written row encode its GPS time and its fields, whatever lines follow.
 pub fn written_rows_are_read()
     ensures { (k : RowKind) (letter number moment : ℕ) (fields : List ℤ) (more : List (List ℕ)) →
         0 < length k.rows → are_good (joined_rows k.rows) ≡ true →
@@ -48,7 +48,7 @@ pub fn written_rows_are_read()
         ≡ Ok (record { moment = moment; fields = fields }) }
 {}
 
-/// The lines of a layout say what its rows say.
+/// The lines of a layout encode what its rows encode.
 pub fn layouts_are_rows()
     ensures { (rows : List (List TableColumn)) (lines : List (List ℕ)) →
         flat_said (map length rows) (joined_rows rows) lines ≡ row_said rows lines }

@@ -2,7 +2,7 @@
 use Rattle.std.specs.Prelude.{ℕ, zero, suc, ◌+◌, ◌-◌, ◌*◌, ◌==◌, nat_lt, nat_le, if◌then◌else◌, List, [], ◌∷◌, ℤ, pos, negsuc}
 use Rattle.nav_eph.specs.declared.galileo.GalHealth.{GalHealth}
 
--- the index of the first number that is at least n, or the length where there is none
+-- the index of the first number that is at least n, or the length if there is none
 abbrev pub first_from : ℕ → List ℕ → ℕ
 first_from n [] = 0
 first_from n (x ∷ xs) = if nat_le n x then 0 else suc (first_from n xs)
@@ -33,7 +33,7 @@ sisa_value i =
 unfoldable pub sisa_nominal : ℕ → ℤ
 sisa_nominal i = if i == 255 then negsuc 99 else pos (sisa_value i)
 
--- the least index of the k from i on whose value is at least n, or i + k where there is none
+-- the least index of the k from i on whose value is at least n, or i + k if there is none
 unfoldable pub sisa_from : ℕ → ℕ → ℕ → ℕ
 sisa_from zero i n = i
 sisa_from (suc k) i n = if nat_le n (sisa_value i) then i else sisa_from k (i + 1) n

@@ -11,7 +11,7 @@ use Rattle.nav_eph.specs.declared.ion.GpsIon.{GpsIon}
 use Rattle.nav_eph.specs.declared.ion.GalIon.{GalIon}
 use Rattle.rinex_write.specs.Accuracies.{health_of}
 
--- the transmission time in seconds, 999,900,000 where it is unknown
+-- the transmission time in seconds, 999,900,000 if it is unknown
 abbrev pub sent_field : SentSecond → ℤ
 sent_field Unknown = pos 999900000
 sent_field (At second) = second

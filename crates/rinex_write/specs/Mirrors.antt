@@ -37,12 +37,12 @@ abbrev pub rows_text : List ℕ → List Column → List ℤ → List ℕ
 rows_text [] cs zs = []
 rows_text (n ∷ ns) cs zs = codes "    " ++ (row_text (take n cs) zs ++ 10 ∷ rows_text ns (drop n cs) (drop n zs))
 
--- the text so far and that of the remaining columns are the whole text
+-- the text so far and that of the remaining columns are the complete text
 pub record RowSoFar (whole now : List ℕ) (columns : List Column) (fields : List ℤ) : Type 0 where
   pub ready : AreReady columns fields
   pub text : now ++ row_text columns fields ≡ whole
 
--- the text so far and that of the remaining rows are the whole text
+-- the text so far and that of the remaining rows are the complete text
 pub record RowsSoFar (whole now : List ℕ) (lengths : List ℕ) (columns : List Column) (fields : List ℤ) : Type 0 where
   pub count : sum lengths ≡ length columns
   pub ready : AreReady columns fields

@@ -1,4 +1,4 @@
--- The record of a row: a kind of any system, a satellite, a moment, and a number for each column.
+-- The record of a row: a kind of any system, a satellite, a GPS time, and a number for each column.
 use Rattle.std.specs.Prelude.{ℕ, List, [], ◌∷◌, ◌++◌, codes, take, drop, ℤ}
 use Rattle.scaled_decimal.specs.NumberText.{digits}
 use Rattle.gnss_week.specs.Functions.{civil_to}

@@ -3,7 +3,7 @@ use scaled_decimal::Scale;
 /// How a field and the number in its column correspond.
 ///
 /// A field is an integer: the raw value of a parameter as transmitted, an accuracy index, the fit
-/// interval flag, or the transmission time in seconds, 999,900,000 where it is unknown.
+/// interval flag, or the transmission time in seconds, 999,900,000 if it is unknown.
 #[derive(Clone, Copy)]
 pub enum Rule {
     /// The number is the field, from `low` to `high`.

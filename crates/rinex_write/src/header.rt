@@ -47,8 +47,8 @@ fn header_text(version: &[u8; 9], words: &HeaderWords) -> Record
 ///
 /// # Errors
 ///
-/// `Failed` only where the sink's count of faults rose in this call or is at its maximum; a prefix
-/// of the header was appended then.
+/// `Failed` only if the sink's count of errors rose in this call or is at its maximum; a prefix of
+/// the header was appended then.
 pub fn write_header_of<T: Sink>(
     version: &[u8; 9],
     words: &HeaderWords,

@@ -216,13 +216,13 @@ fn append_item(text: &mut Record, item: &NavItem)
 ///
 /// Angles are written in radians, times in seconds, lengths in metres, accuracies in metres by
 /// their nominal value, the fit interval in hours, the transmission time from the start of the week
-/// of toe, 999,900,000 where it is unknown. The epoch of an ephemeris is toc, at most half a week
-/// from toe.
+/// of toe, 999,900,000 if it is unknown. The epoch of an ephemeris is toc, at most half a week from
+/// toe.
 ///
 /// # Errors
 ///
-/// `Failed` only where the sink's count of faults rose in this call or is at its maximum; a prefix
-/// of the record was appended then.
+/// `Failed` only if the sink's count of errors rose in this call or is at its maximum; a prefix of
+/// the record was appended then.
 pub fn write_item<T: Sink>(item: &NavItem, out: &mut T) -> Result<(), Failed>
     ensures { Writes (T.written out.old) (T.written out.new) (T.faults out.old) (T.faults out.new)
         result (text_of (item_lines item.now)) }
@@ -250,8 +250,8 @@ fn append_titled(text: &mut Record, item: &NavItem)
 ///
 /// # Errors
 ///
-/// `Failed` only where the sink's count of faults rose in this call or is at its maximum; a prefix
-/// of these lines was appended then.
+/// `Failed` only if the sink's count of errors rose in this call or is at its maximum; a prefix of
+/// these lines was appended then.
 pub fn write_body<T: Sink>(item: &NavItem, out: &mut T) -> Result<(), Failed>
     ensures { Writes (T.written out.old) (T.written out.new) (T.faults out.old) (T.faults out.new)
         result (text_of (body_lines item.now)) }

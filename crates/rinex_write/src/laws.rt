@@ -1,4 +1,4 @@
-//! Laws of the definitions. Each function does nothing; its contract is the law.
+//! Theorems about the definitions. Each function does nothing; its contract is the theorem.
 
 ghost use Rattle.std.specs.Prelude.{◌≡◌, ℕ, true, false, List, ◌∷◌, ◌++◌, length};
 ghost use Rattle.nav_eph.specs.Bodies.{IsGalIon, IsGpsIon};

@@ -1,7 +1,7 @@
 //! Headers and records of RINEX navigation files, versions 4.01 and 3.05, as text.
 //!
 //! [`write_header`] and [`write_item`] append a header, and the record of an ephemeris or of
-//! ionosphere parameters, to a [`Sink`](nav_io::Sink): whole, or a prefix of it where the sink
+//! ionosphere parameters, to a [`Sink`](nav_io::Sink): complete, or a prefix of it if the sink
 //! failed. A text is built in a buffer of fixed size and handed over by one write; no memory is
 //! allocated.
 //!

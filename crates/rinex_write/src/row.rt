@@ -12,7 +12,7 @@ use crate::record::{Record, append, append_table, date_columns, two_digits};
 use gnss_week::{Moment, civil};
 use nav_io::{Failed, Sink};
 
-/// What stands before the date of a row: its kind and its satellite.
+/// What is before the date of a row: its kind and its satellite.
 #[derive(Clone, Copy)]
 pub struct RowHead {
     /// The record type, as `EPH`.
@@ -83,8 +83,8 @@ fn append_row_record(
 ///
 /// # Errors
 ///
-/// `Failed` only where the sink's count of faults rose in this call or is at its maximum; a prefix
-/// of the record was appended then.
+/// `Failed` only if the sink's count of errors rose in this call or is at its maximum; a prefix of
+/// the record was appended then.
 pub fn write_row<T: Sink>(
     head: &RowHead,
     moment: Moment,

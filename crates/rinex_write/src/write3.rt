@@ -15,8 +15,8 @@ use nav_io::{Failed, Sink};
 ///
 /// # Errors
 ///
-/// `Failed` only where the sink's count of faults rose in this call or is at its maximum; a prefix
-/// of the header was appended then.
+/// `Failed` only if the sink's count of errors rose in this call or is at its maximum; a prefix of
+/// the header was appended then.
 pub fn write_header3<T: Sink>(words: &HeaderWords, out: &mut T) -> Result<(), Failed>
     ensures { Writes (T.written out.old) (T.written out.new) (T.faults out.old) (T.faults out.new)
         result (text_of (header3_lines words.now)) }
@@ -30,8 +30,8 @@ pub fn write_header3<T: Sink>(words: &HeaderWords, out: &mut T) -> Result<(), Fa
 ///
 /// # Errors
 ///
-/// `Failed` only where the sink's count of faults rose in this call or is at its maximum; a prefix
-/// of the record was appended then.
+/// `Failed` only if the sink's count of errors rose in this call or is at its maximum; a prefix of
+/// the record was appended then.
 pub fn write_item3<T: Sink>(item: &NavItem, out: &mut T) -> Result<(), Failed>
     ensures { Writes (T.written out.old) (T.written out.new) (T.faults out.old) (T.faults out.new)
         result (text_of (item3_lines item.now)) }

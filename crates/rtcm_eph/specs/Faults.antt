@@ -1,4 +1,4 @@
--- The faults that a payload may have, and the first of them.
+-- The errors that a payload may have, and the first of them.
 use Rattle.std.specs.Prelude.{◌≡◌, ℕ, ◌<◌, ◌≤◌, ◌⊎◌, List, length}
 use Rattle.nav_bits.specs.Bits.{number_at}
 use Rattle.rtcm_eph.specs.declared.message1019.Message1019.{Message1019}
@@ -8,9 +8,9 @@ use Rattle.rtcm_eph.specs.declared.fault.MessageFault.TheVariants.{NoNumber, Oth
 use Rattle.rtcm_eph.specs.declared.fault.MessageFault.TheVariants.{BadSat, BadTime, SpareSisa}
 use Rattle.rtcm_eph.specs.Messages.{message1019_at, message1046_at}
 
--- The fault holds of a payload with this number of bytes, this message number, and these fields if it is message 1019 or
--- 1046: no message number; another message; shorter than its message; no such satellite; toe or toc past the week; or a spare
--- SISA.
+-- The error holds of a payload with this number of bytes, this message number, and these fields if
+-- it is message 1019 or 1046: no message number; another message; shorter than its message; no such
+-- satellite; toe or toc past the week; or a spare SISA.
 abbrev pub HasFaultBy : ℕ → ℕ → Message1019 → Message1046 → MessageFault → Type 0
 HasFaultBy bytes number gps gal NoNumber = bytes < 2
 HasFaultBy bytes number gps gal (OtherMessage other) =
@@ -26,13 +26,13 @@ HasFaultBy bytes number gps gal BadTime =
 HasFaultBy bytes number gps gal SpareSisa =
     (number ≡ 1046) × (126 ≤ gal.sisa) × (gal.sisa ≡ 255 → ⊥)
 
--- the fault holds of the payload
+-- the error holds of the payload
 abbrev pub HasFault : List ℕ → MessageFault → Type 0
 HasFault payload =
     HasFaultBy (length payload) (number_at payload 0 12) (message1019_at payload 0)
     (message1046_at payload 0)
 
--- the rank of each fault, the first being reported
+-- the rank of each error, the first being reported
 abbrev pub order_of : MessageFault → ℕ
 order_of NoNumber = 1
 order_of (OtherMessage number) = 2
@@ -41,11 +41,11 @@ order_of BadSat = 4
 order_of BadTime = 5
 order_of SpareSisa = 6
 
--- the fault holds, and none of a lower rank does
+-- the error holds, and none of a lower rank does
 pub record IsFirstOf (has_fault : MessageFault → Type 0) (fault : MessageFault) : Type 0 where
   pub has : has_fault fault
   pub first : (other : MessageFault) → order_of other < order_of fault → has_fault other → ⊥
 
--- the fault is the first that holds of the payload
+-- the error is the first that holds of the payload
 abbrev pub IsFirstFault : List ℕ → MessageFault → Type 0
 IsFirstFault payload = IsFirstOf (HasFault payload)

@@ -1,4 +1,4 @@
--- What the payload of an ephemeris message carries, or its first fault.
+-- What the payload of an ephemeris message carries, or its first error.
 use Rattle.std.specs.Prelude.{◌≡◌, ℕ, ◌*◌, ◌&&◌, ◌||◌, Bool, List, [], ◌∷◌, length, nat_eq, nat_le, nat_lt, if◌then◌else◌, Result, Ok, Err}
 use Rattle.nav_bits.specs.Bits.{number_at}
 use Rattle.gnss_week.specs.Functions.{galileo_week_to, gps_week_to}
@@ -93,7 +93,8 @@ content_1046 m = record {
   };
 }
 
--- message 1019 is accepted where its satellite is 1 to 32 and its times are within the week, in steps of 16 s
+-- message 1019 is accepted if its satellite is 1 to 32 and its times are within the week, in steps
+-- of 16 s
 abbrev pub judged_1019 : Message1019 → Result Content MessageFault
 judged_1019 m =
     if nat_le 1 m.satellite && nat_le m.satellite 32
@@ -104,8 +105,8 @@ judged_1019 m =
 abbrev pub is_sisa : ℕ → Bool
 is_sisa n = nat_le n 125 || nat_eq n 255
 
--- message 1046 is accepted where its satellite is 1 to 36, its times are within the week, in steps of 60 s, and its SISA
--- index is not spare
+-- message 1046 is accepted if its satellite is 1 to 36, its times are within the week, in steps of
+-- 60 s, and its SISA index is not spare
 abbrev pub judged_1046 : Message1046 → Result Content MessageFault
 judged_1046 m =
     if nat_le 1 m.satellite && nat_le m.satellite 36
@@ -113,8 +114,9 @@ judged_1046 m =
     then (if is_sisa m.sisa then Ok (OfGal (content_1046 m)) else Err SpareSisa) else Err BadTime)
     else Err BadSat
 
--- what a payload of this many bytes with this message number carries, gps and gal being its fields as either message. The
--- first of: fewer than two bytes, another message, fewer bytes than the message takes, a fault of its fields
+-- what a payload of this many bytes with this message number carries, gps and gal being its fields
+-- as either message. The first of: fewer than two bytes, another message, fewer bytes than the
+-- message takes, an error of its fields
 abbrev pub content_by : ℕ → ℕ → Message1019 → Message1046 → Result Content MessageFault
 content_by bytes number gps gal =
     if nat_lt bytes 2 then Err NoNumber
@@ -122,7 +124,7 @@ content_by bytes number gps gal =
     else (if nat_eq number 1046 then (if nat_lt bytes 63 then Err Short else judged_1046 gal)
     else Err (OtherMessage number)))
 
--- what a payload carries, or its first fault
+-- what a payload carries, or its first error
 abbrev pub content_of : List ℕ → Result Content MessageFault
 content_of payload = content_by (length payload) (number_at payload 0 12) (message1019_at payload 0) (message1046_at payload 0)
 
@@ -188,7 +190,7 @@ IsItemOf r (OfGps c) (GpsItem e) = IsGpsWeek r c.week e.toe_week × (e ≡ gps_e
 IsItemOf r (OfGal c) (GalItem e) = IsGalileoWeek r c.week e.toe_week × (e ≡ gal_eph c e.toe_week)
 IsItemOf _ _ _ = ⊥
 
--- the answer for a payload: an item of its content, or its fault
+-- the result for a payload: an item of its content, or its error
 abbrev pub GivesItem : ℕ → Result Content MessageFault → Result NavItem MessageFault → Type 0
 GivesItem r (Ok content) (Ok item) = IsItemOf r content item
 GivesItem r (Err fault) (Err answer) = answer ≡ fault
@@ -205,7 +207,7 @@ abbrev pub item_of : ℕ → Result Content MessageFault → Result NavItem Mess
 item_of r (Ok content) = Ok (item_with r content)
 item_of r (Err fault) = Err fault
 
--- the ephemeris of a payload near reference week r, or its first fault
+-- the ephemeris of a payload near reference week r, or its first error
 unfoldable pub item_in : ℕ → List ℕ → Result NavItem MessageFault
 item_in r payload = item_of r (content_of payload)
 

@@ -1,4 +1,4 @@
--- What the laws of the round trip assume: consistent ephemerides, and bytes.
+-- What the theorems about the round trip assume: consistent ephemerides, and bytes.
 use Rattle.std.specs.Prelude.{ℕ, ◌<◌, ◌≤◌, List, length, slice_index}
 use Rattle.nav_bits.specs.Fields.{StandFrom}
 use Rattle.nav_eph.specs.Items.{IsGalEph, IsGpsEph}

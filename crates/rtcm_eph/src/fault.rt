@@ -1,6 +1,6 @@
 use thiserror::Error;
 
-/// Why a payload is refused: the first of these that holds, in this order.
+/// Why a payload is rejected: the first of these that holds, in this order.
 #[derive(Clone, Copy, PartialEq, Eq, Debug, Error)]
 pub enum MessageFault {
     /// The payload has fewer than two bytes, and so no message number.

@@ -23,15 +23,13 @@ ghost use Rattle.rtcm_eph.specs.Writing.{bytes_1019, bytes_1046, message_1019, m
 ghost use Rattle.rtcm_eph.specs.RoundTrip.{AreBytes, Begins1019, Begins1046, IsGal, IsGps};
 ghost use Rattle.gnss_week.specs.Weeks.{IsNearGalileo, IsNearGps, IsReference};
 
-/// Where the fields of message 1019 are in some bits, reading at their bit offsets gives these
-/// fields.
+/// If the fields of message 1019 are in some bits, reading at their bit offsets gives these fields.
 pub fn one_message_1019()
     ensures { (bits : List ℕ) (at : ℕ) (m : Message1019) →
         StandFrom bits at 0 (fields_1019 m) → m ≡ message1019_at bits at }
 {}
 
-/// Where the fields of message 1046 are in some bits, reading at their bit offsets gives these
-/// fields.
+/// If the fields of message 1046 are in some bits, reading at their bit offsets gives these fields.
 pub fn one_message_1046()
     ensures { (bits : List ℕ) (at : ℕ) (m : Message1046) →
         StandFrom bits at 0 (fields_1046 m) → m ≡ message1046_at bits at }
@@ -101,7 +99,7 @@ pub fn item_function()
     ensures whole { (r : ℕ) (payload : List ℕ) → IsReference r → IfOk (item_in r payload) IsItem }
 {}
 
-/// The parts of a message have the given stamp and a satellite of the message's system, fit that
+/// The parts of a message have the given time tag and a satellite of the message's system, fit that
 /// satellite, and have each field within its width.
 pub fn message_parts()
     ensures stamps { (payload : List ℕ) (stamp : ℕ) (parts : MessageParts) →
@@ -116,7 +114,7 @@ pub fn message_parts()
         parts_of stamp (content_of payload) ≡ Ok parts → All HasPartRanges (all_parts parts) }
 {}
 
-/// A payload is refused with the first fault that it has, in the order of `MessageFault`.
+/// A payload is rejected with the first error that it has, in the order of `MessageFault`.
 pub fn refused_by_the_first_fault()
     ensures content { (payload : List ℕ) (fault : MessageFault) →
         (content_of payload ≡ Err fault) ↔ IsFirstFault payload fault }

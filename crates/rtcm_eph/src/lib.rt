@@ -3,7 +3,7 @@
 //! The payload of a frame begins with a message number of twelve bits. Message 1019 carries a GPS
 //! ephemeris, message 1046 a Galileo I/NAV ephemeris.
 //!
-//! - [`read_message`] gives the parts of a payload's ephemeris, or its first fault
+//! - [`read_message`] gives the parts of a payload's ephemeris, or its first error
 //!   ([`MessageFault`]);
 //! - [`read_item`] gives the same as one ephemeris;
 //! - [`write_1019`] and [`write_1046`] give the payload of an ephemeris.

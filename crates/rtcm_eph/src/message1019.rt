@@ -60,7 +60,7 @@ pub struct Message1019 {
     pub tgd: S<8>,
     /// The SV health.
     pub health: U<6>,
-    /// The L2 P data flag: 1 where the P code on L2 carries no navigation data.
+    /// The L2 P data flag: 1 if the P code on L2 carries no navigation data.
     pub l2p: U<1>,
     /// The fit interval flag.
     pub fit: U<1>,

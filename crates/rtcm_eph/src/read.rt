@@ -16,7 +16,7 @@ use gnss_week::{RefWeek, Second, gal_week, gps_week};
 use nav_bits::{Layout, U};
 use nav_eph::{Body, GalEph, GpsEph, NavItem, Part, Sat, SentSecond, SentTag};
 
-/// The parts of an ephemeris in one message, each with its reception stamp.
+/// The parts of an ephemeris in one message, each with its reception time tag.
 #[derive(Clone, Copy, PartialEq, Eq)]
 pub enum MessageParts {
     /// From message 1019.
@@ -155,7 +155,7 @@ fn gal_parts_of(c: &GalContent, stamp: u32) -> MessageParts
 /// `stamp`, a second of the logger. The clock of GPS and the health of Galileo also have the
 /// message's week number and toe in seconds. Bytes after the message are ignored.
 ///
-/// The error is the first fault, in the order of [`MessageFault`].
+/// The error is the first one, in the order of [`MessageFault`].
 pub fn read_message(payload: &[u8], stamp: u32) -> Result<MessageParts, MessageFault>
     ensures answer { result ≡ parts_of stamp (content_of payload.now) }
     ensures parts { IfOk result ArePartsOf }
@@ -199,7 +199,7 @@ fn item_of(content: &Content, r: RefWeek) -> NavItem
 /// the one near the reference week that has the message's week number; its transmission time is
 /// unknown. Bytes after the message are ignored.
 ///
-/// The error is the first fault, in the order of [`MessageFault`].
+/// The error is the first one, in the order of [`MessageFault`].
 pub fn read_item(payload: &[u8], r: RefWeek) -> Result<NavItem, MessageFault>
     ensures item { GivesItem r (content_of payload.now) result }
     ensures answer { result ≡ item_in r payload.now }

@@ -10,11 +10,11 @@ unfoldable pub is_right : List ℕ → Bool
 is_right frame =
     let end = length frame - 3 in checksum (take end frame) == big_number 3 (drop end frame)
 
--- the size of the whole frame, at most 1029, from the two header bytes after D3
+-- the size of the complete frame, at most 1029, from the two header bytes after D3
 abbrev pub announced : ℕ → ℕ → ℕ
 announced high low = (high * 256 + low) % 1024 + 6
 
--- the size of the frame with right checksum at the start of the bytes, or 0 where there is none
+-- the size of the frame with right checksum at the start of the bytes, or 0 if there is none
 unfoldable pub frame_size : List ℕ → ℕ
 frame_size (start ∷ high ∷ low ∷ more) =
     let size = announced high low in
@@ -27,8 +27,9 @@ is_open [] = false
 is_open (start ∷ high ∷ low ∷ more) = start == 211 && nat_lt (length more + 3) (announced high low)
 is_open (start ∷ few) = start == 211
 
--- The frames after the first k bytes: where a whole frame begins, that frame, then those after its end; else those from the
--- next byte on. With `more`, only the frames before the first incomplete one.
+-- The frames after the first k bytes: if a complete frame begins there, that frame, then those
+-- after its end; else those from the next byte on. With `more`, only the frames before the first
+-- incomplete one.
 abbrev pub frames_past : Bool → List ℕ → ℕ → List (List ℕ)
 frames_past more [] k = []
 frames_past more (x ∷ xs) (suc k) = frames_past more xs k
@@ -54,7 +55,7 @@ open_past (x ∷ xs) zero =
     else if nat_lt 0 (frame_size (x ∷ xs)) then open_past xs (frame_size (x ∷ xs) - 1)
     else open_past xs 0
 
--- the bytes from the first incomplete frame on, empty where there is none
+-- the bytes from the first incomplete frame on, empty if there is none
 abbrev pub undecided : List ℕ → List ℕ
 undecided bytes = open_past bytes 0
 

@@ -2,11 +2,12 @@
 use Rattle.std.specs.Prelude.{◌≡◌, ℕ, zero, suc, ◌+◌, ◌<◌, ◌≤◌, ◌&&◌, ◌↔◌, nat_lt, nat_le, Bool, true, IsTrue, if◌then◌else◌, List, [], ◌∷◌, take, drop}
 use Rattle.rtcm_frame.specs.Frames.{frame_size, is_open}
 
--- the size of the frame that begins at offset p, or 0 where there is none
+-- the size of the frame that begins at offset p, or 0 if there is none
 abbrev pub size_at : List ℕ → ℕ → ℕ
 size_at bytes p = frame_size (drop p bytes)
 
--- An offset is chosen exactly where a frame begins and the offset is inside no chosen frame that begins earlier.
+-- An offset is chosen exactly if a frame begins there and the offset is inside no chosen frame that
+-- begins earlier.
 pub record AreChosen (bytes : List ℕ) (chosen : ℕ → Bool) : Type 0 where
   pub exactly : (p : ℕ) → IsTrue (chosen p) ↔ ((0 < size_at bytes p) × ((q : ℕ) → IsTrue (chosen q) → q < p → q + size_at bytes q ≤ p))
 

@@ -7,7 +7,7 @@ use Rattle.crc24q.specs.Division.{IsCrc}
 abbrev pub AreBytes : List ℕ → Type 0
 AreBytes bytes = (i : ℕ) → slice_index bytes i < 256
 
--- A whole frame of n bytes is at the start of the bytes.
+-- A complete frame of n bytes is at the start of the bytes.
 pub record BeginsFrame (bytes : List ℕ) (n : ℕ) : Type 0 where
   -- the preamble, eight bits
   pub preamble : number_at bytes 0 8 ≡ 0xD3

@@ -1,4 +1,4 @@
--- CRC registers beside some bytes; only the contracts of the window's parts cite it.
+-- CRC registers for some bytes; only the contracts of the window's parts cite it.
 use Rattle.std.specs.Prelude.{◌≡◌, ℕ, ◌+◌, ◌^◌, ◌<◌, ◌≤◌, List, length, slice_index}
 use Rattle.crc24q.specs.Register.{with_byte_of}
 

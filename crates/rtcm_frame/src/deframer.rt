@@ -70,8 +70,7 @@ impl Deframer {
         self.window.push(byte);
     }
 
-    /// Feeds bytes from the start of a piece, as many as there is room for but at least one, and
-    /// gives how many.
+    /// Feeds bytes from the start of a piece, as many as fit but at least one, and gives how many.
     ///
     /// Allowed where `may_feed` holds, as `feed`. This is faster than feeding the bytes one by one.
     pub fn feed_some(&mut self, piece: &[u8]) -> usize
@@ -109,7 +108,7 @@ impl Deframer {
     }
 
     /// Whether there is a next frame, as [`Deframer::next_frame`]. It takes the place of the one in
-    /// the caller's room, so that none is moved.
+    /// the caller's buffer, so that none is moved.
     pub fn next_into(&mut self, frame: &mut Frame) -> bool
         ensures frame { result ≡ true →
             TakesFrame (not self.old.finished) self.old.rest frame.new self.new.rest }
@@ -135,8 +134,8 @@ impl Deframer {
         true
     }
 
-    /// Says that no byte follows. A frame that is incomplete stays so; the bytes after its preamble
-    /// are then searched for frames.
+    /// Ends the input: no byte follows. A frame that is incomplete stays so; the bytes after its
+    /// preamble are then searched for frames.
     pub fn finish(&mut self)
         ensures rest { self.new.rest ≡ self.old.rest }
         ensures finished { self.new.finished ≡ true }

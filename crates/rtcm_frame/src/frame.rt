@@ -1,4 +1,4 @@
-//! One whole frame.
+//! One complete frame.
 
 ghost use Rattle.std.specs.Prelude.{◌≡◌, ◌<◌, ◌≤◌};
 ghost use Rattle.std.specs.Prelude.{◌↔◌, [], length, IsSome, IfSome};
@@ -9,7 +9,7 @@ use crate::form::{LONGEST, size_of_frame};
 use arrayvec::ArrayVec;
 use std::marker::Model;
 
-/// One whole frame with a right checksum (RTCM 10403.3, the transport layer). Contracts see the
+/// One complete frame with a right checksum (RTCM 10403.3, the transport layer). Contracts see the
 /// list of its bytes, of which there are at least 6.
 #[derive(Drop)]
 pub struct Frame {
@@ -52,14 +52,14 @@ impl Frame {
         }
     }
 
-    /// A frame without payload, as room for one that is given ([`crate::Deframer::next_into`]).
+    /// A frame without payload, as memory for one that is given ([`crate::Deframer::next_into`]).
     pub fn without_payload() -> Self
         ensures { payload_of result ≡ [] }
     {
         Frame::new(&[0xD3, 0, 0, 0x47, 0xEA, 0x4B])
     }
 
-    /// The bytes of the whole frame, from the preamble to the checksum.
+    /// The bytes of the complete frame, from the preamble to the checksum.
     pub fn bytes(&self) -> &[u8]
         ensures { result.now ≡ self.now }
     {
@@ -76,7 +76,7 @@ impl Frame {
     }
 }
 
-/// The frame that these bytes are. `None` exactly where they are not one whole frame with a right
+/// The frame that these bytes are. `None` exactly if they are not one complete frame with a right
 /// checksum and nothing after it.
 #[tactic(auto, using(crate::proofs::Takes::sizes))]
 pub fn frame_of(bytes: &[u8]) -> Option<Frame>

@@ -1,4 +1,4 @@
-//! Laws of the definitions. Each function does nothing; its contract is the law.
+//! Theorems about the definitions. Each function does nothing; its contract is the theorem.
 
 ghost use Rattle.std.specs.Prelude.{◌≡◌, ℕ, ◌+◌, ◌≤◌, length, ◌<◌};
 ghost use Rattle.std.specs.Prelude.{◌↔◌, ◌&&◌, ◌++◌, ◌∷◌, nat_lt};
@@ -10,7 +10,7 @@ ghost use Rattle.rtcm_frame.specs.Writing.{frame_bytes};
 ghost use Rattle.rtcm_frame.specs.Places.{AreChosen, is_chosen, frames_from, IsUnfinished};
 ghost use Rattle.rtcm_frame.specs.Places.{IsOpenPlace};
 
-/// `frame_size` finds a frame of a size at the start of the bytes exactly where the standard's bit
+/// `frame_size` finds a frame of a size at the start of the bytes exactly if the standard's bit
 /// layout has one there.
 pub fn frames_are_those_of_the_standard()
     ensures { (bytes : List ℕ) (n : ℕ) → AreBytes bytes
@@ -59,7 +59,7 @@ pub fn nothing_is_decided_while_bytes_wait()
     ensures undecided { (rest : List ℕ) → IsWaiting rest → undecided rest ≡ rest }
 {}
 
-/// What is written for a payload is exactly one whole frame, with this payload.
+/// What is written for a payload is exactly one complete frame, with this payload.
 pub fn written_frames_are_whole()
     ensures whole { (payload : List ℕ) → length payload ≤ 1023
         → frame_size (frame_bytes payload) ≡ length payload + 6 }

@@ -3,8 +3,8 @@
 //!
 //! A frame is the preamble D3, six reserved bits that are ignored, a length in ten bits, a payload
 //! of that many bytes (0 to 1,023), and the CRC-24Q of all before it in three bytes, most
-//! significant first. A frame may begin at each byte D3 of a stream: where the frame is whole and
-//! its checksum right, the search goes on after its end, else at the next byte.
+//! significant first. A frame may begin at each byte D3 of a stream: if the frame is complete and
+//! its checksum right, the search continues after its end, else at the next byte.
 //!
 //! ```rust
 //! let mut deframer = Deframer::new();

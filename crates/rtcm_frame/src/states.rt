@@ -1,5 +1,5 @@
-//! CRC registers beside the bytes of a window. From the registers before and after a run of bytes
-//! its checksum takes the same time for any length.
+//! CRC registers for the bytes of a window. From the registers before and after a run of bytes its
+//! checksum takes the same time for any length.
 
 ghost use Rattle.std.specs.Prelude.{◌≡◌, ℕ, ◌-◌, ◌^◌, ◌<◌};
 ghost use Rattle.std.specs.Prelude.{◌≤◌, List, length, take, drop};

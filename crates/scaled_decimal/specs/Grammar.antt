@@ -39,7 +39,7 @@ pub record IsExponentText (text : List ℕ) (e : ℤ) : Type 0 where
   pub letter_is : is_letter letter ≡ true
   pub number : IsSignedNumber rest e
 
--- an optional exponent, 0 where there is none
+-- an optional exponent, 0 if there is none
 abbrev pub IsExponent : List ℕ → ℤ → Type 0
 IsExponent text e = ((text ≡ []) × (e ≡ pos 0)) ⊎ IsExponentText text e
 

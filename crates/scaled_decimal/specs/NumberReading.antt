@@ -1,6 +1,6 @@
--- The number that a text stands for at a scale (RINEX 4.01, D19.12, read leniently). Leading and trailing blanks are
--- dropped; then an optional sign; 1 to 18 digits with at most one point among, before or after them; optionally one of `D d
--- E e`, an optional sign, and one to three digits.
+-- The number that a text encodes at a scale (RINEX 4.01, D19.12, read leniently). Leading and
+-- trailing blanks are dropped; then an optional sign; 1 to 18 digits with at most one point among,
+-- before or after them; optionally one of `D d E e`, an optional sign, and one to three digits.
 use Rattle.std.specs.Prelude.{◌≡◌, ℕ, ◌+◌, ◌-◌, ◌*◌, ◌&&◌, ◌==◌, nat_le, if◌then◌else◌, Bool, true, false, List, [], ◌∷◌, Option, Some, None, Result, Ok, Err, option_map, ℤ, pos, ◌-ℤ◌, int_le, unsigned_abs}
 use Rattle.scaled_decimal.specs.Fractions.{Fraction, scaled, divided, ten_to, IsNearest, nearest_to}
 pub use Rattle.scaled_decimal.specs.Values.{Reading, Decimal, signed, is_letter}
@@ -84,12 +84,12 @@ signed_exponent (c ∷ cs) =
     else if c == 43 then exponent_digits false cs
     else exponent_digits false (c ∷ cs)
 
--- the exponent that follows a mantissa, 0 where nothing does
+-- the exponent that follows a mantissa, 0 if nothing does
 abbrev pub exponent_after : List ℕ → Option ℤ
 exponent_after [] = Some (pos 0)
 exponent_after (c ∷ cs) = if is_letter c then signed_exponent cs else None
 
--- the value of a text without its sign; None where it is not in the grammar
+-- the value of a text without its sign; None if it is not in the grammar
 abbrev pub reading : List ℕ → Option Reading
 reading cs =
     let m = mantissa cs in
@@ -101,7 +101,7 @@ reading cs =
 abbrev pub with_sign : Bool → Option Reading → Option Decimal
 with_sign minus r = option_map (λ v. record { minus = minus; value = v }) r
 
--- the value of a text without leading and trailing blanks; None where it is not in the grammar
+-- the value of a text without leading and trailing blanks; None if it is not in the grammar
 abbrev pub decimal_of : List ℕ → Option Decimal
 decimal_of [] = None
 decimal_of (c ∷ cs) =
@@ -140,7 +140,7 @@ seen_trimmed s (c ∷ cs) = seen_decimal s (decimal_of (c ∷ cs))
 unfoldable pub seen : Fraction → List ℕ → NumberSeen
 seen s text = seen_trimmed s (trim_end (trim_start text))
 
--- the number, if in range, or the first fault
+-- the number, if in range, or the first error
 abbrev pub read_of : ℤ → ℤ → NumberSeen → Result ℤ DecimalFault
 read_of low high blank = Err faults.Blank
 read_of low high unread = Err faults.NotANumber

@@ -59,7 +59,7 @@ pub record IsTextOf (s : Fraction) (z : ℤ) (text : List ℕ) : Type 0 where
   pub parts_are : 0 < unsigned_abs z → ArePartsOf (scaled (unsigned_abs z) s) parts
   pub text_is : text ≡ sign_column z ∷ body parts
 
--- the greatest k up to the given one with 10^k at most v x 10^20; 0 where there is none
+-- the greatest k up to the given one with 10^k at most v x 10^20; 0 if there is none
 unfoldable pub place_from : ℕ → Fraction → ℕ
 place_from zero v = 0
 place_from (suc k) v = if nat_le (10 ^ suc k * v.under) (v.over * 10 ^ 20) then suc k else place_from k v

@@ -3,12 +3,13 @@ use Rattle.std.specs.Prelude.{◌≡◌, ◌⊎◌, ℕ, ◌*◌, ◌^◌, ◌<�
 use Rattle.scaled_decimal.specs.declared.scales.Scale.{Scale}
 use Rattle.scaled_decimal.specs.Fractions.{Fraction, times, two_to, ten_to}
 
--- pi to the 14 digits of IS-GPS-200 (20.3.3.4.3) and the Galileo OS SIS ICD (5.1.1); 1 where the scale has no pi
+-- pi to the 14 digits of IS-GPS-200 (20.3.3.4.3) and the Galileo OS SIS ICD (5.1.1); 1 if the scale
+-- has no pi
 abbrev pub pi_part : Bool → Fraction
 pi_part true = record { over = 31415926535898; under = 10 ^ 13 }
 pi_part false = record { over = 1; under = 1 }
 
--- the value of a scale: factor x 2^two x 10^ten, times pi where the scale has it
+-- the value of a scale: factor x 2^two x 10^ten, times pi if the scale has it
 abbrev pub size_of : Scale → Fraction
 size_of s = times (record { over = s.factor; under = 1 }) (times (two_to s.two) (times (ten_to s.ten) (pi_part s.pi)))
 

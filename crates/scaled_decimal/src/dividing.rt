@@ -110,8 +110,8 @@ fn lower(lifted: &Lifted, factor: u64, bits: u32) -> Option<Lowered>
     Some(Lowered { over, under })
 }
 
-/// The integer nearest to `digits` x 10^`up` / 10^`down` / 10^20 divided by a scale; None where the
-/// guess does not tell it.
+/// The integer nearest to `digits` x 10^`up` / 10^`down` / 10^20 divided by a scale; None if the
+/// guess does not decide it.
 #[inline(always)]
 pub(crate) fn guessed_number(digits: u64, up: u32, down: u32, scale: &Scale) -> Option<u128>
     requires digits { digits < 10 ^ 18 }

@@ -217,7 +217,7 @@ fn reading(minus: bool, text: &[u8]) -> Option<Decimal>
     })
 }
 
-/// The value of a text without leading and trailing blanks; None where it is not in the grammar.
+/// The value of a text without leading and trailing blanks; None if it is not in the grammar.
 pub(crate) fn decimal_of(text: &[u8]) -> Option<Decimal>
     requires { length text.now ≤ 19 }
     ensures { MatchOption result (decimal_of text.now ≡ None)
@@ -321,7 +321,7 @@ fn usual_exponent(text: &[u8]) -> Option<i32>
 }
 
 /// The value of a text in the usual form: a blank or `-`, one digit, a point, twelve digits, a
-/// letter, a sign and two digits. None where a text has another form.
+/// letter, a sign and two digits. None if a text has another form.
 #[inline(always)]
 pub(crate) fn usual(text: &[u8]) -> Option<Decimal>
     ensures { MatchOption result (Unit {0}) (λ d. (decimal_of (trim_end (trim_start text.now))

@@ -1,4 +1,4 @@
-//! Laws of the definitions: each is the contract of a function that does nothing.
+//! Theorems about the definitions: each is the contract of a function that does nothing.
 
 ghost use Rattle.std.specs.Prelude.{◌≡◌, ◌↔◌, ℕ, ℤ, ◌<◌, ◌≤◌, List};
 ghost use Rattle.std.specs.Prelude.{Some, None, length, unsigned_abs};
@@ -27,7 +27,7 @@ pub fn one_text()
         → IsTextOf s z text ↔ (text ≡ number_text s z) }
 {}
 
-/// At each accepted scale the text of a number stands for that number and for no other.
+/// At each accepted scale the text of a number encodes that number and no other.
 pub fn texts_stand()
     ensures for_it { (s : Scale) (z : ℤ) → IsAccepted s
         → unsigned_abs z ≤ 4294967295
@@ -37,7 +37,7 @@ pub fn texts_stand()
         ≡ z }
 {}
 
-/// `seen` gives the number that a text stands for, if there is one, and `blank` for blanks alone.
+/// `seen` gives the number that a text encodes, if there is one, and `blank` for blanks alone.
 pub fn texts_are_seen()
     ensures as_numbers { (s : Fraction) (text : List ℕ) (z : ℤ) → IsScale s
         → (seen s text ≡ number z) ↔ StandsFor s text z }
@@ -54,7 +54,7 @@ pub fn texts_are_read()
     ensures ends { (s : Fraction) (z : ℤ) → EndsInDigit (number_text s z) }
 {}
 
-/// A text without leading and trailing blanks is read exactly where it is in the grammar, with its
+/// A text without leading and trailing blanks is read exactly if it is in the grammar, with its
 /// value.
 pub fn texts_of_the_grammar_are_read()
     ensures read { (text : List ℕ) (d : Decimal) → (decimal_of text ≡ Some d)

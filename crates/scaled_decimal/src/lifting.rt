@@ -128,7 +128,7 @@ fn parts_with(digits: u128, place: u32, whole: bool) -> Option<Parts>
     })
 }
 
-/// The parts of a number at a scale; None where they are not told quickly.
+/// The parts of a number at a scale; None if they are not known quickly.
 pub(crate) fn lifted_parts(number: u64, scale: &Scale) -> Option<Parts>
     requires some { 0 < number }
     requires small { number ≤ 4294967295 }

@@ -26,7 +26,7 @@ pub(crate) fn power_of_five(exponent: u32) -> u64
     FIVES[exponent as usize]
 }
 
-/// An estimate of `part` / 5^`exponent`, close where that has at most 44 bits.
+/// An estimate of `part` / 5^`exponent`, close if that has at most 44 bits.
 pub(crate) fn fifths(part: u128, exponent: u32) -> u64
     requires { exponent < 25 }
 {

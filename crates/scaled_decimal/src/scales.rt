@@ -52,7 +52,7 @@ impl Scale {
             && ((-66 <= two && two <= -60 && ten == 0) || (two == 0 && -10 <= ten && ten <= 0))
     }
 
-    /// A scale; None exactly where it is not accepted.
+    /// A scale; None exactly if it is not accepted.
     pub fn new(pi: bool, factor: u32, two: i32, ten: i32) -> Option<Scale>
         ensures { SomeIff result (AreWithin factor two ten ⊎ AreFar pi factor two ten)
             (record { pi = pi; factor = factor; two = two; ten = ten }) }

@@ -15,7 +15,8 @@ use Rattle.slot_assembly.specs.SlotStanding.{IsRemembered, item_to_keep, known_f
 abbrev pub closed_by : Slot → Option NavItem → Finding → Closed
 closed_by slot before finding = record { end = slot.end; key = slot.key; verdict = verdict_of before finding }
 
--- the period of a slot is given, and its item stored for later comparison where it is that of a complete ephemeris
+-- the period of a slot is given, and its item stored for later comparison if it is that of a
+-- complete ephemeris
 pub record IsClosedBy (slot : Slot) (r : ℕ) (health : Option (ℕ × GalHealth × SentTag)) (old new : List (Rank × NavItem)) (closed : Option Closed) : Type 0 where
   pub remembered : IsRemembered old (rank_of slot.key) (item_to_keep slot.key (digest_finding r slot.key slot.digest health)) new
   pub given : closed ≡ Some (closed_by slot (known_for slot.key old) (digest_finding r slot.key slot.digest health))

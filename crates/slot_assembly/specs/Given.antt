@@ -23,7 +23,7 @@ pub record HasGiven (r window : ℕ) (parts : Part → Type 0) (watermark : ℕ)
   pub every : (q : Place) → IsPeriod window parts q → q.end + window < watermark → IsAfter last q ⊎ ((c : Closed) × Contains given c × (closed_place c ≡ q))
   pub last_low : GivenBelow window watermark last
 
--- the end and key of the last period of a list, or the option where the list is empty
+-- the end and key of the last period of a list, or the option if the list is empty
 abbrev pub last_from : Option Place → List Closed → Option Place
 last_from last [] = last
 last_from last (c ∷ cs) = last_from (Some (closed_place c)) cs

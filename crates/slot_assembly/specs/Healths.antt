@@ -45,12 +45,12 @@ IsHeardChanged old x w new = (q : BySat) → heard_at new q ≡ cond (is_at (sat
 abbrev pub IsSameHealth : List (BySat × (ℕ × GalHealth × SentTag)) → List (BySat × (ℕ × GalHealth × SentTag)) → Type 0
 IsSameHealth old new = (q : BySat) → heard_at new q ≡ heard_at old q
 
--- the health in a part's body, with its stamp
+-- the health in a part's body, with its time tag
 abbrev pub health_in : ℕ → Body → Option (ℕ × GalHealth × SentTag)
 health_in stamp (OfHealth health tag) = Some (stamp, health, tag)
 health_in stamp _ = None
 
--- the health is stored, where there is one
+-- the health is stored, if there is one
 abbrev pub IsSaid : List (BySat × (ℕ × GalHealth × SentTag)) → Satellite → Option (ℕ × GalHealth × SentTag) → List (BySat × (ℕ × GalHealth × SentTag)) → Type 0
 IsSaid old sat None new = IsSameHealth old new
 IsSaid old sat (Some h) new = IsHeardChanged old (place_of_health sat h) (Some h) new
@@ -69,17 +69,18 @@ abbrev pub IsFirstAbove : List (BySat × (ℕ × GalHealth × SentTag)) → BySa
 IsFirstAbove heard at None = (y : BySat) → IsLeBy sat_cmp.it at y → IsSome (heard_at heard y) → ⊥
 IsFirstAbove heard at (Some e) = (heard_at heard e.0 ≡ Some e.1) × IsLeBy sat_cmp.it at e.0 × ((y : BySat) → IsLeBy sat_cmp.it at y → IsSome (heard_at heard y) → IsLeBy sat_cmp.it e.0 y)
 
--- the health found before an end, where it is of the satellite and within the window
+-- the health found before an end, if it is of the satellite and within the window
 abbrev pub near_up : Satellite → ℕ → ℕ → Option (BySat × (ℕ × GalHealth × SentTag)) → Option (ℕ × GalHealth × SentTag)
 near_up sat window e None = None
 near_up sat window e (Some x) = if is_of_sat sat x.0 && nat_le e (x.1.0 + window) then Some x.1 else None
 
--- the health found after an end, where it is of the satellite and within the window
+-- the health found after an end, if it is of the satellite and within the window
 abbrev pub near_behind : Satellite → ℕ → ℕ → Option (BySat × (ℕ × GalHealth × SentTag)) → Option (ℕ × GalHealth × SentTag)
 near_behind sat window e None = None
 near_behind sat window e (Some x) = if is_of_sat sat x.0 && nat_le x.1.0 (e + window) then Some x.1 else None
 
--- the satellite's health near the end e: the last one up to it or, where there is none in the window, the first one after it
+-- the satellite's health near the end e: the last one up to it or, if there is none in the window,
+-- the first one after it
 pub record IsLooked (heard : List (BySat × (ℕ × GalHealth × SentTag))) (sat : Satellite) (window e : ℕ) (result : Option (ℕ × GalHealth × SentTag)) : Type 0 where
   pub below : Option (BySat × (ℕ × GalHealth × SentTag))
   pub above : Option (BySat × (ℕ × GalHealth × SentTag))
@@ -94,12 +95,12 @@ IsChosen heard window (Gps sat issue) e result = result ≡ None
 IsChosen heard window (GpsIon content) e result = result ≡ None
 IsChosen heard window (GalIon content) e result = result ≡ None
 
--- some place whose stamp plus two windows is below the watermark, or that there is none
+-- some place whose time tag plus two windows is below the watermark, or that there is none
 abbrev pub IsOldest : List ByStamp → ℕ → ℕ → Option ByStamp → Type 0
 IsOldest stamps window watermark None = (x : ByStamp) → HasStamp stamps x → watermark ≤ x.stamp + 2 * window
 IsOldest stamps window watermark (Some x) = HasStamp stamps x × (x.stamp + 2 * window < watermark)
 
--- exactly the health whose stamp plus two windows is below the watermark is removed
+-- exactly the health whose time tag plus two windows is below the watermark is removed
 pub record IsForgotten (window watermark : ℕ) (old new : List (BySat × (ℕ × GalHealth × SentTag))) : Type 0 where
   pub gone : (x : BySat) → x.stamp + 2 * window < watermark → heard_at new x ≡ None
   pub stays : (x : BySat) → watermark ≤ x.stamp + 2 * window → heard_at new x ≡ heard_at old x

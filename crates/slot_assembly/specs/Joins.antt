@@ -11,7 +11,7 @@ use Rattle.slot_assembly.specs.declared.slot.Held.{Held}
 use Rattle.slot_assembly.specs.Order.{by_end, by_start}
 use Rattle.slot_assembly.specs.Slots.{slot_of, slot_with, at_of, kept_at, HasEnd, IsChanged, AreSameSlots, IsLastTouched}
 
--- the slot behind a reference
+-- the slot after a reference
 abbrev pub packed_in : Option (Bor PackedSlot) → Option Slot
 packed_in r = option_map slot_of (option_copied r)
 
@@ -30,7 +30,7 @@ pub record IsTouchedFrom (slots : List (ByStart × Held)) (r : Rank) (bound stam
   pub touched : IsLastTouched slots r bound stamp window slot
   pub starts : start ≡ start_in slot
 
--- the start of the slot before the first, where there is a first
+-- the start of the slot before the first, if there is a first
 abbrev pub IsSecondFrom : List (ByStart × Held) → Rank → ℕ → ℕ → Option ℕ → Option ℕ → Type 0
 IsSecondFrom slots r stamp window None second = second ≡ None
 IsSecondFrom slots r stamp window (Some a) second = IsTouchedFrom slots r a stamp window second
@@ -57,7 +57,7 @@ pub record IsPutForStarts (old : List (ByStart × Held)) (r : Rank) (slot : Slot
   pub without_first : IsWithoutStart put r first slot.start one
   pub without_second : IsWithoutStart one r second slot.start new
 
--- an end of the place is taken from the list, where there is one and it is not to stay
+-- an end of the place is taken from the list, if there is one and it is not to stay
 pub record IsUnlisted (old : List ByEnd) (x : ByStart) (was stays : Option ℕ) (new : List ByEnd) : Type 0 where
   pub only : (y : ByEnd) → HasEnd new y → HasEnd old y × ((e : ℕ) → was ≡ Some e → y ≡ by_end x e → stays ≡ Some e)
   pub keeps : (y : ByEnd) → HasEnd old y → ((e : ℕ) → was ≡ Some e → y ≡ by_end x e → stays ≡ Some e) → HasEnd new y

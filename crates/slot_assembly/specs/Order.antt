@@ -35,7 +35,7 @@ start_place y = record { class = y.class; system = y.system; number = y.number; 
 abbrev pub is_of_rank : Rank → ByStart → Bool
 is_of_rank r x = (x.class == r.class) && ((x.system == r.system) && ((x.number == r.number) && (x.issue == r.issue)))
 
--- a place by satellite, stamp and bits
+-- a place by satellite, time tag and bits
 abbrev pub by_sat : Satellite → ℕ → ℕ → BySat
 by_sat sat stamp bit_pattern = record { system = place_of sat.system; number = sat.number; stamp = stamp; bit_pattern = bit_pattern }
 
@@ -47,7 +47,7 @@ place_of_health sat h = by_sat sat h.0 (health_number h.1 h.2)
 abbrev pub is_of_sat : Satellite → BySat → Bool
 is_of_sat sat x = (x.system == place_of sat.system) && (x.number == sat.number)
 
--- the place by stamp
+-- the place by time tag
 abbrev pub by_stamp : BySat → ByStamp
 by_stamp x = record { stamp = x.stamp; system = x.system; number = x.number; bit_pattern = x.bit_pattern }
 

@@ -1,5 +1,5 @@
--- The trait's laws for the slot assembly: its parts are values, and their order and repetition do not matter. (An impl names the
--- proof of a law, and code can name only what is in specs/.)
+-- The trait's theorems for the slot assembly: its parts are values, and their order and repetition
+-- do not matter. (An impl names the proof of a theorem, and code can name only what is in specs/.)
 use Rattle.std.proofs.Common.{ℕ, Option, None, Some, All, List, Contains, get_or, ◌↔◌}
 use Rattle.std.proofs.lemmas.List.Elements.{All-contains, Contains-get_or}
 use Rattle.nav_eph.specs.declared.items.NavItem.{NavItem}
@@ -16,7 +16,7 @@ use Rattle.slot_assembly.specs.Order.{rank_of}
 use Rattle.slot_assembly.specs.Slots.{slot_place}
 use Rattle.slot_assembly.specs.SlotStanding.{SlotsState, SlotsStandFor, IsSlot, IsKnownGiven, known_at}
 
--- each part that the assembly stands for is a value of its type
+-- each part that the assembly represents is a value of its type
 pub parts_are_values : (s : SlotsState) (at : Standing) → SlotsStandFor s at → All IsPartValue at.parts
 parts_are_values s at h = h.values
 
@@ -43,7 +43,7 @@ IsKnownGiven-same r w a b last key (Some item) e h = record {
   greatest = λ f other c g. h.greatest f other (IsComplete-same r w b a key f other (same_sym a b e) c) g;
 }
 
--- the assembly stands for its parts in any order and with any repetition
+-- the assembly represents its parts in any order and with any repetition
 pub parts_are_a_set : (s : SlotsState) (at : Standing) (other : List Part) → SlotsStandFor s at
     → ((p : Part) → Contains at.parts p ↔ Contains other p) → SlotsStandFor s (with_parts other at)
 parts_are_a_set s at other h same =

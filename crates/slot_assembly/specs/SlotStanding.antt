@@ -1,4 +1,4 @@
--- The state of the slot assembly, and what it stands for.
+-- The state of the slot assembly, and what it represents.
 use Rattle.std.specs.Prelude.{◌≡◌, ℕ, ◌+◌, ◌*◌, ◌≤◌, cond, List, length, Option, None, Some, IsSome, All, Contains}
 use Rattle.std.specs.List.Sorted.{IsStrictlySortedBy}
 use Rattle.std.specs.BTreeMap.{is_at}
@@ -48,11 +48,11 @@ pub record SlotsState : Type 0 where
   pub window : ℕ
   -- the slots, each at its place by key and start
   pub slots : List (ByStart × Held)
-  -- an end of each slot, which may lag behind its own
+  -- an end of each slot, which may be earlier than its own
   pub ends : List ByEnd
   -- the health, each at its place by satellite
   pub heard : List (BySat × (ℕ × GalHealth × SentTag))
-  -- the places of the health, by stamp
+  -- the places of the health, by time tag
   pub stamps : List ByStamp
   -- the greatest watermark given
   pub watermark : ℕ
@@ -63,7 +63,8 @@ pub record SlotsState : Type 0 where
   -- the item of the last complete period given, of each ephemeris
   pub known : List (Rank × NavItem)
 
--- the slot is that of an open period: key, end, stamp of the first member, and digest of the members
+-- the slot is that of an open period: key, end, time tag of the first member, and digest of the
+-- members
 pub record IsSlot (window : ℕ) (parts : Part → Type 0) (last : Option Place) (slot : Slot) : Type 0 where
   pub period : IsPeriod window parts (slot_place slot)
   pub after : IsAfter last (slot_place slot)
@@ -76,7 +77,7 @@ pub record AreSlots (window : ℕ) (parts : Part → Type 0) (last : Option Plac
   pub each : (s : Slot) → IsOpen slots s → IsSlot window parts last s
   pub every : (q : Place) → IsPeriod window parts q → IsAfter last q → (s : Slot) × IsOpen slots s × (slot_place s ≡ q)
 
--- exactly the health whose stamp plus two windows is at or above the watermark
+-- exactly the health whose time tag plus two windows is at or above the watermark
 pub record AreKept (window watermark : ℕ) (parts : Part → Type 0) (heard : List (BySat × (ℕ × GalHealth × SentTag))) : Type 0 where
   pub was_heard : (x : BySat) (h : ℕ × GalHealth × SentTag) → heard_at heard x ≡ Some h → (sat : Satellite) × HasValue (HealthOf sat) parts h × (x ≡ place_of_health sat h)
   pub recent : (x : BySat) → IsSome (heard_at heard x) → watermark ≤ x.stamp + 2 * window

@@ -57,7 +57,8 @@ pub record IsListed (ends : List ByEnd) (x : ByStart) (end : ℕ) : Type 0 where
   pub by : e ≤ end
   pub has : HasEnd ends (by_end x e)
 
--- each slot is at its place and in the list, by an end that may lag behind its own; and the list has nothing else
+-- each slot is at its place and in the list, by an end that may be earlier than its own; and the
+-- list has nothing else
 pub record AreIndexed (slots : List (ByStart × Held)) (ends : List ByEnd) : Type 0 where
   pub own : (x : ByStart) (s : Slot) → kept_at slots x ≡ Some s → x ≡ at_of s
   pub listed : (x : ByStart) (s : Slot) → kept_at slots x ≡ Some s → IsListed ends x s.end
@@ -96,12 +97,12 @@ abbrev pub IsSlotBelow : List (ByStart × Held) → Rank → ℕ → Option Slot
 IsSlotBelow slots r bound None = (a : ℕ) → IsSome (kept_at slots (by_start r a)) → bound ≤ a
 IsSlotBelow slots r bound (Some s) = IsLastSlot slots r bound s
 
--- the key's last slot that starts below a bound, where the stamp is at most a window after its end
+-- the key's last slot that starts below a bound, if the time tag is at most a window after its end
 abbrev pub IsLastTouched : List (ByStart × Held) → Rank → ℕ → ℕ → ℕ → Option Slot → Type 0
 IsLastTouched slots r bound stamp window None = (o : Option Slot) × IsSlotBelow slots r bound o × IfSome o (λ s. s.end + window < stamp)
 IsLastTouched slots r bound stamp window (Some s) = IsLastSlot slots r bound s × (stamp ≤ s.end + window)
 
--- the slot before the first, where the first starts after the stamp
+-- the slot before the first, if the first starts after the time tag
 abbrev pub IsSecondTouched : List (ByStart × Held) → Rank → ℕ → ℕ → Option Slot → Option Slot → Type 0
 IsSecondTouched slots r stamp window None second = second ≡ None
 IsSecondTouched slots r stamp window (Some s) second = ((s.start ≤ stamp) × (second ≡ None)) ⊎ IsLastTouched slots r s.start stamp window second
@@ -150,7 +151,7 @@ pub record IsTaken (old : List (ByStart × Held)) (p : Part) (window : ℕ) (new
   pub is_second : IsSecondTouched old (rank_of one.key) p.stamp window first second
   pub replaced : IsReplaced old (slot_with (merged first one) second) first second new
 
--- the first end in the list, where it is below a limit
+-- the first end in the list, if it is below a limit
 abbrev pub IsFirstEnd : List ByEnd → ℕ → Option ByEnd → Type 0
 IsFirstEnd ends limit None = (z : ByEnd) → HasEnd ends z → limit ≤ z.end
 IsFirstEnd ends limit (Some y) = HasEnd ends y × (y.end < limit) × ((z : ByEnd) → HasEnd ends z → IsLeBy end_cmp.it y z)
@@ -165,7 +166,7 @@ pub record IsFirstOpen (slots : List (ByStart × Held)) (s : Slot) : Type 0 wher
   pub here : IsOpen slots s
   pub least : (t : Slot) → IsOpen slots t → IsBefore (slot_place t) (slot_place s) → ⊥
 
--- the first slot in order, where its end plus the window is below the watermark
+-- the first slot in order, if its end plus the window is below the watermark
 abbrev pub IsFirstDue : List (ByStart × Held) → ℕ → ℕ → Option Slot → Type 0
 IsFirstDue slots window watermark None = (s : Slot) → IsOpen slots s → watermark ≤ s.end + window
 IsFirstDue slots window watermark (Some s) = IsFirstOpen slots s × (s.end + window < watermark)

@@ -1,4 +1,4 @@
--- The state that an assembly stands for, and the period that it gives next.
+-- The state that an assembly represents, and the period that it gives next.
 use Rattle.std.specs.Prelude.{ℕ, ◌+◌, ◌<◌, List, [], ◌∷◌, ◌++◌, Option, None, Some}
 use Rattle.nav_eph.specs.declared.part.Part.{Part}
 use Rattle.periods.specs.declared.key.Place.{Place}
@@ -12,15 +12,16 @@ pub record Standing : Type 0 where
   pub watermark : ℕ
   pub last : Option Place
 
--- the assembly stands for some state with this property
+-- the assembly represents some state with this property
 abbrev pub Stood : (Standing → Type 0) → (Standing → Type 0) → Type 0
 Stood now property = (at : Standing) × now at × property at
 
--- every state that the assembly stands for has this property
+-- every state that the assembly represents has this property
 abbrev pub Tells : (Standing → Type 0) → (Standing → Type 0) → Type 0
 Tells now property = (at : Standing) → now at → property at
 
--- the effect of a call: of each state that the assembly stood for before, it stands for the changed one after it
+-- the effect of a call: of each state that the assembly represented before, it represents the
+-- changed one after it
 abbrev pub Carries : (Standing → Type 0) → (Standing → Type 0) → (Standing → Standing) → Type 0
 Carries old new change = (at : Standing) → old at → new (change at)
 

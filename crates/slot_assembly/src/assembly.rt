@@ -12,9 +12,9 @@ use std::alloc::AllocError;
 
 /// Assembles parts into periods.
 ///
-/// Its contract is over what it stands for: the parts taken, the greatest watermark given, and the
+/// Its contract is over what it represents: the parts taken, the greatest watermark given, and the
 /// last period given. An implementation may store less; each clause holds of every such state that
-/// it may stand for.
+/// it may represent.
 pub trait Assembly {
     // The reference week near which week numbers are resolved.
     ghost reference: { Self → ℕ };
@@ -33,7 +33,7 @@ pub trait Assembly {
     // longer count at it.
     ghost none_at: { Self → ℕ };
 
-    /// Takes a part whose stamp is at least the greatest watermark given so far; a repeated part
+    /// Takes a part whose time tag is at least the greatest watermark given so far; a repeated part
     /// changes no period. `AllocError` where memory runs out; nothing is changed then.
     fn take(&mut self, part: &Part) -> Result<(), AllocError>
         requires { Stood (stands_for self.old) (λ at. at.watermark ≤ part.now.stamp) }
@@ -46,7 +46,7 @@ pub trait Assembly {
         ensures none_at { none_at self.new ≡ none_at self.old };
 
     /// The first period not given yet whose end plus the window is below the watermark, with its
-    /// verdict; `None` exactly where there is none. The watermark is at least the greatest given so
+    /// verdict; `None` exactly if there is none. The watermark is at least the greatest given so
     /// far. `AllocError` where memory runs out; nothing is changed then.
     fn next_closed(&mut self, watermark: u64) -> Result<Option<Closed>, AllocError>
         requires { Stood (stands_for self.old) (λ at. at.watermark ≤ watermark) }

@@ -1,4 +1,4 @@
-//! The stored health, without duplicates, by satellite and stamp, with an index by stamp.
+//! The stored health, without duplicates, by satellite and time tag, with an index by time tag.
 
 ghost use Rattle.std.specs.Prelude.{◌≡◌, ◌<◌, OnOk, OnErr, Some, None};
 ghost use Rattle.std.specs.BTreeSet.{btree_set_len};
@@ -16,7 +16,7 @@ use periods::Key;
 use std::alloc::AllocError;
 use std::collections::{BTreeMap, BTreeSet};
 
-/// The stored health, and an index of it by stamp.
+/// The stored health, and an index of it by time tag.
 #[derive(Drop)]
 pub struct Healths {
     pub heard: BTreeMap<BySat, (u32, GalHealth, SentTag)>,

@@ -1,4 +1,4 @@
-//! A law of assemblies: the function does nothing, and its contract is the law.
+//! A theorem about assemblies: the function does nothing, and its contract is the theorem.
 
 ghost use Rattle.std.specs.Prelude.{◌≡◌, ℕ, List, Option, All, Contains};
 ghost use Rattle.nav_eph.specs.Values.{IsPartValue};

@@ -5,16 +5,16 @@
 //! parts as they are received, and gives each period once, in order, with its verdict, as soon as
 //! no further part can belong to it. [`add_periods`] runs any assembly over a list of parts. A
 //! continuous run calls `next_closed` at each watermark until it returns `None`, or
-//! [`SlotAssembly::close_next`], which puts each period into room of the caller's.
+//! [`SlotAssembly::close_next`], which puts each period into memory of the caller.
 //!
 //! [`SlotAssembly`] stores one slot for each open period, with the digest of its members, by key
-//! and start. A new part is merged with the slots of its key within the window; where it belongs to
+//! and start. A new part is merged with the slots of its key within the window; if it belongs to
 //! one that started before it, that slot changes in its place and no map does. A slot is removed
 //! when its period is given. Which one is due is found by a list of ends, one for each slot, which
-//! may lag behind its own. Beside the slots it stores the health that a period may still take, and
-//! the item of each ephemeris' last complete period given. So memory is bounded by the contents of
-//! the window and the number of issues that were complete, whatever the length of the capture. Each
-//! call costs a few searches in ordered maps.
+//! may be earlier than its own. Next to the slots it stores the health that a period may still
+//! take, and the item of each ephemeris' last complete period given. So memory is bounded by the
+//! contents of the window and the number of issues that were complete, whatever the length of the
+//! capture. Each call costs a few searches in ordered maps.
 //!
 //! ```rust
 //! use gnss_week::RefWeek;

@@ -40,7 +40,7 @@ pub struct ByEnd {
     pub start: u64,
 }
 
-/// The place of a health among those of its satellite: by stamp, then by its bits.
+/// The place of a health among those of its satellite: by time tag, then by its bits.
 #[derive(Clone, Copy, PartialEq, Eq, PartialOrd, Ord)]
 pub struct BySat {
     pub system: u8,
@@ -49,7 +49,7 @@ pub struct BySat {
     pub bit_pattern: u64,
 }
 
-/// The place of a health among all: by stamp, the oldest first.
+/// The place of a health among all: by time tag, the oldest first.
 #[derive(Clone, Copy, PartialEq, Eq, PartialOrd, Ord)]
 pub struct ByStamp {
     pub stamp: u64,

@@ -20,15 +20,15 @@ use nav_eph::{
 use periods::{Digest, GalDigest, GpsDigest, Key, Place, Seen, Transmission, key_of_part};
 use std::alloc::{AllocError, Global};
 
-/// An open period: its key, the stamps of its first and last member, and the digest of its
+/// An open period: its key, the time tags of its first and last member, and the digest of its
 /// members.
 #[derive(Clone, Copy)]
 pub struct Slot {
     /// The key of its parts.
     pub key: Key,
-    /// The stamp of the first member.
+    /// The time tag of the first member.
     pub start: u32,
-    /// The stamp of the last member.
+    /// The time tag of the last member.
     pub end: u32,
     /// The digest of the members.
     pub digest: Digest,
@@ -39,9 +39,9 @@ pub struct Slot {
 pub struct IonSlot {
     /// The key of its parts.
     pub key: Key,
-    /// The stamp of the first member.
+    /// The time tag of the first member.
     pub start: u32,
-    /// The stamp of the last member.
+    /// The time tag of the last member.
     pub end: u32,
     /// The earliest transmission.
     pub transmission: Transmission,
@@ -57,7 +57,7 @@ pub enum PackedSlot {
     Ionosphere(IonSlot),
 }
 
-/// A slot as it stands in the map, with the end by which it is listed.
+/// A slot as it is in the map, with the end by which it is listed.
 #[derive(Drop)]
 pub struct Held {
     /// An end that the slot had: that of its place in the list.

@@ -1,7 +1,7 @@
 //! The slots of open periods by key and start, with a list of ends in the order of periods.
 //!
-//! The end by which a slot is listed may lag behind its own, so that a part which repeats what its
-//! slot holds changes no tree. It is moved to the true end when it comes first and its slot is
+//! The end by which a slot is listed may be earlier than its own, so that a part which repeats what
+//! its slot holds changes no tree. It is moved to the true end when it comes first and its slot is
 //! asked for.
 
 ghost use Rattle.std.specs.Prelude.{◌≡◌, ℕ, ◌+◌, ◌<◌, ◌≤◌};

@@ -89,8 +89,8 @@ impl SlotAssembly {
 
     /// The first period not given yet whose end plus the window is below the watermark, as
     /// [`Assembly::next_closed`] gives it, but into `closed`; `false`, with nothing of use in
-    /// `closed`, exactly where there is none. A period has room for a whole item, so this saves
-    /// moves of that size.
+    /// `closed`, exactly if there is none. A period holds a complete item, so this saves moves of
+    /// that size.
     pub fn close_next(
         &mut self,
         watermark: u64,

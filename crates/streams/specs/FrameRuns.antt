@@ -22,8 +22,9 @@ flushed_of line bytes = text_of line (decided bytes)
 abbrev pub least_of : (List ℕ → List ℕ) → List ℕ → List ℕ
 least_of line bytes = flushed_of line (take (length bytes - 16384) bytes)
 
--- Frames were found and their lines written, and the bytes not yet used went from `before` to `after`. Whatever bytes follow, the
--- frames of the old bytes are these and then those of the new; so are the decided ones, where more bytes may come.
+-- Frames were found and their lines written, and the bytes not yet used went from `before` to
+-- `after`. Whatever bytes follow, the frames of the old bytes are these and then those of the new;
+-- so are the decided ones, if more bytes may come.
 pub record Goes (line : List ℕ → List ℕ) (more : Bool) (before after : List ℕ) (old new : Option (List ℕ)) (count counted : ℕ) : Type 0 where
   pub given : List (List ℕ)
   pub stream : (following : List ℕ) → (more ≡ false → following ≡ []) → frames (before ++ following) ≡ given ++ frames (after ++ following)

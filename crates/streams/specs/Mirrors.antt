@@ -51,12 +51,12 @@ abbrev pub stands_in : Option (List ℕ) → List ℕ → Bool
 stands_in None message = false
 stands_in (Some x) message = is_at (slice_cmp nat_cmp x) message
 
--- whether the message at an index of the list is this one, where there is an index
+-- whether the message at an index of the list is this one, if there is an index
 abbrev pub first_in : List (List ℕ) → Option ℕ → List ℕ → Option Bool
 first_in list None message = None
 first_in list (Some place) message = Some (stands_in (slice_get list place) message)
 
--- whether this message is the first with its hash; None where no message has that hash
+-- whether this message is the first with its hash; None if no message has that hash
 abbrev pub first_of : MessagesState → List ℕ → Option Bool
 first_of s message = first_in s.list (place_of_hash s.firsts (hash_of message)) message
 
@@ -78,7 +78,7 @@ pub record GivenState : Type 0 where
   pub gps_seen : List (Option (List ℕ))
   pub gal_seen : List (Option (List ℕ))
 
--- no payload is kept
+-- no payload is retained
 abbrev pub NothingKept : GivenState → Type 0
 NothingKept s = (s.gps_seen ≡ replicate 256 None) × (s.gal_seen ≡ replicate 256 None)
 
@@ -131,11 +131,11 @@ abbrev pub any_alike : List NavItem → NavItem → Bool
 any_alike [] item = false
 any_alike (i ∷ is) item = sent_alike i item || any_alike is item
 
--- the text of an item; empty where the item was given before
+-- the text of an item; empty if the item was given before
 abbrev pub once_text : (NavItem → List ℕ) → Bool → NavItem → List ℕ
 once_text text before item = if before then [] else text item
 
--- the counts with one more frame that is refused
+-- the counts with one more frame that is rejected
 abbrev pub with_refusal : StreamCounts → StreamCounts
 with_refusal c = record { frames = c.frames + 1; refused = c.refused + 1; unused = c.unused; items = c.items; times = c.times }
 
@@ -143,7 +143,7 @@ with_refusal c = record { frames = c.frames + 1; refused = c.refused + 1; unused
 abbrev pub with_unused : StreamCounts → StreamCounts
 with_unused c = record { frames = c.frames + 1; refused = c.refused; unused = c.unused + 1; items = c.items; times = c.times }
 
--- the counts with one more frame that has this fault
+-- the counts with one more frame that has this error
 abbrev pub with_fault : StreamCounts → MessageFault → StreamCounts
 with_fault c NoNumber = with_unused c
 with_fault c (OtherMessage other) = with_unused c
@@ -187,8 +187,9 @@ StreamBreaks r prefix text more written written_new reported reported_new given 
     (past : List (List ℕ)) (start begun : Option (List ℕ)) → StreamSoFar r prefix text past start written begun reported given counts
     → StreamBroke r prefix text past (past ++ more) start written_new begun reported_new
 
--- These frames were found and processed, and the bytes not yet used went from `before` to `after`. Whatever bytes follow, the
--- frames of the old bytes are these and then those of the new; so are the decided ones, where more bytes may come.
+-- These frames were found and processed, and the bytes not yet used went from `before` to `after`.
+-- Whatever bytes follow, the frames of the old bytes are these and then those of the new; so are
+-- the decided ones, if more bytes may come.
 pub record StreamMoves (r : ℕ) (prefix : List ℕ) (text : NavItem → List ℕ) (more : Bool) (before after : List ℕ) (written written_new reported reported_new : Option (List ℕ)) (given given_new : GivenState) (counts counts_new : StreamCounts) : Type 0 where
   pub frames_are : List (List ℕ)
   pub stream : (following : List ℕ) → (more ≡ false → following ≡ []) → frames (before ++ following) ≡ frames_are ++ frames (after ++ following)
@@ -207,7 +208,7 @@ pub record StreamStops (r : ℕ) (prefix : List ℕ) (text : NavItem → List �
 abbrev pub BeginsFlushed : List (List ℕ) → List ℕ → Type 0
 BeginsFlushed them taken = (rest : List (List ℕ)) × (them ≡ decided (take (length taken - 16384) taken) ++ rest)
 
--- The whole input was read, and all its frames processed.
+-- The complete input was read, and all its frames processed.
 pub record StreamAll (r : ℕ) (prefix : List ℕ) (text : NavItem → List ℕ) (left left_new written written_new reported reported_new : Option (List ℕ)) (given given_new : GivenState) (counts counts_new : StreamCounts) : Type 0 where
   pub taken : List ℕ
   pub consumes : Consumes left left_new taken
@@ -235,7 +236,7 @@ AreFew c = c.refused + c.unused + c.items ≤ c.frames
 abbrev pub HasRoom : StreamCounts → Type 0
 HasRoom c = AreFew c × (c.frames + 1 < 2 ^ 64)
 
--- the faults of processing a frame
+-- the errors of processing a frame
 abbrev pub IsStreamFault : BridgeFault → Type 0
 IsStreamFault WriteFault = Unit {0}
 IsStreamFault ReportFault = Unit {0}

@@ -36,7 +36,8 @@ pub record IsOpen (s : StreamRunState) : Type 0 where
   pub few : AreFew s.counts
   pub room : s.counts.frames + length s.deframer.rest ≤ s.taken
 
--- the state behind these bytes: the frames `past` were processed, and the rest is that of the deframer, whatever bytes follow
+-- the state after these bytes: the frames `past` were processed, and the rest is that of the
+-- deframer, whatever bytes follow
 pub record IsBehind (s : StreamRunState) (bytes : List ℕ) (start written begun reported : Option (List ℕ)) : Type 0 where
   pub past : List (List ℕ)
   pub stream : (following : List ℕ) → frames (bytes ++ following) ≡ past ++ frames (s.deframer.rest ++ following)
@@ -49,14 +50,14 @@ pub record IsPushed (s : StreamRunState) (bytes : List ℕ) (start written begun
   pub report : Appends begun reported (readings_report 1 (flushed_readings s.week bytes))
   pub behind : IsBehind s bytes start written begun reported
 
--- Something failed: no less was written than what `bytes` decide, and no more than what the whole stream gives, of whose report a
--- prefix was written.
+-- Something failed: no less was written than what `bytes` decide, and no more than what the
+-- complete stream gives, of whose report a prefix was written.
 pub record IsCutShort (s : StreamRunState) (bytes whole : List ℕ) (start written begun reported : Option (List ℕ)) : Type 0 where
   pub output : AppendsBetween start written (flushed_output_by (prefix_text s.to) (item_text s.to 0) s.week bytes)
       (stream_output_by (prefix_text s.to) (item_text s.to 0) s.week whole)
   pub report : AppendsPrefix begun reported (stream_report s.week whole)
 
--- the whole stream was written and reported
+-- the complete stream was written and reported
 pub record IsWhole (s : StreamRunState) (bytes : List ℕ) (start written begun reported : Option (List ℕ)) : Type 0 where
   pub output : Appends start written (stream_output_by (prefix_text s.to) (item_text s.to 0) s.week bytes)
   pub report : Appends begun reported (stream_report s.week bytes)

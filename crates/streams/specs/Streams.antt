@@ -16,7 +16,7 @@ use Rattle.outlets.specs.Targets.{prefix_text, item_text}
 use Rattle.outlets.specs.Times.{times_of}
 use Rattle.streams.specs.Targets.{target_of_stream}
 
--- the reading of a frame: its item for the reference week r, or the first fault
+-- the reading of a frame: its item for the reference week r, or the first error
 abbrev pub Reading : Type 0
 Reading = Result NavItem MessageFault
 
@@ -30,7 +30,7 @@ items_of_readings [] = []
 items_of_readings (Ok item ∷ rs) = item ∷ items_of_readings rs
 items_of_readings (Err fault ∷ rs) = items_of_readings rs
 
--- whether the item stands in the list
+-- whether the item is in the list
 abbrev pub has : List NavItem → NavItem → Bool
 has [] item = false
 has (i ∷ is) item = same_item i item || has is item
@@ -68,7 +68,7 @@ abbrev pub readings_report : ℕ → List Reading → List ℕ
 readings_report number [] = []
 readings_report number (r ∷ rs) = reading_report number r ++ readings_report (number + 1) rs
 
--- 1 for a refused frame, else 0
+-- 1 for a rejected frame, else 0
 abbrev pub is_refused : Reading → ℕ
 is_refused (Ok item) = 0
 is_refused (Err NoNumber) = 0
@@ -116,7 +116,7 @@ readings_output prefix text rs = prefix ++ flat_map text (first_places (items_of
 abbrev pub stream_output_by : List ℕ → (NavItem → List ℕ) → ℕ → List ℕ → List ℕ
 stream_output_by prefix text r bytes = readings_output prefix text (stream_readings r bytes)
 
--- the report of a stream's bytes: a line for each refused frame, and the counts
+-- the report of a stream's bytes: a line for each rejected frame, and the counts
 abbrev pub stream_report : ℕ → List ℕ → List ℕ
 stream_report r bytes =
     readings_report 1 (stream_readings r bytes) ++ stream_counts_text (stream_counts r bytes)
@@ -129,8 +129,8 @@ flushed_readings r bytes = readings r (decided bytes)
 abbrev pub flushed_output_by : List ℕ → (NavItem → List ℕ) → ℕ → List ℕ → List ℕ
 flushed_output_by prefix text r bytes = readings_output prefix text (flushed_readings r bytes)
 
--- the least that was written of the bytes taken, whatever fails: what all but the last 16,384 bytes decide (one read asks for so
--- many); nothing where no byte was taken
+-- the least that was written of the bytes taken, whatever fails: what all but the last 16,384 bytes
+-- decide (one read asks for so many); nothing if no byte was taken
 abbrev pub least_output_by : List ℕ → (NavItem → List ℕ) → ℕ → List ℕ → List ℕ
 least_output_by prefix text r [] = []
 least_output_by prefix text r (b ∷ bs) = flushed_output_by prefix text r (take (length (b ∷ bs) - 16384) (b ∷ bs))
@@ -148,6 +148,6 @@ stream_meaning_by prefix text r = record {
   flushed = Some (record { output = flushed_output_by prefix text r; report = λ bytes. readings_report 1 (flushed_readings r bytes) });
 }
 
--- the same, by the target that a job names
+-- the same, by the target that a conversion names
 abbrev pub stream_meaning : StreamTo → ℕ → Meaning StreamCounts
 stream_meaning to r = stream_meaning_by (prefix_text (target_of_stream to)) (item_text (target_of_stream to) 0) r

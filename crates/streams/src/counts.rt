@@ -11,7 +11,7 @@ use outlets::Times;
 pub struct StreamCounts {
     /// The frames.
     pub frames: u64,
-    /// The frames of message 1019 or 1046 that were refused.
+    /// The frames of message 1019 or 1046 that were rejected.
     pub refused: u64,
     /// The frames of other messages, and those without a message number.
     pub unused: u64,

@@ -32,10 +32,10 @@ pub struct FrameCounts {
 
 /// Reads a stream to its end, and writes a line for each frame, as [`frame_line`] states.
 ///
-/// The frames are those of RTCM 10403.3, section 4, whatever bytes stand between them. The result
-/// is the number of frames, or one of the faults `ReadFault`, `WriteFault` and `TooLong`. After a
-/// fault the output is a prefix of the lines of the bytes read: after a failed read exactly the
-/// lines of the frames that these bytes decide, whatever bytes follow, and after any fault at least
+/// The frames are those of RTCM 10403.3, section 4, whatever bytes are between them. The result is
+/// the number of frames, or one of the errors `ReadFault`, `WriteFault` and `TooLong`. After an
+/// error the output is a prefix of the lines of the bytes read: after a failed read exactly the
+/// lines of the frames that these bytes decide, whatever bytes follow, and after any error at least
 /// those that all but the last 16,384 bytes decide.
 pub fn run_frames<S: Source, T: Sink>(
     input: &mut S,

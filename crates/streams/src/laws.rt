@@ -1,4 +1,5 @@
-//! Laws of what is written of a stream: each is the contract of a function that does nothing.
+//! Theorems about what is written of a stream: each is the contract of a function that does
+//! nothing.
 
 ghost use Rattle.std.specs.Prelude.{◌≡◌, ℕ, List, ◌++◌};
 ghost use Rattle.std.specs.List.{flat_map};
@@ -29,7 +30,8 @@ pub fn what_is_written_of_a_stream_is_the_text_of_its_list()
 {}
 
 /// What is written and reported of some bytes while more may come stays: it is a prefix of what is
-/// written and reported then of these bytes and more, and of a whole stream that begins with them.
+/// written and reported then of these bytes and more, and of a complete stream that begins with
+/// them.
 pub fn what_is_written_of_a_stream_stays()
     ensures pieces { (prefix : List ℕ) (text : NavItem → List ℕ) (r : ℕ) (bytes more : List ℕ)
         → IsPrefix (flushed_output_by prefix text r bytes)

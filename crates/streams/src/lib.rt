@@ -5,7 +5,7 @@
 //! - [`run_stream`], over the messages 1019 and 1046: each ephemeris at its first occurrence.
 //!
 //! The output and the report of a run are functions of the bytes that it took:
-//! `specs/FrameLines.antt` and `specs/Streams.antt` state them. A fault leaves a prefix of each.
+//! `specs/FrameLines.antt` and `specs/Streams.antt` state them. An error leaves a prefix of each.
 //!
 //! ```rust
 //! use nav_io::{MemSink, MemSource};

@@ -13,8 +13,8 @@ use rtcm_frame::Frame;
 pub type FrameLine = ArrayVec<u8, 96>;
 
 /// The line of a frame: `<number> <length>` and LF. The number is the payload's first 12 bits, the
-/// message number (RTCM 10403.3, section 3.4), and `-` where the payload has fewer than two bytes;
-/// the length is that of the payload in bytes.
+/// message number (RTCM 10403.3, section 3.4), and `-` if the payload has fewer than two bytes; the
+/// length is that of the payload in bytes.
 #[tactic(auto, unfolding(crate::specs::FrameLines::line_of))]
 pub fn frame_line(frame: &Frame) -> FrameLine
     ensures { result.items ≡ line_of frame.now }

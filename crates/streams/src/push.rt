@@ -24,10 +24,10 @@ use std::alloc::Global;
 use std::marker::Model;
 
 /// The conversion of a stream that comes in pieces: of any pieces it writes and reports what
-/// [`crate::run_stream`] does of the whole.
+/// [`crate::run_stream`] does of the complete input.
 ///
-/// Each ephemeris is written as soon as its frame is complete. After a fault each further call
-/// gives the same fault.
+/// Each ephemeris is written as soon as its frame is complete. After an error each further call
+/// gives the same error.
 #[derive(Drop)]
 pub struct StreamRun {
     to: Target,
@@ -69,13 +69,13 @@ impl Model for StreamRun {
 }
 
 impl StreamRun {
-    /// Begins a conversion: writes what stands before the items, such as a RINEX header. The week
+    /// Begins a conversion: writes what is before the items, such as a RINEX header. The week
     /// number of a message is resolved against the reference week `r`.
     ///
     /// # Errors
     ///
-    /// `Failed` only where the output's count of faults rose, or is at its maximum; a prefix of
-    /// that text was written then.
+    /// `Failed` only if the output's count of errors rose, or is at its maximum; a prefix of that
+    /// text was written then.
     pub fn new<T: Sink>(
         alloc: Global,
         r: RefWeek,
@@ -111,10 +111,10 @@ impl StreamRun {
     ///
     /// # Errors
     ///
-    /// - `WriteFault`, `ReportFault` only where the fault count of the output or the report rose,
-    ///   or is at its maximum.
-    /// - `TooLong` only where the stream has 2^64 bytes.
-    /// - `NoMemory` when memory is missing.
+    /// - `WriteFault`, `ReportFault` only if the error count of the output or the report rose, or
+    ///   is at its maximum.
+    /// - `TooLong` only if the stream has 2^64 bytes.
+    /// - `NoMemory` if out of memory.
     ///
     /// After any of them each further call gives it again, and touches nothing.
     pub fn push<T: Sink, U: Sink>(

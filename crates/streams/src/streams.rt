@@ -13,20 +13,20 @@ use std::alloc::Global;
 
 /// Reads a stream of RTCM frames to its end, and writes what it is converted to while it reads.
 ///
-/// The frames are those of RTCM 10403.3, section 4, whatever bytes stand between them. First a
-/// RINEX header is written, where the target has one. The week number of a message 1019 or 1046 is
-/// resolved against the reference week `r`, and its ephemeris is written as soon as its frame is
-/// complete, at its first occurrence only. A refused frame gives a line of the report, with its
-/// number counted from 1, and the report ends with the counts.
+/// The frames are those of RTCM 10403.3, section 4, whatever bytes are between them. First a RINEX
+/// header is written, if the target has one. The week number of a message 1019 or 1046 is resolved
+/// against the reference week `r`, and its ephemeris is written as soon as its frame is complete,
+/// at its first occurrence only. A rejected frame gives a line of the report, with its number
+/// counted from 1, and the report ends with the counts.
 ///
 /// # Errors
 ///
-/// - `ReadFault`, `WriteFault`, `ReportFault` only where the fault count of the input, the output
-///   or the report rose, or is at its maximum. After a failed read exactly what the frames give
-///   that the bytes read decide, whatever bytes follow, was written and reported. After any fault
-///   at least what all but the last 16,384 of these bytes decide was written.
-/// - `TooLong` only where 4,294,967,295 bytes were read and there was one more.
-/// - `NoMemory` when memory is missing: 61 or 63 bytes are kept of each item, its message.
+/// - `ReadFault`, `WriteFault`, `ReportFault` only if the error count of the input, the output or
+///   the report rose, or is at its maximum. After a failed read exactly what the frames give that
+///   the bytes read decide, whatever bytes follow, was written and reported. After any error at
+///   least what all but the last 16,384 of these bytes decide was written.
+/// - `TooLong` only if 4,294,967,295 bytes were read and there was one more.
+/// - `NoMemory` if out of memory: 61 or 63 bytes are retained of each item, its message.
 pub fn run_stream<S: Source, T: Sink, U: Sink>(
     alloc: Global,
     r: RefWeek,

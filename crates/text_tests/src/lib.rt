@@ -1,5 +1,5 @@
 //! Tests of the crates that read and write texts: numbers of 19 columns, navigation files of RINEX
-//! 4 and RINEX 3, the lines of lists and reports, and the words of the command line.
+//! 4 and RINEX 3, the lines of lists and reports, and the arguments.
 //!
 //! They see what those crates hand out to everyone..
 #![tactic(auto)]

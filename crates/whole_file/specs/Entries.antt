@@ -1,11 +1,11 @@
--- The files of a folder in memory, as a list of changes, the newest first.
+-- The files of a directory in memory, as a list of changes, the newest first.
 use Rattle.std.specs.Prelude.{◌≡◌, ◌≢◌, ℕ, List, [], ◌∷◌, Option, None, Some, if◌then◌else◌, bytes_eq}
 use Rattle.std.specs.String.{string_bytes}
 use Rattle.std.specs.declared.vec.Vec.{Vec}
 use Rattle.std.specs.declared.alloc.Global.{Global}
 use Rattle.whole_file.specs.declared.entries.Entry.{Entry}
 
--- the bytes in memory, where there are any
+-- the bytes in memory, if there are any
 abbrev pub contents_of : Option (Vec ℕ Global) → Option (List ℕ)
 contents_of None = None
 contents_of (Some bytes) = Some bytes.items

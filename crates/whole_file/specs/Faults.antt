@@ -21,7 +21,7 @@ fault_of kinds.BrokenPipe = faults.ReaderGone
 fault_of kinds.OutOfMemory = faults.NoMemory
 fault_of kind = faults.Other
 
--- what an error says, where there was one of this kind
+-- what an error states, if there was one of this kind
 abbrev pub told : Option ErrorKind → Result (Unit {0}) FileFault
 told None = Ok tt
 told (Some kind) = Err (fault_of kind)

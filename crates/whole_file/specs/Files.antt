@@ -1,4 +1,5 @@
--- What calls do to the files of a folder, where it tells them: a map from each name to the bytes of its file, or none.
+-- What calls do to the files of a directory, if its contracts state them: a map from each name to
+-- the bytes of its file, or none.
 use Rattle.std.specs.Prelude.{◌≡◌, ◌≢◌, ℕ, List, [], Option, None, Some}
 
 -- every name but that of the part keeps its bytes
@@ -23,7 +24,7 @@ pub record Puts (old new : List ℕ → Option (List ℕ)) (part name bytes : Li
   pub gone : new part ≡ None
   pub others : (other : List ℕ) → other ≢ part → other ≢ name → new other ≡ old other
 
--- the name has the bytes that were written, where the folder and the writer tell them
+-- the name has the bytes that were written, if the directory and the writer state them
 abbrev pub Publishes : Option (List ℕ → Option (List ℕ)) → Option (List ℕ → Option (List ℕ)) → List ℕ → List ℕ
     → Option (List ℕ) → Type 0
 Publishes None new part name written = Unit {0}

@@ -1,4 +1,4 @@
--- The form of a file, from its first bytes.
+-- The format of a file, from its first bytes.
 use Rattle.std.specs.Prelude.{◌==◌, nat_eq, nat_lt, ◌&&◌, ℕ, Bool, true, false, if◌then◌else◌, List, [], ◌∷◌, length, take, drop, codes, slice_index, Option, None, Some, unwrap_or}
 use Rattle.std.specs.List.{starts_with}
 use Rattle.whole_file.specs.Units.{first_unit}
@@ -13,7 +13,7 @@ begins mark bytes = starts_with nat_eq bytes mark
 abbrev pub stands_at : ℕ → List ℕ → List ℕ → Bool
 stands_at place text bytes = starts_with nat_eq (drop place bytes) text
 
--- the first character that is not a blank; a blank where there is none
+-- the first character that is not a blank; a blank if there is none
 abbrev pub first_char : List ℕ → ℕ
 first_char [] = 32
 first_char (x ∷ xs) = if x == 32 then first_char xs else x
@@ -56,7 +56,7 @@ binary_kind prefix =
     else if begins (codes "PK") prefix then Zip
     else Unknown
 
--- the second kind where the first is unknown
+-- the second kind if the first is unknown
 abbrev pub or_else : Kind → Kind → Kind
 or_else Unknown kind = kind
 or_else Empty kind = Empty
@@ -77,7 +77,7 @@ or_else Compress kind = Compress
 or_else Zip kind = Zip
 or_else Marked kind = Marked
 
--- the form that these first bytes tell
+-- the format that these first bytes show
 unfoldable pub prefix_kind : List ℕ → Kind
 prefix_kind prefix = if length prefix == 0 then Empty else or_else (binary_kind prefix) (text_kind prefix)
 
@@ -94,16 +94,17 @@ is_head OtherRinex = true
 is_head Gzip = true
 is_head kind = false
 
--- the form by what the first 80 bytes tell, and by the first whole unit
+-- the format by what the first 80 bytes show, and by the first complete unit
 abbrev pub told_by : Kind → Option Kind → Kind
 told_by head unit = if is_head head then head else unwrap_or unit head
 
--- The form of a file with these bytes: that of its head; else that of the first whole unit in the first 65,536 bytes; and where there
--- is none what the first 80 bytes tell.
+-- The format of a file with these bytes: that of its head; else that of the first complete unit in
+-- the first 65,536 bytes; and if there is none what the first 80 bytes show.
 unfoldable pub kind_of : List ℕ → Kind
 kind_of bytes = told_by (prefix_kind (take 80 bytes)) (first_unit (take 65536 bytes))
 
--- the form that is named, or else the one that the first bytes tell; a capture that names its week is read as one that does
+-- the format that is named, or else the one that the first bytes show; a capture that names its
+-- week is read as one that does
 abbrev pub form_of : Option Kind → Kind → Kind
 form_of None told = told
 form_of (Some Capture1) Capture2 = Capture2

@@ -20,14 +20,14 @@ Lacks lacks (Run fault told) = lacks fault
 Lacks lacks Unnamed = ⊥
 Lacks lacks (Publish file) = ⊥
 
--- the bytes of the file of this name, where the folder tells them and it is there
+-- the bytes of the file of this name, if the directory states them and it exists
 abbrev pub bytes_of : Option (List ℕ → Option (List ℕ)) → List ℕ → Option (List ℕ)
 bytes_of None name = None
 bytes_of (Some files) name = files name
 
--- What a step comes to after a conversion has ended so, with these bytes and this count of failed writes: the output has its name;
--- or it has none, by its namer; or it was not published, for a call of the folder that failed; or it was given up, which fails
--- where a write had failed.
+-- What a step comes to after a conversion has ended so, with these bytes and this count of failed
+-- writes: the output has its name; or it has none, by its namer; or it was not published, for a
+-- call of the directory that failed; or it was given up, which fails if a write had failed.
 abbrev pub Finishes : {D E : Type 0} → (List ℕ → Option (List ℕ) → Type 0) → Type 0 → (D → List ℕ → Type 0) → Type 0 → Option (List ℕ)
     → ℕ → ℕ → ℕ → Result D E → Result (Named D) (StepFault E) → Type 0
 Finishes puts stays gives unnamed written wrote old new (Ok done) (Ok named) =

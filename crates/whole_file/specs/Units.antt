@@ -1,4 +1,4 @@
--- The first whole unit in some bytes, by which a log tells its form, wherever it was cut.
+-- The first complete unit in some bytes, by which a log is recognised, wherever it was truncated.
 use Rattle.std.specs.Prelude.{◌≡◌, ◌||◌, ℕ, nat_lt, Bool, if◌then◌else◌, List, [], ◌∷◌, ◌++◌, drop, Option, None, Some}
 use Rattle.receiver_frames.specs.Headings.{opens_by, size_by}
 use Rattle.receiver_frames.specs.SbfForm.{sbf}
@@ -7,7 +7,8 @@ use Rattle.rtcm_frame.specs.Frames.{frame_size, is_open}
 use Rattle.whole_file.specs.declared.kinds.Kind.{Kind}
 use Rattle.whole_file.specs.declared.kinds.Kind.TheVariants.{Stream, Ubx, Sbf}
 
--- the form of the whole unit that the bytes begin with: a UBX message, an SBF block or an RTCM 3 frame, of right checksum
+-- the format of the complete unit that the bytes begin with: a UBX message, an SBF block or an RTCM
+-- 3 frame, of right checksum
 abbrev pub unit_of : List ℕ → Option Kind
 unit_of bytes =
     if nat_lt 0 (size_by ubx bytes) then Some Ubx
@@ -19,16 +20,16 @@ unit_of bytes =
 abbrev pub opens_unit : List ℕ → Bool
 opens_unit bytes = opens_by ubx bytes || opens_by sbf bytes || is_open bytes
 
--- the first of two, where there is one
+-- the first of two, if there is one
 abbrev pub first_of : Option Kind → Option Kind → Option Kind
 first_of None other = other
 first_of (Some kind) other = Some kind
 
--- the form of the first whole unit: of the one that begins at the least offset
+-- the format of the first complete unit: of the one that begins at the least offset
 abbrev pub first_unit : List ℕ → Option Kind
 first_unit [] = None
 first_unit (x ∷ xs) = first_of (unit_of (x ∷ xs)) (first_unit xs)
 
--- no whole unit begins before this offset, whatever bytes follow
+-- no complete unit begins before this offset, whatever bytes follow
 abbrev pub IsPast : List ℕ → ℕ → Type 0
 IsPast bytes place = (following : List ℕ) → first_unit (bytes ++ following) ≡ first_unit (drop place bytes ++ following)

@@ -66,7 +66,7 @@ pub fn found<'a>(entries: &'a [Entry], name: &str) -> Option<&'a [u8]>
 ///
 /// # Errors
 ///
-/// `AlreadyThere` where a file has the name, or `NoMemory`.
+/// `AlreadyThere` if a file has the name, or `NoMemory`.
 pub fn begun(alloc: Global, entries: &mut Vec<Entry>, part: &str) -> Result<MemDraft, FileFault>
     ensures none { OnOk result (bytes_at entries.old.items part.now ≡ None) }
     ensures empty { IfOk result (λ draft. ⟦<WriteSink<Vec<u8>> as Sink>⟧.written draft ≡ Some []) }

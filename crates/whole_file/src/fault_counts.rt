@@ -1,4 +1,4 @@
-//! Why calls of a folder failed, and how many did.
+//! Why calls of a directory failed, and how many did.
 
 ghost use Rattle.std.specs.Prelude.{◌≡◌, ◌≤◌, ◌↔◌, ◌+◌, ◌-◌, ◌^◌, min, IsNone, IsOk};
 ghost use Rattle.nav_io.specs.Causes.{HasCause, Rose};
@@ -7,7 +7,7 @@ ghost use Rattle.whole_file.specs.Faults.{fault_of, told};
 use crate::faults::FileFault;
 use std::io::ErrorKind;
 
-/// What an error of this kind says.
+/// What an error of this kind states.
 pub fn fault_of(kind: ErrorKind) -> FileFault
     ensures { result ≡ fault_of kind }
 {
@@ -28,7 +28,7 @@ pub fn fault_of(kind: ErrorKind) -> FileFault
     }
 }
 
-/// How often a call of a folder failed: at most 2^64 - 1.
+/// How often a call of a directory failed: at most 2^64 - 1.
 #[derive(Drop)]
 pub struct Faults {
     /// The count.
@@ -36,14 +36,14 @@ pub struct Faults {
 }
 
 impl Faults {
-    /// No fault yet.
+    /// No error yet.
     pub fn none() -> Faults
         ensures { result.count ≡ 0 }
     {
         Faults { count: 0 }
     }
 
-    /// Counts a fault.
+    /// Counts an error.
     pub fn failed(&mut self, fault: FileFault) -> FileFault
         ensures same { result ≡ fault }
         ensures counts { self.new.count ≡ min (self.old.count + 1) (2 ^ 64 - 1) }
@@ -54,7 +54,7 @@ impl Faults {
         fault
     }
 
-    /// Counts a fault of this kind, where there was one.
+    /// Counts an error of this kind, if there was one.
     pub fn told(&mut self, kind: Option<ErrorKind>) -> Result<(), FileFault>
         ensures tells { result ≡ told kind }
         ensures some { IsOk result ↔ IsNone kind }

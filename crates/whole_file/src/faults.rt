@@ -1,4 +1,4 @@
-//! Why a call on a file failed, as far as a message tells it.
+//! Why a call on a file failed, as far as a message states it.
 
 /// Why a call on a file failed.
 #[derive(Clone, Copy)]
@@ -9,9 +9,9 @@ pub enum FileFault {
     AlreadyThere,
     /// The system does not allow it.
     NotAllowed,
-    /// The name is that of a folder.
+    /// The name is that of a directory.
     IsFolder,
-    /// A component of the path is not a folder.
+    /// A component of the path is not a directory.
     NoFolder,
     /// The disk is full.
     DiskFull,

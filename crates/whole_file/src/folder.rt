@@ -29,7 +29,7 @@ pub trait Folder {
         ensures fresh { IfOk result (λ input. Self.Input.faults input ≡ 0) }
         ensures cause { HasCause (faults self.old) (faults self.new) result };
 
-    /// Closes it. If a read of the input has failed, the close fails too and counts as a fault.
+    /// Closes it. If a read of the input has failed, the close fails too and counts as an error.
     fn close(&mut self, input: Self::Input) -> Result<(), FileFault>
         ensures same { files self.new ≡ files self.old }
         ensures told { Rose 0 (Self.Input.faults input) → Rose (faults self.old) (faults self.new) }
@@ -53,7 +53,7 @@ pub trait Folder {
         ensures stays { OnErr result (Stays (files self.old) (files self.new) part.now) }
         ensures cause { HasCause (faults self.old) (faults self.new) result };
 
-    /// Gives up the draft. If a write to it has failed, the call fails too and counts as a fault.
+    /// Gives up the draft. If a write to it has failed, the call fails too and counts as an error.
     fn discard(&mut self, draft: Self::Draft, part: &str) -> Result<(), FileFault>
         ensures stays { Stays (files self.old) (files self.new) part.now }
         ensures told { Rose 0 (Self.Draft.faults draft) → Rose (faults self.old) (faults self.new) }

@@ -13,7 +13,7 @@ use std::io::{ErrorKind, Write};
 pub const GATHERED: usize = 65_536;
 
 /// A buffered sink over a writer, which writes 65,536 bytes at a time. Its known bytes are those
-/// that the writer tells, and then those in the buffer.
+/// that the writer states, and then those in the buffer.
 #[derive(Drop)]
 pub struct Gathered<W: Write> {
     output: WriteSink<W>,
@@ -26,8 +26,8 @@ pub struct Gathered<W: Write> {
 }
 
 impl<W: Write> Gathered<W> {
-    /// A sink over this writer with this buffer, which is empty and has room for 65,536 bytes. Its
-    /// fault count is 0.
+    /// A sink over this writer with this buffer, which is empty and holds 65,536 bytes. Its error
+    /// count is 0.
     pub fn new(kept: Vec<u8>, writer: W) -> Gathered<W>
         requires empty { kept.items ≡ [] }
         requires room { 65536 ≤ vec_capacity kept }
@@ -41,7 +41,7 @@ impl<W: Write> Gathered<W> {
         }
     }
 
-    /// The writer, after the buffer was written; the sink itself where a write of it has failed, or
+    /// The writer, after the buffer was written; the sink itself if a write of it has failed, or
     /// fails now.
     pub fn finish(self) -> Result<W, Gathered<W>>
         // No byte is lost between the sink and the writer.
@@ -68,7 +68,7 @@ impl<W: Write> Gathered<W> {
         Ok(output.into_writer())
     }
 
-    /// The kind of the last fault, if any.
+    /// The kind of the last error, if any.
     pub fn fault(&self) -> Option<ErrorKind>
         ensures { IsNone result ↔ (⟦<Gathered<W> as Sink>⟧.faults self.now ≡ 0) }
     {
@@ -119,8 +119,8 @@ impl<W: Write> Sink for Gathered<W> {
 
     ghost faults = { λ s. ⟦<WriteSink<W> as Sink>⟧.faults s.output };
 
-    /// Buffers the piece, and first writes the buffer where there is no room for both. A piece
-    /// longer than the buffer is written at once.
+    /// Buffers the piece, and first writes the buffer if both do not fit. A piece longer than the
+    /// buffer is written at once.
     fn write(&mut self, piece: &[u8]) -> Result<(), Failed> {
         if piece.len() <= GATHERED - self.kept.len() {
             return self.keep(piece);

@@ -16,7 +16,7 @@ use std::os::unix::fs::{MetadataExt, chown};
 use std::rt::Files;
 use std::{fs, io};
 
-/// The files of the system, or simulated ones in a test. It tells none of their bytes.
+/// The files of the system, or simulated ones in a test. Its contracts state none of their bytes.
 #[derive(Drop)]
 pub struct HostFolder<'a, R: Files> {
     alloc: Global,
@@ -26,14 +26,15 @@ pub struct HostFolder<'a, R: Files> {
 }
 
 impl<'a, R: Files> HostFolder<'a, R> {
-    /// A folder with a fault count of 0, in which an output replaces the file of its name.
+    /// A directory with an error count of 0, in which an output replaces the file of its name.
     pub fn new(alloc: Global, files: &'a R) -> HostFolder<'a, R>
         ensures { ⟦<HostFolder<'a, R> as Folder>⟧.faults result ≡ 0 }
     {
         HostFolder::with(alloc, files, true)
     }
 
-    /// A folder with a fault count of 0, in which an output replaces the file of its name or not.
+    /// A directory with an error count of 0, in which an output replaces the file of its name or
+    /// not.
     pub fn with(alloc: Global, files: &'a R, replaces: bool) -> HostFolder<'a, R>
         ensures { ⟦<HostFolder<'a, R> as Folder>⟧.faults result ≡ 0 }
     {
@@ -45,7 +46,7 @@ impl<'a, R: Files> HostFolder<'a, R> {
         }
     }
 
-    /// Counts a fault of a call that was made beside it.
+    /// Counts an error of another call.
     pub fn failed(&mut self, fault: FileFault) -> FileFault
         ensures same { result ≡ fault }
         ensures counts { ⟦<HostFolder<'a, R> as Folder>⟧.faults self.new
@@ -58,7 +59,7 @@ impl<'a, R: Files> HostFolder<'a, R> {
         self.faults.failed(fault)
     }
 
-    /// Counts a fault of this kind of a call that was made beside it, where there was one.
+    /// Counts an error of this kind of another call, if there was one.
     pub fn told(&mut self, kind: Option<ErrorKind>) -> Result<(), FileFault>
         ensures tells { result ≡ told kind }
         ensures some { IsOk result ↔ IsNone kind }
@@ -88,7 +89,7 @@ impl<R: Files> Folder for HostFolder<'_, R> {
         }
     }
 
-    /// Returns the last fault of a read, if any.
+    /// Returns the last error of a read, if any.
     fn close(&mut self, input: ReadSource<R::File>) -> Result<(), FileFault> {
         self.faults.told(input.fault())
     }
@@ -101,9 +102,9 @@ impl<R: Files> Folder for HostFolder<'_, R> {
         }
     }
 
-    /// Writes the buffer, syncs the file, and renames it. A file that is replaced keeps its mode and,
-    /// where the system allows it, its owner; where none is to be replaced and one has the name by
-    /// now, it is `AlreadyThere`. The part is removed where one of these fails.
+    /// Writes the buffer, syncs the file, and renames it. A file that is replaced keeps its mode
+    /// and, if the system allows it, its owner; if none is to be replaced and one has the name by
+    /// now, it is `AlreadyThere`. The part is removed if one of these fails.
     fn publish(
         &mut self,
         draft: Gathered<R::File>,
@@ -117,7 +118,7 @@ impl<R: Files> Folder for HostFolder<'_, R> {
         self.faults.told(fault)
     }
 
-    /// Removes the part, and returns the last fault of a write, if any, or why the part could not
+    /// Removes the part, and returns the last error of a write, if any, or why the part could not
     /// be removed.
     fn discard(&mut self, draft: Gathered<R::File>, part: &str) -> Result<(), FileFault> {
         let removed = removed(self.files, part);

@@ -1,4 +1,4 @@
-//! The form of a file, told by its first bytes.
+//! The format of a file, recognised by its first bytes.
 
 ghost use Rattle.std.specs.Prelude.{◌≡◌, ◌≤◌, ◌++◌, ℕ, List, length, take, drop, nat_eq, nat_lt};
 ghost use Rattle.std.specs.Prelude.{IfSome};
@@ -9,13 +9,13 @@ ghost use Rattle.whole_file.specs.Kinds.{rinex_kind, version_of, first_char, sta
 
 use crate::units::find_unit;
 
-/// How many bytes of a file are looked at for its form, at most.
+/// How many bytes of a file are looked at for its format, at most.
 pub const LOOKED_AT: usize = 65_536;
 
 // How many bytes tell a head: the first line of a RINEX file.
 const HEAD: usize = 80;
 
-/// The form of a file.
+/// The format of a file.
 #[derive(Clone, Copy)]
 pub enum Kind {
     /// No byte.
@@ -56,9 +56,9 @@ pub enum Kind {
     Unknown,
 }
 
-/// The form of a file that begins with these bytes: that of its head, a capture, a file of RINEX or
-/// one compressed by gzip; else that of the first whole unit in its first 65,536 bytes, a UBX
-/// message, an SBF block or an RTCM 3 frame of right checksum; else what the first 80 bytes tell.
+/// The format of a file that begins with these bytes: that of its head, a capture, a file of RINEX
+/// or one compressed by gzip; else that of the first complete unit in its first 65,536 bytes, a UBX
+/// message, an SBF block or an RTCM 3 frame of right checksum; else what the first 80 bytes show.
 #[tactic(auto, using(std::proofs::lemmas::List::take_min), unfolding(crate::specs::Kinds::kind_of))]
 pub fn kind_of(bytes: &[u8]) -> Kind
     ensures { result ≡ kind_of bytes.now }
@@ -71,8 +71,8 @@ pub fn kind_of(bytes: &[u8]) -> Kind
     find_unit(first, 0, false).1.unwrap_or(head)
 }
 
-/// The form of a file that begins with these bytes, where they decide it, whatever bytes follow. No
-/// whole unit begins before `place`, which is moved on: each place is looked at once.
+/// The format of a file that begins with these bytes, if they decide it, whatever bytes follow. No
+/// complete unit begins before `place`, which is moved on: each place is looked at once.
 pub fn kind_so_far(prefix: &[u8], place: &mut usize) -> Option<Kind>
     requires few { length prefix.now ≤ 65536 }
     requires within { place.old ≤ length prefix.now }

@@ -1,23 +1,23 @@
-//! From one file to another: afterwards the output's name has the whole output for the bytes
-//! of the input, or every name is as it was.
+//! From one file to another: afterwards the output's name has the complete output for the bytes of
+//! the input, or every name is as it was.
 //!
-//! - [`kind_of`], the form of a file: that of its first line or signature, or else of the
-//!   first whole unit in its first 65,536 bytes: a UBX message, an SBF block or an RTCM 3
-//!   frame of right checksum. These bytes tell the same form as the whole file
+//! - [`kind_of`], the format of a file: that of its first line or signature, or else of the first
+//!   complete unit in its first 65,536 bytes: a UBX message, an SBF block or an RTCM 3 frame of
+//!   right checksum. These bytes show the same format as the complete file
 //!   ([`first_bytes_decide`]);
-//! - [`look`], the form of a source, of which no more is looked at than decides it, and
-//!   [`form_of`], the form under which it is read;
+//! - [`look`], the format of a source, of which no more is looked at than decides it, and
+//!   [`form_of`], the format under which it is read;
 //! - [`Folder`], where files are read and written, and [`FileFault`], why a call of it failed:
-//!   [`HostFolder`], the files of the system, and [`MemFolder`], a folder in memory, which
-//!   tells the bytes of each of its files;
+//!   [`HostFolder`], the files of the system, and [`MemFolder`], a directory in memory, whose
+//!   contracts state the bytes of each of its files;
 //! - [`Conversion`], a conversion from the bytes of one file to those of another, and
 //!   [`Namer`], which names its output by what it has counted; [`Given`] is a name that was
 //!   known before;
 //! - [`put_output`], which writes an output as a part, and gives it its name once it is
 //!   complete;
-//! - [`Peeked`], a source whose first bytes can be looked at, which gives them again, and then
-//!   what follows, so that a pipe can be looked at like a file; and [`Counted`], which counts
-//!   the bytes that are read and tells a [`Progress`];
+//! - [`Peeked`], a source whose first bytes can be looked at, which gives them again, and then what
+//!   follows, so that a pipe can be looked at like a file; and [`Counted`], which counts the bytes
+//!   that are read and notifies a [`Progress`];
 //! - [`Gathered`], a sink that gathers what is written to a file.
 //!
 //! ```rust

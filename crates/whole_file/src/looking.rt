@@ -1,4 +1,4 @@
-//! A source whose first bytes are looked at, for its form.
+//! A source whose first bytes are looked at, for its format.
 
 ghost use Rattle.std.specs.Prelude.{◌≡◌, ◌⊎◌, [], IfErr, IfOk, IfSome, OnOk};
 ghost use Rattle.std.specs.Io.KnownBytes.{Keeps};
@@ -10,9 +10,9 @@ use crate::laws::first_bytes_decide;
 use crate::peeked::{PeekFault, Peeked};
 use nav_io::Source;
 
-/// Looks at an input that was not looked at, and tells the form under which it is read: that which
-/// is named, or else that of its bytes, in whatever pieces they come. It waits for no more bytes
-/// than decide that.
+/// Looks at an input that was not looked at, and returns the format under which it is read: that
+/// which is named, or else that of its bytes, in whatever pieces they come. It waits for no more
+/// bytes than decide that.
 ///
 /// # Errors
 ///
@@ -41,8 +41,8 @@ pub fn look<S: Source>(named: Option<Kind>, input: &mut Peeked<S>) -> Result<Kin
     Ok(form_of(named, kind_of(input.prefix())))
 }
 
-/// The form under which a file is read: that which is named, or else the one that it tells. A
-/// capture that names its week is read as one that does.
+/// The format under which a file is read: that which is named, or else the one that is recognised.
+/// A capture that names its week is read as one that does.
 pub fn form_of(named: Option<Kind>, told: Kind) -> Kind
     ensures { result ≡ form_of named told }
 {

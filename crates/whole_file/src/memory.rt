@@ -1,4 +1,4 @@
-//! A folder in memory.
+//! A directory in memory.
 
 ghost use Rattle.std.specs.Prelude.{◌≡◌, Some};
 ghost use Rattle.std.specs.Prelude.{OnOk, IfOk, []};
@@ -17,7 +17,7 @@ use std::io::Cursor;
 /// A file in memory that is read.
 pub type MemInput = ReadSource<Cursor<Vec<u8>>>;
 
-/// A folder in memory. Its calls fail only for want of memory, or where `Folder` requires it.
+/// A directory in memory. Its calls fail only if out of memory, or if `Folder` requires it.
 #[derive(Drop)]
 pub struct MemFolder {
     alloc: Global,
@@ -27,7 +27,7 @@ pub struct MemFolder {
 }
 
 impl MemFolder {
-    /// An empty folder, with a fault count of 0.
+    /// An empty directory, with an error count of 0.
     pub fn new(alloc: Global) -> MemFolder
         ensures files { result.entries.items ≡ [] }
         ensures faults { ⟦<MemFolder as Folder>⟧.faults result ≡ 0 }
@@ -79,7 +79,7 @@ impl Folder for MemFolder {
         }
     }
 
-    /// Returns the last fault of a read, if any.
+    /// Returns the last error of a read, if any.
     fn close(&mut self, input: MemInput) -> Result<(), FileFault> {
         self.faults.told(input.fault())
     }

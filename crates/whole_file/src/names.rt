@@ -19,7 +19,7 @@ pub trait Namer<D> {
     ///
     /// # Errors
     ///
-    /// It has no name, or may not have it, which counts one fault.
+    /// It has no name, or may not have it, which counts one error.
     fn name(&mut self, done: &D, part: &str) -> Result<String, Failed>
         ensures gives { IfOk result (λ name. gives self.old done.now (string_bytes name)) }
         ensures apart { IfOk result (λ name. string_bytes name ≢ part.now) }

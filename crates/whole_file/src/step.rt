@@ -68,9 +68,9 @@ pub struct Named<D: Drop> {
 pub enum StepFault<E> {
     /// The part could not be created.
     Begin(FileFault),
-    /// The conversion broke off, and the part was given up: the folder's result of that.
+    /// The conversion broke off, and the part was given up: the directory's result of that.
     Run(E, Result<(), FileFault>),
-    /// It has no name, or may not have it: the namer tells why.
+    /// It has no name, or may not have it: the namer reports why.
     Unnamed,
     /// The output was not fully written, or did not get its name.
     Publish(FileFault),
@@ -80,7 +80,7 @@ pub enum StepFault<E> {
 ///
 /// # Errors
 ///
-/// Every name is as it was, and the part is removed where the folder can remove it.
+/// Every name is as it was, and the part is removed if the directory can remove it.
 pub fn put_output<F: Folder, S: Source, C: Conversion, A: Namer<C::Done>>(
     folder: &mut F,
     conversion: &mut C,

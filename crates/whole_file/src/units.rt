@@ -1,4 +1,5 @@
-//! The first whole unit in the beginning of a file: a UBX message, an SBF block or an RTCM 3 frame.
+//! The first complete unit in the beginning of a file: a UBX message, an SBF block or an RTCM 3
+//! frame.
 
 ghost use Rattle.std.specs.Prelude.{◌≡◌, ℕ, ◌+◌, ◌<◌, ◌≤◌};
 ghost use Rattle.std.specs.Prelude.{List, [], ◌++◌, ◌&&◌, length, drop, slice_index, nat_lt};
