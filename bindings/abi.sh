@@ -93,7 +93,17 @@ rows=../../crates/nav_rows/src
   printf 'static const struct {\n    uint32_t message;\n    const char *names[NB_COLUMNS_MOST];\n} rows[] = {\n'
   sed -n 's/^ *table: message!(FIELDS_\([0-9]*\), .*/\1/p; s/^ *links: &\([A-Z0-9_]*\),/\1/p' "$rows/kind.rt" | paste - - | sort | while read -r message links; do
     printf '    {%s,\n     {' "$message"
-    sed -n "/^pub const $links:/,/^];/s,^ .* // \([a-z_0-9]*\).*,\"\1\",p" "$rows/links.rt" | paste -s -d , | sed 's/,/, /g; s/$/}},/' | fold -s -w 120 | sed 's/ *$//; 2,$s/^/      /'
+    # the columns of an orbit are those of a macro, which is given the field of the first
+    awk -v links="$links" '
+      /^macro_rules! with_orbit/ { macro = 1 }
+      $1 == "pub" && $3 == links ":" { list = 1 }
+      (macro || list) && match($0, /\/\/ [a-z_0-9]+/) {
+        name = substr($0, RSTART + 3, RLENGTH - 3)
+        if (macro) orbit[++count] = name
+        else if ($1 ~ /^[0-9]+,$/) for (i = 1; i <= count; i++) print "\"" orbit[i] "\""
+        else print "\"" name "\""
+      }
+      /^[])}]/ { macro = list = 0 }' "$rows/links.rt" | paste -s -d , | sed 's/,/, /g; s/$/}},/' | fold -s -w 120 | sed 's/ *$//; 2,$s/^/      /'
   done
   printf '};\n\nconst char *nb_row_name(const nb_row *row, uint32_t index) {\n    size_t i;\n'
   printf '    for (i = 0; i < sizeof rows / sizeof *rows; i++)\n'
