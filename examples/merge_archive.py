@@ -88,6 +88,7 @@ OUTCOMES = {
     "rejected": ("makes `navbridge` alone exit with another status than 0", "none"),
 }
 READS = tuple(it for it, (_, merged) in OUTCOMES.items() if merged != "none")
+STOPS = (signal.SIGTERM, signal.SIGINT)  # what ends a run
 # outcomes that are known before a file is opened; what is left out is no file, and no fault
 UNOPENED = ("missing", "unreadable", "no file", "unfinished", "left out")
 
@@ -837,10 +838,12 @@ class Tool:
         while todo or self.children:
             while todo and len(self.children) < self.args.jobs:
                 number, files = todo.pop(0)
+                signal.pthread_sigmask(signal.SIG_BLOCK, STOPS)  # until the child has handlers of its own
                 child = os.fork()
                 if child == 0:
                     signal.signal(signal.SIGTERM, signal.SIG_DFL)
                     signal.signal(signal.SIGINT, signal.SIG_DFL)
+                    signal.pthread_sigmask(signal.SIG_UNBLOCK, STOPS)
                     status = 3
                     try:
                         self.worker(number, files)
@@ -850,6 +853,7 @@ class Tool:
                     finally:
                         os._exit(status)
                 self.children[child] = len(files)
+                signal.pthread_sigmask(signal.SIG_UNBLOCK, STOPS)
             child, status = os.wait()
             done += self.children.pop(child, 0)
             if status:

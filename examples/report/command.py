@@ -174,6 +174,8 @@ def main(arguments):
     finally:
         if work:
             shutil.rmtree(work, ignore_errors=True)
+    for row in report["files_not_read"]:
+        print(f"navreport: {row['file']}: {'; '.join([row['outcome'], *row['notes']])}", file=sys.stderr)
     if not args.quiet:
         print(summary(report), flush=True)
     return 0 if all(row["outcome"] == "read" for row in report["file_rows"]) else 1

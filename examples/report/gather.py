@@ -218,6 +218,16 @@ def begin_worker():
     """A worker ends when it is told to, and leaves an interrupt to the process that started it."""
     signal.signal(signal.SIGTERM, signal.SIG_DFL)
     signal.signal(signal.SIGINT, signal.SIG_IGN)
+    signal.pthread_sigmask(signal.SIG_UNBLOCK, merge.STOPS)
+
+
+def workers(jobs):
+    """A pool of processes. Signals wait until a worker has handlers of its own: before, Python's own work after a fork swallows them."""
+    signal.pthread_sigmask(signal.SIG_BLOCK, merge.STOPS)
+    try:
+        return multiprocessing.get_context("fork").Pool(jobs, begin_worker)
+    finally:
+        signal.pthread_sigmask(signal.SIG_UNBLOCK, merge.STOPS)
 
 
 def second_look(tool, rows, epochs, texts, work):
@@ -235,7 +245,7 @@ def second_look(tool, rows, epochs, texts, work):
              for number, row in enumerate(rows) if row["outcome"] in merge.READS]
     producers, rejected, versions = {}, [], []
     chunks = [files[at:at + 64] for at in range(0, len(files), 64)]
-    with multiprocessing.get_context("fork").Pool(tool.args.jobs, begin_worker) as pool:
+    with workers(tool.args.jobs) as pool:
         for some, of_records, of_versions in pool.imap_unordered(look_again, chunks):
             producers.update((number, (program, agency)) for number, program, agency in some)
             rejected += of_records
