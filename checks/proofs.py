@@ -14,10 +14,6 @@ import re
 import sys
 from pathlib import Path
 
-# Citations past a Surface that are known: a Surface gets these names with the next change of its crate, since a change of it
-# proves all crates above anew.
-KNOWN = {("c_rows", "c_messages", "Lengths"), ("nav_rows", "rinex_write", "ItemFields")}
-
 USE = re.compile(r"^(?:ghost )?(?:pub )?use Rattle\.(\w+)\.(specs|proofs)\.([\w.]+)\.\{([^}]*)\}", re.M)
 PASSED_ON = re.compile(r"^pub use [\w.]+\.\{([^}]*)\}", re.M)
 DECLARED = re.compile(r"^(?:abbrev |unfoldable |opaque |infix\w* \d+ )*pub (?:record |inductive )?([^\s:({]+)", re.M)
@@ -86,7 +82,7 @@ def main():
                     wrong += 1
                     print(f"{where} is not there")
                     continue
-                if module != "Surface" and (crate, other, module) not in KNOWN:
+                if module != "Surface":
                     wrong += 1
                     print(f"{where} is cited, and not its Surface")
                 for name in names_in(listed):

@@ -7,3 +7,4 @@ mod RecordsAgain
 mod RecordCuts
 mod SameHeader
 mod HeaderLabels
+pub mod Surface

@@ -13,7 +13,7 @@ use Rattle.rinex_write.specs.Texts.{date_text, text_of}
 use Rattle.nav_rows.specs.Kinds.{IsKind}
 use Rattle.nav_rows.specs.Rows.{RowValue, record_kind, record_text}
 use Rattle.nav_rows.specs.declared.kind.Kind.{Kind}
-use Rattle.c_messages.proofs.Lengths.{length-date, length-digits, length-rows, never_full, rows_size}
+use Rattle.c_messages.proofs.Surface.{length-date, length-digits, length-rows, never_full, rows_size}
 
 -- room for the lines of columns cut into rows
 split_size : (ns : List ℕ) (cs : List Column) → sum ns ≡ length cs → rows_size (split_rows ns cs) ≡ 5 * length ns + 19 * length cs

@@ -13,7 +13,7 @@ use nav_io::{Failed, MemSource, Sink};
 use one_run::BridgeFault;
 use std::alloc::Global;
 
-// Writes a text by one write.
+// Writes a text.
 pub(crate) fn write_text<T: Sink>(text: &[u8], output: &mut T) -> Result<SeedCounts, BridgeFault>
     ensures { WritesText text.now (T.written output.old) (T.written output.new)
         (faults_of 0 (T.faults output.old) 0) (faults_of 0 (T.faults output.new) 0) result }

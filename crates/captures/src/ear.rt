@@ -29,7 +29,7 @@ use rtcm_eph::{MessageParts, message_parts, read_message};
 use rtcm_frame::frame_of;
 use slot_assembly::{Assembly, SlotAssembly};
 
-// Writes a line of the report, by one write.
+// Writes a line of the report.
 fn write_line<U: Sink>(line: &[u8], report: &mut U) -> Result<(), BridgeFault>
     ensures text { OnOk result
         (Appends (U.written report.old) (U.written report.new) line.now) }

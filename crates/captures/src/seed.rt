@@ -16,7 +16,7 @@ use std::alloc::Global;
 /// Makes the capture of a seed, for `sats` satellites of each system in this week, and writes it,
 /// or counts it as a run over that capture does.
 ///
-/// The capture is written by one write, and nothing is reported of it. With the counts, the report
+/// Nothing is reported of the capture. With the counts, the report
 /// has a line for each refusal in the capture, and then the counts. The result is the number of
 /// bytes of the capture, or its counts.
 ///

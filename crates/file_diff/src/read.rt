@@ -175,7 +175,7 @@ fn read_records<F: FileForm, S: Source>(
     }
 }
 
-/// Reads a navigation file of a form to its end, and puts its items into a set, which is empty
+/// Reads a navigation file of one format to its end, and puts its items into a set, which is empty
 /// before: all of them, or the ephemerides alone. The counts are those of its records.
 ///
 /// # Errors

@@ -63,7 +63,7 @@ impl<'a> Walk<'a> {
     }
 }
 
-/// Writes the lines of the differences of two files, and tells whether there is none.
+/// Writes the lines of the differences of two files, and returns whether there is none.
 ///
 /// # Errors
 ///

@@ -26,7 +26,7 @@ use Rattle.rinex_write.specs.declared.columns.Column.{Column}
 use Rattle.rinex_write.specs.Columns.{IsField, AreFields, joined_rows}
 use Rattle.rinex_write.specs.RowTexts.{split_rows}
 use Rattle.rinex_write.specs.Mirrors.{IsSmall, IsKept, AreKept, AreReady}
-use Rattle.rinex_write.proofs.ItemFields.{kept_ready}
+use Rattle.rinex_write.proofs.Surface.{kept_ready}
 use Rattle.nav_rows.specs.declared.kind.Clock.{Clock}
 use Rattle.nav_rows.specs.declared.kind.Kind.{Kind}
 use Rattle.nav_rows.specs.declared.times.RowTimes.{RowTimes}

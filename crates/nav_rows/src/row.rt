@@ -94,7 +94,7 @@ pub fn row_of_message(kind: &Kind, payload: &[u8], reference: RefWeek) -> Result
     })
 }
 
-/// Appends the record of a row to a sink, by one write.
+/// Appends the record of a row to a sink.
 ///
 /// # Errors
 ///

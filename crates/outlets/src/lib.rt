@@ -1,7 +1,7 @@
 //! The output of items and periods, in each format that a run writes.
 //!
-//! A [`Target`] is the format. It writes a first text, one for each item or period, and a last one,
-//! each by one write; no memory is allocated. `specs/Targets.antt` has the texts. [`Times`] are the
+//! A [`Target`] is the format. It writes a first text, one for each item or period, and a last one;
+//! no memory is allocated. `specs/Targets.antt` has the texts. [`Times`] are the
 //! first and the last epoch of what is written.
 //!
 //! ```rust

@@ -1,4 +1,4 @@
-//! The output of items and periods: a first text, one for each, and a last one, each by one write.
+//! The output of items and periods: a first text, one for each, and a last one.
 
 ghost use Rattle.nav_io.specs.Writes.{Writes};
 ghost use Rattle.outlets.specs.Targets.{back_text, prefix_text, item_text, period_text};

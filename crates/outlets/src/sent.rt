@@ -11,7 +11,7 @@ use nav_io::{Failed, Sink};
 use rtcm_eph::{write_1019, write_1046};
 use rtcm_frame::write_frame;
 
-/// Appends the frame of an ephemeris to a sink, by one write: message 1019 or 1046 (RTCM 10403.3,
+/// Appends the frame of an ephemeris to a sink: message 1019 or 1046 (RTCM 10403.3,
 /// 3.5). For ionosphere parameters nothing is written.
 #[tactic(auto, unfolding(crate::specs::ItemTexts::rtcm_item))]
 pub fn write_message<T: Sink>(item: &NavItem, out: &mut T) -> Result<(), Failed>
@@ -25,7 +25,7 @@ pub fn write_message<T: Sink>(item: &NavItem, out: &mut T) -> Result<(), Failed>
     }
 }
 
-// Appends the frame of a payload, by one write.
+// Appends the frame of a payload.
 fn write_payload<T: Sink>(payload: &[u8], out: &mut T) -> Result<(), Failed>
     requires { length payload.now ≤ 1023 }
     ensures { Writes (T.written out.old) (T.written out.new) (T.faults out.old) (T.faults out.new)

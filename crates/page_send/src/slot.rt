@@ -121,7 +121,7 @@ fn slot_lines(stamp: u32, item: &NavItem) -> SlotText
     text
 }
 
-/// Writes the lines of an ephemeris in its slot, by one write. Slot `slot` begins at time tag
+/// Writes the lines of an ephemeris in its slot. Slot `slot` begins at time tag
 /// 21,600 times its number.
 ///
 /// GPS: subframes 1, 2 and 3, one every six seconds; subframe 1 begins at toe rounded down to a

@@ -42,8 +42,8 @@ fn header_text(version: &[u8; 9], words: &HeaderWords) -> Record
     text
 }
 
-/// Appends the header of a navigation file to a sink, by one write (RINEX 4.01, table A2; RINEX
-/// 3.05, table A5). `version` is the text of columns 1-9, as `     4.01`.
+/// Appends the header of a navigation file to a sink (RINEX 4.01, table A2; RINEX 3.05, table A5).
+/// `version` is the text of columns 1-9, as `     4.01`.
 ///
 /// # Errors
 ///
@@ -60,7 +60,7 @@ pub fn write_header_of<T: Sink>(
     out.write(&header_text(version, words))
 }
 
-/// Appends the header of a navigation file of version 4.01 to a sink, by one write (RINEX 4.01,
+/// Appends the header of a navigation file of version 4.01 to a sink (RINEX 4.01,
 /// table A2).
 ///
 /// # Errors

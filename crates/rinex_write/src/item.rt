@@ -211,7 +211,7 @@ fn append_item(text: &mut Record, item: &NavItem)
     }
 }
 
-/// Appends the record of an item to a sink, by one write: its title, as `> EPH G05 LNAV`, and the
+/// Appends the record of an item to a sink: its title, as `> EPH G05 LNAV`, and the
 /// lines of its numbers (RINEX 4.01, GPS LNAV and Galileo INAV navigation records).
 ///
 /// Angles are written in radians, times in seconds, lengths in metres, accuracies in metres by
@@ -244,7 +244,7 @@ fn append_titled(text: &mut Record, item: &NavItem)
     append_item(text, item);
 }
 
-/// Appends the record of an item without its title line to a sink, by one write: the record as in
+/// Appends the record of an item without its title line to a sink: the record as in
 /// RINEX 3 (RINEX 3.05, GPS and Galileo navigation message files). The lines are those of
 /// [`write_item`].
 ///

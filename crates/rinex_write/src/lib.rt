@@ -2,8 +2,7 @@
 //!
 //! [`write_header`] and [`write_item`] append a header, and the record of an ephemeris or of
 //! ionosphere parameters, to a [`Sink`](nav_io::Sink): complete, or a prefix of it if the sink
-//! failed. A text is built in a buffer of fixed size and handed over by one write; no memory is
-//! allocated.
+//! failed. A text is built in a buffer of fixed size; no memory is allocated.
 //!
 //! [`write_header3`] and [`write_item3`] do the same for version 3.05, which has no ionosphere
 //! record.

@@ -79,7 +79,7 @@ fn append_row_record(
     append_table(text, layout, fields);
 }
 
-/// Appends the record of a row to a sink, by one write.
+/// Appends the record of a row to a sink.
 ///
 /// # Errors
 ///

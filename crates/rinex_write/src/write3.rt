@@ -10,7 +10,7 @@ use crate::words::HeaderWords;
 use nav_eph::NavItem;
 use nav_io::{Failed, Sink};
 
-/// Appends the header of a navigation file of version 3.05 to a sink, by one write (RINEX 3.05,
+/// Appends the header of a navigation file of version 3.05 to a sink (RINEX 3.05,
 /// table A5).
 ///
 /// # Errors
@@ -24,7 +24,7 @@ pub fn write_header3<T: Sink>(words: &HeaderWords, out: &mut T) -> Result<(), Fa
     write_header_of(b"     3.05", words, out)
 }
 
-/// Appends the record of an ephemeris to a sink, by one write: the lines of its numbers, the first
+/// Appends the record of an ephemeris to a sink: the lines of its numbers, the first
 /// beginning with the satellite (RINEX 3.05, tables A6 and A8). For ionosphere parameters nothing
 /// is written.
 ///

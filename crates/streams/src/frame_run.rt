@@ -155,7 +155,7 @@ fn gather<T: Sink>(line: &FrameLine, lines: &mut Gathered, output: &mut T) -> Re
     Ok(())
 }
 
-// Writes the lines of the decided frames, several by one write.
+// Writes the lines of the decided frames.
 fn process_frames<T: Sink>(
     deframer: &mut Deframer,
     output: &mut T,
