@@ -467,6 +467,8 @@ static void rows(run *it, uint32_t call) {
             size_t used;
             PROMISE(row->count <= NB_COLUMNS_MOST && nb_row_rinex(row, text, sizeof text, &used) == NB_OK && used < sizeof text);
             PROMISE(text[6] == row->letter && nb_row_name(row, row->count - 1)[0] != 0 && nb_row_name(row, row->count)[0] == 0);
+            status = nb_row_message(row, text, sizeof text, &used);
+            PROMISE(is_one_of(status, "OK BAD_SENT BAD_DAY RECORD_WEEK RECORD_STEP RECORD_FAR") && nb_is_frame(text, used) == (status == NB_OK));
         }
         it->row = *row;
     } else if (call == 38) {
@@ -475,9 +477,10 @@ static void rows(run *it, uint32_t call) {
         size_t used = 77;
         const uint32_t value = four(it);
         memcpy((uint8_t *)row + index * 4 % (sizeof *row - 4), &value, byte(it) % 2 ? sizeof value : 0);
-        status = nb_row_rinex(row, to, room, &used);
+        status = byte(it) % 2 ? nb_row_rinex(row, to, room, &used) : nb_row_message(row, to, room, &used);
         got(it, call, status);
-        PROMISE(is_one_of(status, "OK NO_ITEM") && kept(it, 2, to, room, status == NB_OK ? used : 0) && (status == NB_OK) == (used > 0));
+        PROMISE(is_one_of(status, "OK NO_ITEM BAD_SENT BAD_DAY BAD_SATELLITE BAD_FIELD SPARE_SISA RECORD_WEEK RECORD_STEP RECORD_FAR"));
+        PROMISE(kept(it, 2, to, room, status == NB_OK ? used : 0) && (status == NB_OK) == (used > 0));
     } else {
         nb_column *column = (nb_column *)(void *)lent(it, 2, NULL, sizeof *column);
         status = nb_row_column(row, index, column);

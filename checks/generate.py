@@ -55,7 +55,7 @@ def read(path):
 
 
 def first_sentence(text):
-    text = re.sub(r"\[(`[^`]*`)\](\([^)]*\))?", r"\1", " ".join(text.split()))
+    text = re.sub(r"\[`(?:crate::)?([^`]*`)\](\([^)]*\))?", r"`\1", " ".join(text.split()))
     found = re.match(r".*?[^.\d][.:](?= [A-Z`]| ?$)", text + " ")
     return (found[0] if found else text).rstrip(".: ").replace("|", "\\|")
 

@@ -58,7 +58,8 @@ typedef enum nb_status {
     NB_NO_FRAME = 26,      /**< the bytes are not one complete frame with a right checksum */
     NB_NO_HEADER = 27,     /**< the date of the header has control characters, or the leap seconds are 100 or more */
     NB_BAD_FIELD = 28,     /**< a field of the message is out of its range */
-    NB_BAD_DAY = 29,       /**< the day number of the message is that of no day near the reference week */
+    NB_BAD_DAY = 29,       /**< the day number of the message is of no day near the reference week, or the row's day has none */
+    NB_BAD_SENT = 30,      /**< the transmission time of the row is no half minute within twelve hours of its epoch */
 
     NB_RECORD_SATELLITE = 32,   /**< the record has no satellite of its system, or two */
     NB_RECORD_SHORT = 33,       /**< the record ends before the last line of its kind */
@@ -417,6 +418,15 @@ typedef struct nb_column {
 nb_status nb_row_from_message(const uint8_t *payload, size_t n, uint32_t week, nb_row *row);
 
 /**
+ * @brief Makes the frame of the message of a row: 51 to 70 bytes. Reserved bits are 0; message 1020 has no additional data.
+ * @param used set to its size, which may be more than the buffer: the prefix that fits is written
+ * @return NB_OK; NB_NO_ITEM as nb_row_rinex(); or the first that applies of NB_RECORD_WEEK, NB_RECORD_STEP and NB_RECORD_FAR, by its epoch;
+ *         NB_BAD_SENT and NB_BAD_DAY, for message 1020; NB_BAD_SATELLITE or NB_BAD_FIELD for the first field whose number is out of its
+ *         range; NB_SPARE_SISA. Without NB_OK nothing is written, and the size is 0
+ */
+nb_status nb_row_message(const nb_row *row, uint8_t *frame, size_t room, size_t *used);
+
+/**
  * @brief Writes the record of a row, of RINEX 4.01: its lines, each with LF.
  * @param used set to its length, at most 704 bytes, which may be more than the buffer: the prefix that fits is written
  * @return NB_OK; or NB_NO_ITEM if a column is out of its range, if there are more or fewer columns, or if no kind has such messages: then
@@ -727,8 +737,8 @@ void nb_deframer_finish(nb_deframer *at);
 
 /** @name Conversions whose input is pushed
  * What nb_convert() does, for an input that comes in pieces of any size: a capture (`--from=capture`) to any target, a stream
- * (`--from=stream`) to RINEX or to frames of its ephemerides. It is in memory of the caller, and retains its output and report
- * until it is closed; both are taken as they come, into buffers of any size.
+ * (`--from=stream`) to RINEX or to frames of its ephemerides. It is in memory of the caller. Its output and report are taken as they
+ * come, into buffers of any size, and released: of each it retains at most twice what was not taken.
  *
  *     status = nb_push_open(&it, words, n_words);
  *     while (status == NB_OK) {

@@ -122,6 +122,11 @@ inline result<nb_row> row_from_message(bytes payload, std::uint32_t week) {
     return detail::value<nb_row>([&](nb_row *it) { return nb_row_from_message(payload.data(), payload.size(), week, it); });
 }
 
+inline result<std::vector<std::uint8_t>> row_message(const nb_row &row) {
+    return detail::written<std::vector<std::uint8_t>>(
+        [&](std::uint8_t *at, std::size_t room, std::size_t *used) { return nb_row_message(&row, at, room, used); });
+}
+
 inline result<std::string> row_rinex(const nb_row &row) {
     return detail::written<std::string>(
         [&](std::uint8_t *at, std::size_t room, std::size_t *used) { return nb_row_rinex(&row, at, room, used); });

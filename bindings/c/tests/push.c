@@ -1,8 +1,9 @@
 /* A conversion whose input is pushed, in pieces of every size from 1 to 80 and of some larger ones, with rooms of many sizes, in
  * four threads, each with the 256 KB of stack that docs/LIBRARY.md asks for: the output, the report and the status are what
  * nb_convert gives of the whole. Then the same with each request for memory refused from there on: the answer is NB_NO_MEMORY,
- * each further call's too, what was taken is a prefix, and nothing leaks. A long capture is followed by bytes up to 2^32: then each
- * call's answer is NB_TOO_LONG, also that of nb_push_finish().
+ * each further call's too, what was taken is a prefix, and nothing leaks. Of a stream with a long report no more memory is wanted than
+ * for what was not taken. A long capture is followed by bytes up to 2^32: then each call's answer is NB_TOO_LONG, also that of
+ * nb_push_finish().
  *
  *   push INPUT WORD..    the words name a job whose input can be pushed
  */
@@ -121,6 +122,36 @@ static void opens_nothing(void) {
     nb_push_close(&it);
 }
 
+/* A first line that is rejected, where no memory is left: it is not that which is missing. */
+static void rejected(void) {
+    static nb_push_state it;
+    static const uint8_t line[] = "NAVCAP 3\n";
+    uint32_t status = nb_push_open(&it, words, n_words);
+    refuse_from(0);
+    if (status == NB_OK) status = nb_push(&it, line, sizeof line - 1);
+    want(status == NB_NOT_THIS_FORM && nb_push_finish(&it) == NB_NOT_THIS_FORM, (int)status, "a first line that is rejected, without memory");
+    nb_push_close(&it);
+    refuse_from(-1);
+}
+
+/* Frames that are rejected, each with a line in the report, which is taken. */
+static void releases(void) {
+    static nb_push_state it;
+    static const uint8_t payload[2] = {0x3F, 0xB0};
+    uint8_t frame[8], room[1000];
+    size_t n = 0, k, size;
+    uint32_t status;
+    want(nb_frame_make(payload, sizeof payload, frame, sizeof frame) == sizeof frame, 0, "a short message");
+    status = nb_push_open(&it, words, n_words);
+    refuse_from(-1);
+    for (k = 0; k < 20000 && status == NB_OK; k++) {
+        status = nb_push(&it, frame, sizeof frame);
+        while ((size = nb_push_take_report(&it, room, sizeof room)) > 0) n += size;
+    }
+    want(status == NB_OK && n > 200000 && largest_request() < 1000, (int)largest_request(), "what was taken is released");
+    nb_push_close(&it);
+}
+
 /* As many bytes as a capture must not have. */
 static void too_long(void) {
     static nb_push_state it;
@@ -168,6 +199,8 @@ int main(int argc, char **argv) {
     requests = refused();
     refuse_from(-1);
     opens_nothing();
+    if (strcmp(argv[2], "--from=capture") == 0) rejected();
+    if (strcmp(argv[2], "--from=stream") == 0) releases();
     if (n_input > 10000) too_long();
     printf("push: 87 sizes in 4 threads, %ld requests for memory, %lu bytes a conversion, %d wrong\n", requests,
            (unsigned long)nb_push_size(), wrong);

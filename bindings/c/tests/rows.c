@@ -2,7 +2,8 @@
  *
  *   rows ROWS      vectors/rows.txt
  *
- * Each message is read to a row, whose record is that of the file; each integer in the unit of its column is the number in the record.
+ * Each message is read to a row, whose record is that of the file, and whose message is read as that row; each integer in the unit of its
+ * column is the number in the record.
  * Status 0: all as it should be. */
 #include <ctype.h>
 #include <stdlib.h>
@@ -47,6 +48,12 @@ static void row(int line, const uint8_t *payload, size_t n, const char *record) 
     memset(text, 0xAA, sizeof text);
     want(nb_row_rinex(&it, text, 100, &used) == NB_OK && used == size && memcmp(text, record, 100) == 0 && text[100] == 0xAA, line,
          "room for a record");
+    memset(text, 0xAA, sizeof text);
+    want(nb_row_message(&it, text, sizeof text, &used) == NB_OK && used == n + 6 && nb_is_frame(text, used) && text[used] == 0xAA, line, "its message");
+    want(it.message == 1020 || memcmp(text + 3, payload, n) == 0, line, "the same message");
+    want(nb_row_from_message(text + 3, n, 2295, &other) == NB_OK && memcmp(&it, &other, sizeof it) == 0, line, "the row of its message");
+    other.epoch++;
+    want(nb_row_message(&other, text, sizeof text, &used) == NB_RECORD_STEP && used == 0, line, "an epoch that is none");
     for (i = 0; nb_row_column(&it, i, &column) == NB_OK; i++) {
         const char *name = nb_row_name(&it, i);
         double number, value = nb_column_value(&column, it.columns[i]);

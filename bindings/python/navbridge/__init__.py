@@ -42,8 +42,8 @@ True
 >>> row = row_from_message(bytes.fromhex("3fc080af24037ffffe7fffffd1776a03000000000924a3b1035d2ec3200c098019900200" + 28 * "00"), 2295)
 >>> row.letter, row.title, row.satellite, [(it.name, it.integer, it.two) for it in row.columns()][3]
 ('R', 'FDMA', 2, ('x', 67108862, -11))
->>> row_rinex(row).splitlines()[0]
-'> EPH R02 FDMA'
+>>> row_rinex(row).splitlines()[0], row_from_message(row_message(row)[3:-3], 2295) == row
+('> EPH R02 FDMA', True)
 >>> with Pages() as parts:
 ...     parts.take(page[15:], 1001, gal.satellite), parts.take(page[:15], 1000, gal.satellite)[0].page == page
 ([], True)
@@ -69,7 +69,7 @@ ValueError: Gal.satellite: 37 is not 1 to 36
 from ._calls import (
     E1B, E5B, FRAME_MOST, Column, Conversion, Deframer, Joined, Pages, Push, Row, convert, ephemerides, frame_make, frame_read, frames,
     header_write, is_frame, message_read, message_write, page_read, page_write, record_read, record_write, records, row_from_message,
-    row_rinex, subframe_read, subframe_write, subframes_join, week_of_unix, words_join,
+    row_message, row_rinex, subframe_read, subframe_write, subframes_join, week_of_unix, words_join,
 )
 from ._library import Error
 from ._statuses import Status
@@ -84,6 +84,6 @@ __all__ = [
     "Column", "Conversion", "Deframer", "E1B", "E5B", "Error", "FRAME_MOST", "Gal", "GalHealth", "GalIon", "GalWord1", "GalWord2", "GalWord3",
     "GalWord4", "Gps", "GpsClock", "GpsIon", "GpsOrbitA", "GpsOrbitB", "GpsSide", "Ion", "Item", "Joined", "Orbit", "PI", "Pages",
     "Push", "Row", "Status", "Subframe", "Word", "array", "convert", "ephemerides", "frame_make", "frame_read", "frames", "header_write",
-    "is_frame", "message_read", "message_write", "page_read", "page_write", "record_read", "record_write", "records", "row_from_message", "row_rinex", "subframe_read",
+    "is_frame", "message_read", "message_write", "page_read", "page_write", "record_read", "record_write", "records", "row_from_message", "row_message", "row_rinex", "subframe_read",
     "subframe_write", "subframes_join", "week_of_unix", "words_join",
 ]

@@ -177,6 +177,11 @@ def row_from_message(payload: Any, week: int) -> Row:
     return Row(raw.message, raw.satellite, raw.letter.decode(), raw.title.decode(), raw.epoch, tuple(raw.columns[: raw.count]))
 
 
+def row_message(row: Row) -> bytes:
+    """The frame of the message of a row."""
+    return _written(library().nb_row_message, ctypes.byref(_typed(row, Row)._raw()))
+
+
 def row_rinex(row: Row) -> str:
     """The record of a row in a navigation file of RINEX 4.01."""
     return _written(library().nb_row_rinex, ctypes.byref(_typed(row, Row)._raw())).decode("ascii")

@@ -67,6 +67,7 @@ def library() -> ctypes.CDLL:
             ("frame_read", [at, size, number, at], number),
             ("message_write", [at, at, size, to_size], number),
             ("row_from_message", [at, size, number, at], number),
+            ("row_message", [at, at, size, to_size], number),
             ("row_rinex", [at, at, size, to_size], number),
             ("row_column", [at, number, at], number),
             ("row_name", [at, number], ctypes.c_char_p),

@@ -30,7 +30,8 @@ class Status(enum.IntEnum):
     NO_FRAME = 26  # the bytes are not one complete frame with a right checksum
     NO_HEADER = 27  # the date of the header has control characters, or the leap seconds are 100 or more
     BAD_FIELD = 28  # a field of the message is out of its range
-    BAD_DAY = 29  # the day number of the message is that of no day near the reference week
+    BAD_DAY = 29  # the day number of the message is of no day near the reference week, or the row's day has none
+    BAD_SENT = 30  # the transmission time of the row is no half minute within twelve hours of its epoch
     RECORD_SATELLITE = 32  # the record has no satellite of its system, or two
     RECORD_SHORT = 33  # the record ends before the last line of its kind
     RECORD_NO_NUMBER = 34  # a number or a part of the date is no number

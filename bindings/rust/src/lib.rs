@@ -24,7 +24,7 @@ mod streams;
 mod values;
 
 pub use error::Error;
-pub use rows::{row_from_message, row_rinex, Column, Row};
+pub use rows::{row_from_message, row_message, row_rinex, Column, Row};
 pub use streams::{frames, records, Deframer, Frames, Joined, Pages, Push, Records, Signal};
 pub use values::*;
 

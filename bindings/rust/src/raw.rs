@@ -315,6 +315,7 @@ extern "C" {
         used: *mut usize,
     ) -> u32;
     pub fn nb_row_from_message(payload: *const u8, n: usize, week: u32, row: *mut Row) -> u32;
+    pub fn nb_row_message(row: *const Row, frame: *mut u8, room: usize, used: *mut usize) -> u32;
     pub fn nb_row_rinex(row: *const Row, text: *mut u8, room: usize, used: *mut usize) -> u32;
     pub fn nb_row_column(row: *const Row, index: u32, column: *mut crate::Column) -> u32;
     pub fn nb_row_name(row: *const Row, index: u32) -> *const c_char;

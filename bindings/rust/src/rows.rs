@@ -95,6 +95,12 @@ pub fn row_from_message(payload: &[u8], week: u32) -> Result<Row, Error> {
     })
 }
 
+/// The frame of the message of a row.
+pub fn row_message(row: &Row) -> Result<Vec<u8>, Error> {
+    let raw = row.raw()?;
+    written(|at, room, used| unsafe { raw::nb_row_message(&raw, at, room, used) })
+}
+
 /// The record of a row in a navigation file of RINEX 4.01.
 pub fn row_rinex(row: &Row) -> Result<String, Error> {
     let raw = row.raw()?;

@@ -147,8 +147,14 @@ fn a_row_has_its_columns_by_name() {
         (28, "af0", -31)
     );
     assert!(row_rinex(&row).unwrap().starts_with("> EPH I04 LNAV\n"));
+    let frame = row_message(&row).unwrap();
+    assert_eq!(
+        row_from_message(&frame[3..frame.len() - 3], 2295),
+        Ok(row.clone())
+    );
     row.integers[0] = 1 << 40;
     assert_eq!(row_rinex(&row), Err(Error::NoItem));
+    assert_eq!(row_message(&row), Err(Error::NoItem));
     assert_eq!(row_from_message(&payload[..60], 2295), Err(Error::Short));
 }
 

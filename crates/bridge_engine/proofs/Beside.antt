@@ -1,12 +1,14 @@
 -- A run that is given no report, or no input, seen as one whose report or input stays unchanged.
 use Rattle.std.proofs.Common.{◌≡◌, ℕ, Bool, false, true, List, [], Option, None, Some, Result, Ok, Err, refl, sym, ap, subst, ◌∙◌}
-use Rattle.std.specs.Prelude.{IfSome, IsSome, if◌then◌else◌}
+use Rattle.std.specs.Prelude.{IfSome, IsSome, OnErr, if◌then◌else◌}
 use Rattle.std.specs.Io.KnownBytes.{Appends, Consumes, IsAtEnd}
 use Rattle.std.proofs.KnownBytes.{Appends-nil}
 use Rattle.one_run.specs.declared.fault.BridgeFault.{BridgeFault}
 use Rattle.one_run.specs.declared.fault.BridgeFault.TheVariants.{ReadFault, WriteFault, ReportFault, NotThisForm, TooLong, NoMemory}
-use Rattle.one_run.specs.Runs.{Ended, Meaning, Says, Flushes, Texts, World, bytes_for, world}
-use Rattle.one_run.proofs.Surface.{no_prefix}
+use Rattle.nav_io.specs.Prefix.{AppendsPrefix}
+use Rattle.one_run.specs.Causes.{Faults, HasItsCause}
+use Rattle.one_run.specs.Runs.{Ended, IsAheadOf, Meaning, Says, Flushes, Texts, World, bytes_for, faults_in, world}
+use Rattle.one_run.proofs.Surface.{no_prefix, none_failed, nothing_told, read_failed, report_failed, write_failed}
 
 no_such : (b : Bool) → b ≡ true → b ≡ false → ⊥
 no_such b is not = cc
@@ -22,11 +24,11 @@ abbrev pub IsSilent : {S T V : Type 0} → World S T V → Type 0
 IsSilent w = w.reported ≡ Some []
 
 -- so nothing is reported
-nothing_told : (o o' : Option (List ℕ)) (text : List ℕ) → o ≡ Some [] → o' ≡ Some [] → Appends o o' text → text ≡ []
-nothing_told o o' text is is' grew = sym (subst (λ (x : Option (List ℕ)). Appends (Some []) x text) is' (subst (λ (x : Option (List ℕ)). Appends x o' text) is grew))
+no_text : (o o' : Option (List ℕ)) (text : List ℕ) → o ≡ Some [] → o' ≡ Some [] → Appends o o' text → text ≡ []
+no_text o o' text is is' grew = sym (subst (λ (x : Option (List ℕ)). Appends (Some []) x text) is' (subst (λ (x : Option (List ℕ)). Appends x o' text) is grew))
 
 told_none : (o o' : Option (List ℕ)) (text : List ℕ) (u : Option (List ℕ)) → o ≡ Some [] → o' ≡ Some [] → Appends o o' text → Appends u u text
-told_none o o' text u is is' grew = subst (Appends u u) (sym (nothing_told o o' text is is' grew)) (Appends-nil u)
+told_none o o' text u is is' grew = subst (Appends u u) (sym (no_text o o' text is is' grew)) (Appends-nil u)
 
 flushes_beside : {S T U V : Type 0} (o : Option Texts) (taken : List ℕ) (b a : World S T V) (report : U) (u : Option (List ℕ)) (failed : ℕ) → IsSilent b → IsSilent a
     → Flushes o taken b a → Flushes o taken (with_report b report u failed) (with_report a report u failed)
@@ -41,6 +43,27 @@ says_beside m taken b a report u failed ReportFault none before after says = abs
 says_beside m taken b a report u failed NotThisForm none before after says = (says.0, says.1, says.2, refl)
 says_beside m taken b a report u failed TooLong none before after says = says
 says_beside m taken b a report u failed NoMemory none before after says = says
+
+ahead_beside : (whole : Texts) (o w w' v v' u : Option (List ℕ)) → IsAheadOf whole o w w' v v' → IsAheadOf whole o w w' u u
+ahead_beside whole None w w' v v' u h = tt
+ahead_beside whole (Some bytes) w w' v v' u h = (h.0, no_prefix u (whole.report bytes))
+
+quiet_beside : {S T U V : Type 0} (b a : World S T V) (report : U) (u : Option (List ℕ)) (failed : ℕ) → faults_in a ≡ faults_in b
+    → faults_in (with_report a report u failed) ≡ faults_in (with_report b report u failed)
+quiet_beside b a report u failed quiet =
+    none_failed (with_report b report u failed) (with_report a report u failed) (ap (λ (f : Faults). f.input) quiet) (ap (λ (f : Faults). f.output) quiet) refl
+
+cause_beside : {C S T U V : Type 0} (m : Meaning C) (taken : List ℕ) (b a : World S T V) (report : U) (u : Option (List ℕ)) (failed : ℕ) (fault : BridgeFault)
+    → m.reports ≡ false → Says m taken b a fault → HasItsCause {T = Unit {0}} (faults_in b) (faults_in a) (Err fault)
+    → HasItsCause {T = Unit {0}} (faults_in (with_report b report u failed)) (faults_in (with_report a report u failed)) (Err fault)
+cause_beside m taken b a report u failed ReadFault none says cause =
+    read_failed (with_report b report u failed) (with_report a report u failed) cause.0 (ap (λ (f : Faults). f.output) cause.1) refl
+cause_beside m taken b a report u failed WriteFault none says cause =
+    write_failed (with_report b report u failed) (with_report a report u failed) cause.0 (ap (λ (f : Faults). f.input) cause.1) refl
+cause_beside m taken b a report u failed ReportFault none says cause = absurd (no_such m.reports says.0 none)
+cause_beside m taken b a report u failed NotThisForm none says cause = quiet_beside b a report u failed cause
+cause_beside m taken b a report u failed TooLong none says cause = quiet_beside b a report u failed cause
+cause_beside m taken b a report u failed NoMemory none says cause = quiet_beside b a report u failed cause
 
 pub beside_report : {C S T U V : Type 0} (m : Meaning C) (b a : World S T V) (report : U) (u : Option (List ℕ)) (failed : ℕ) (r : Result C BridgeFault)
     → m.reports ≡ false → IsSilent b → IsSilent a → Ended m b a r → Ended m (with_report b report u failed) (with_report a report u failed) r
@@ -62,6 +85,9 @@ beside_report m b a report u failed (Err fault) none before after broke = record
   consumes = broke.consumes;
   text = broke.text;
   told = no_prefix u (m.whole.report broke.taken);
+  ahead = ahead_beside m.whole (bytes_for m b) b.written a.written b.reported a.reported u broke.ahead;
+  no_counts = λ other. nothing_told m.rejections (bytes_for m b) u u refl;
+  cause = cause_beside m broke.taken b a report u failed fault none broke.says broke.cause;
   leaves = record { unread = broke.leaves.unread; silent = λ same. refl };
   says = says_beside m broke.taken b a report u failed fault none before after broke.says;
 }
@@ -90,6 +116,23 @@ says_of_none m taken b a input left never failed TooLong none says = says
 says_of_none m taken b a input left never failed NoMemory none says =
     (says.0, subst (λ (o : Option (List ℕ)). IfSome o (λ bytes. IsSome (m.counts bytes))) (none_for m b (with_input b input left never failed) none) says.1)
 
+quiet_of_none : {R S T U : Type 0} (b a : World R T U) (input : S) (left : Option (List ℕ)) (never : Bool) (failed : ℕ) → faults_in a ≡ faults_in b
+    → faults_in (with_input a input left never failed) ≡ faults_in (with_input b input left never failed)
+quiet_of_none b a input left never failed quiet =
+    none_failed (with_input b input left never failed) (with_input a input left never failed) refl (ap (λ (f : Faults). f.output) quiet) (ap (λ (f : Faults). f.report) quiet)
+
+cause_of_none : {C R S T U : Type 0} (m : Meaning C) (taken : List ℕ) (b a : World R T U) (input : S) (left : Option (List ℕ)) (never : Bool) (failed : ℕ) (fault : BridgeFault)
+    → m.reads ≡ false → Says m taken b a fault → HasItsCause {T = Unit {0}} (faults_in b) (faults_in a) (Err fault)
+    → HasItsCause {T = Unit {0}} (faults_in (with_input b input left never failed)) (faults_in (with_input a input left never failed)) (Err fault)
+cause_of_none m taken b a input left never failed ReadFault none says cause = absurd (no_such m.reads says.0 none)
+cause_of_none m taken b a input left never failed WriteFault none says cause =
+    write_failed (with_input b input left never failed) (with_input a input left never failed) cause.0 refl (ap (λ (f : Faults). f.report) cause.1)
+cause_of_none m taken b a input left never failed ReportFault none says cause =
+    report_failed (with_input b input left never failed) (with_input a input left never failed) cause.0 refl (ap (λ (f : Faults). f.output) cause.1)
+cause_of_none m taken b a input left never failed NotThisForm none says cause = quiet_of_none b a input left never failed cause
+cause_of_none m taken b a input left never failed TooLong none says cause = quiet_of_none b a input left never failed cause
+cause_of_none m taken b a input left never failed NoMemory none says cause = quiet_of_none b a input left never failed cause
+
 consumes_none : {C R S T U : Type 0} (m : Meaning C) (v v' : World R T U) (w w' : World S T U) (taken : List ℕ) → m.reads ≡ false
     → Consumes (bytes_for m v) (bytes_for m v') taken → Consumes (bytes_for m w) (bytes_for m w') taken
 consumes_none m v v' w w' taken none takes =
@@ -115,6 +158,16 @@ beside_input m b a input left never failed (Err fault) none broke = record {
   consumes = consumes_none m b a (with_input b input left never failed) (with_input a input left never failed) broke.taken none broke.consumes;
   text = broke.text;
   told = broke.told;
+  ahead = subst (λ (o : Option (List ℕ)). IsAheadOf m.whole o b.written a.written b.reported a.reported) (none_for m b (with_input b input left never failed) none) broke.ahead;
+  no_counts = λ other. subst (λ (o : Option (List ℕ)). IfSome o (λ bytes. AppendsPrefix b.reported a.reported (m.rejections bytes)))
+      (none_for m b (with_input b input left never failed) none) (broke.no_counts other);
+  cause = cause_of_none m broke.taken b a input left never failed fault none broke.says broke.cause;
   leaves = record { unread = λ same. refl; silent = broke.leaves.silent };
   says = says_of_none m broke.taken b a input left never failed fault none broke.says;
 }
+
+-- what does not depend on the bytes holds whatever they are
+pub whatever_bytes : {C : Type 0} (P : Type 0) (o : Option (List ℕ)) (r : Result C BridgeFault) → OnErr r P → OnErr r (IfSome o (λ bytes. P))
+whatever_bytes P o (Ok counts) h = tt
+whatever_bytes P None (Err fault) h = tt
+whatever_bytes P (Some bytes) (Err fault) h = h

@@ -18,15 +18,14 @@ use Rattle.bridge_engine.specs.declared.done.Done.{Done}
 use Rattle.bridge_engine.specs.declared.done.Done.TheVariants as dones
 use Rattle.one_run.specs.Runs.{Ended, World}
 use Rattle.one_run.specs.declared.fault.BridgeFault.{BridgeFault}
-use Rattle.one_run.proofs.Surface.{accepted_of, done_by, end_of, no_prefix, text_of}
+use Rattle.one_run.proofs.Surface.{accepted_of, done_by, end_of, no_prefix, nothing_ahead as untouched, text_of}
 use Rattle.captures.specs.Captures.{Capture as CaptureOf, capture_meaning, capture_of, counts_in, output_of, periods as periods_in, target_of}
-use Rattle.captures.specs.Converts.{CaptureAhead, CapturePrefix, CountsLast}
-use Rattle.captures.specs.declared.target.CaptureTo.TheVariants.{Rinex}
+use Rattle.captures.specs.Converts.{CapturePrefix, CountsLast}
+use Rattle.captures.specs.declared.target.CaptureTo.TheVariants as captures
 use Rattle.outlets.specs.declared.target.Target.{Target}
 use Rattle.outlets.specs.declared.target.Target.TheVariants as targets
-use Rattle.bridge_engine.specs.declared.job.CaptureJob.{CaptureJob}
 use Rattle.bridge_engine.specs.declared.job.Job.{Job}
-use Rattle.bridge_engine.specs.declared.job.Job.TheVariants.{Capture}
+use Rattle.bridge_engine.specs.declared.job.Job.TheVariants.{StreamToFrames, Capture, Stream, Rinex, Rinex3, SendRinex, SendRinex3, Merge, Cover, Seed}
 use Rattle.bridge_engine.specs.CaptureBytes.{IsCapture, StandFor}
 use Rattle.bridge_engine.specs.Job.{IsJob}
 use Rattle.bridge_engine.specs.Meanings.{IsAhead, meaning_of}
@@ -94,10 +93,10 @@ some_capture (Some bytes) week some = by_capture (capture_of week bytes) some wh
 -- a run from a capture to RINEX with status 0
 pub headline_of : {S T U : Type 0} → Readings
     → (job : Job) (week : Option ℕ) (header : HeaderWords) (b a : World S T U) (status : ℕ)
-    → Capture (record { week = week; to = Rinex header }) ≡ job → EndedBy (meaning_of job) b a status → status ≡ 0
+    → Capture (record { week = week; to = captures.Rinex header }) ≡ job → EndedBy (meaning_of job) b a status → status ≡ 0
     → IfSome b.left (λ bytes. Converts week header bytes a.left b.written a.written)
 headline_of laws job week header b a status is by zero =
-    let m = uncounted (giving dones.Capture (capture_meaning (Rinex header) week)) in
+    let m = uncounted (giving dones.Capture (capture_meaning (captures.Rinex header) week)) in
     let done = done_by m b a status (subst (λ (j : Job). EndedBy (meaning_of j) b a status) (sym is) by) zero in
     in_capture laws week header b.left a.left b.written a.written (text_of m b a (Ok tt) done)
     (some_capture b.left week (accepted_of m b a (Ok tt) done (inl refl))) (end_of m b a (Ok tt) done)
@@ -105,12 +104,12 @@ headline_of laws job week header b a status is by zero =
 -- ---- what is known of the bytes that were not taken
 
 -- a job that was not done
-pub ahead_of : (run : Result (Unit {0}) BridgeFault) (status : ℕ) (job : Job) (capture : CaptureJob)
+pub ahead_of : (run : Result (Unit {0}) BridgeFault) (status : ℕ) (job other : Job)
     (l l' w w' u u' : Option (List ℕ)) → status ≡ status_of run
-    → Capture capture ≡ job → OnErr run (IsAhead job l l' w w' u u') → (status ≡ 0 → ⊥)
-    → CaptureAhead (target_of capture.to) capture.week l l' w w' u u'
-ahead_of (Ok done) status job capture l l' w w' u u' is same ahead broke = absurd (broke is)
-ahead_of (Err fault) status job capture l l' w w' u u' is same ahead broke =
+    → other ≡ job → OnErr run (IsAhead job l l' w w' u u') → (status ≡ 0 → ⊥)
+    → IsAhead other l l' w w' u u'
+ahead_of (Ok done) status job other l l' w w' u u' is same ahead broke = absurd (broke is)
+ahead_of (Err fault) status job other l l' w w' u u' is same ahead broke =
     subst (λ (j : Job). IsAhead j l l' w w' u u') (sym same) ahead
 
 prefix_nothing : (to : Target) (week : Option ℕ) (l w u : Option (List ℕ)) → CapturePrefix to week l w w u u
@@ -125,8 +124,17 @@ last_nothing targets.ToList week l w = tt
 last_nothing targets.Count week l w = inl (Appends-nil w)
 
 -- nothing was touched
-pub nothing_ahead : (to : Target) (week : Option ℕ) (l w u : Option (List ℕ)) → CaptureAhead to week l l w w u u
-nothing_ahead to week l w u = (prefix_nothing to week l w u, last_nothing to week l w)
+pub nothing_ahead : (job : Job) (l w u : Option (List ℕ)) → IsAhead job l l w w u u
+nothing_ahead (Capture job) l w u = (prefix_nothing (target_of job.to) job.week l w u, last_nothing (target_of job.to) job.week l w)
+nothing_ahead StreamToFrames l w u = untouched (meaning_of StreamToFrames).whole l w w u u refl refl
+nothing_ahead (Stream job) l w u = untouched (meaning_of (Stream job)).whole l w w u u refl refl
+nothing_ahead (Rinex to) l w u = untouched (meaning_of (Rinex to)).whole l w w u u refl refl
+nothing_ahead (Rinex3 to) l w u = untouched (meaning_of (Rinex3 to)).whole l w w u u refl refl
+nothing_ahead (SendRinex week) l w u = untouched (meaning_of (SendRinex week)).whole l w w u u refl refl
+nothing_ahead (SendRinex3 week) l w u = untouched (meaning_of (SendRinex3 week)).whole l w w u u refl refl
+nothing_ahead (Merge words) l w u = untouched (meaning_of (Merge words)).whole l w w u u refl refl
+nothing_ahead Cover l w u = untouched (meaning_of Cover).whole l w w u u refl refl
+nothing_ahead (Seed job) l w u = untouched (meaning_of (Seed job)).whole l w w u u refl refl
 
 -- ---- the call
 
@@ -134,10 +142,10 @@ nothing_ahead to week l w u = (prefix_nothing to week l w u, last_nothing to wee
 pub record Calls {S T U : Type 0} (words : List (List ℕ)) (b a : World S T U) (status : ℕ) : Type 0 where
   pub ended : (job : Job) × IsJob words job × EndedBy (meaning_of job) b a status
   pub headline : (week : Option ℕ) (header : HeaderWords)
-      → IsJob words (Capture (record { week = week; to = Rinex header })) → status ≡ 0
+      → IsJob words (Capture (record { week = week; to = captures.Rinex header })) → status ≡ 0
       → IfSome b.left (λ bytes. Converts week header bytes a.left b.written a.written)
-  pub also : (capture : CaptureJob) → IsJob words (Capture capture) → (status ≡ 0 → ⊥)
-      → CaptureAhead (target_of capture.to) capture.week b.left a.left b.written a.written b.reported a.reported
+  pub also : (job : Job) → IsJob words job → (status ≡ 0 → ⊥)
+      → IsAhead job b.left a.left b.written a.written b.reported a.reported
 
 pub calls : {S T U : Type 0} → Readings
     → (words : List (List ℕ)) (job : Job) (b a : World S T U) (run : Result (Unit {0}) BridgeFault) (status : ℕ)
@@ -149,5 +157,5 @@ calls laws words job b a run status given ended ahead is =
     record {
       ended = (job, given, by);
       headline = λ week header gives zero. headline_of laws job week header b a status (one_job words _ job gives given) by zero;
-      also = λ capture gives broke. ahead_of run status job capture _ _ _ _ _ _ is (one_job words _ job gives given) ahead broke;
+      also = λ other gives broke. ahead_of run status job other _ _ _ _ _ _ is (one_job words other job gives given) ahead broke;
     }

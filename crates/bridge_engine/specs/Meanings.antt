@@ -3,7 +3,7 @@ use Rattle.std.specs.Prelude.{ℕ, List, Option}
 use Rattle.rinex_read.specs.Forms.{rinex4}
 use Rattle.rinex_read.specs.Form3.{rinex3}
 use Rattle.one_run.specs.Ends.{giving, uncounted}
-use Rattle.one_run.specs.Runs.{Meaning}
+use Rattle.one_run.specs.Runs.{IsAheadOf, Meaning}
 use Rattle.nav_files.specs.Files.{convert_meaning}
 use Rattle.streams.specs.Streams.{stream_meaning}
 use Rattle.nav_files.specs.Targets.{target_of_file}
@@ -35,10 +35,11 @@ done_of (Seed job) = giving dones.Generated (seed_meaning job.to job.seed job.sa
 abbrev pub meaning_of : Job → Meaning (Unit {0})
 meaning_of job = uncounted (done_of job)
 
--- after an error, how what was written and reported relates to the complete input; stated for
--- captures only
+-- after an error, what was written and reported is a prefix of what the complete input gives, unread
+-- bytes included; and counts of a capture are written only after it was read to its end
 abbrev pub IsAhead : Job → Option (List ℕ) → Option (List ℕ) → Option (List ℕ) → Option (List ℕ) → Option (List ℕ)
     → Option (List ℕ) → Type 0
 IsAhead (Capture job) left left_new written written_new reported reported_new =
     CaptureAhead (target_of job.to) job.week left left_new written written_new reported reported_new
-IsAhead _ left left_new written written_new reported reported_new = Unit {0}
+IsAhead job left left_new written written_new reported reported_new =
+    IsAheadOf (meaning_of job).whole left written written_new reported reported_new

@@ -10,13 +10,11 @@ ghost use Rattle.periods.specs.PeriodLists.{ArePeriods, items_in};
 ghost use Rattle.periods.specs.declared.closed.Closed.{Closed};
 ghost use Rattle.capture_log.specs.Heard.{IsPartHeard};
 ghost use Rattle.one_run.specs.Ends.{RanBy};
-ghost use Rattle.captures.specs.Captures.{Capture, target_of};
-ghost use Rattle.captures.specs.Converts.{CaptureAhead};
+ghost use Rattle.captures.specs.Captures.{Capture};
 ghost use Rattle.captures.specs.declared.target.CaptureTo.TheVariants.{Rinex};
 ghost use Rattle.bridge_engine.specs.CaptureBytes.{IsCapture, StandFor};
 ghost use Rattle.bridge_engine.specs.Job.{IsJob, GivesJob};
-ghost use Rattle.bridge_engine.specs.Meanings.{meaning_of};
-ghost use Rattle.bridge_engine.specs.declared.job.CaptureJob.{CaptureJob};
+ghost use Rattle.bridge_engine.specs.Meanings.{IsAhead, meaning_of};
 ghost use Rattle.bridge_engine.specs.declared.job.Job.{Job};
 
 use crate::job::{Job, job_of};
@@ -79,11 +77,10 @@ pub fn bridge<S: Source, T: Sink, U: Sink>(
         (rinex_text header (items_in periods))
         × IsAtEnd (S.left input.new)) }
 
-    // After any fault of a run over a capture, the output and the report are prefixes of what the
-    // whole input gives, unread bytes included; and counts are written only after the whole input
-    // was read.
-    ensures also { (job : CaptureJob) → IsJob (map string_bytes words.now) (Job.Capture job)
-        → ¬ (result ≡ 0) → CaptureAhead (target_of job.to) job.week
+    // After any fault, the output and the report are prefixes of what the whole input gives, unread
+    // bytes included; and counts of a capture are written only after the whole input was read.
+    ensures also { (job : Job) → IsJob (map string_bytes words.now) job
+        → ¬ (result ≡ 0) → IsAhead job
         (S.left input.old) (S.left input.new) (T.written output.old) (T.written output.new)
         (U.written report.old) (U.written report.new) }
 {

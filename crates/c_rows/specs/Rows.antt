@@ -2,16 +2,23 @@
 use Rattle.std.specs.Prelude.{◌≡◌, ◌⊎◌, ℕ, ◌==◌, if◌then◌else◌, Bool, true, false, List, [], ◌∷◌, length, take, slice_get, Option, None, Some, Result, Ok, Err}
 use Rattle.nav_bits.specs.Bits.{number_at}
 use Rattle.nav_tables.specs.declared.message.TableFault.TheVariants.{Short, OutOfRange}
+use Rattle.nav_days.specs.declared.times.TimeFault.{TimeFault}
+use Rattle.nav_days.specs.declared.times.TimeFault.TheVariants as frames
+use Rattle.rtcm_frame.specs.Writing.{frame_bytes}
 use Rattle.rinex_write.specs.Columns.{AreFields}
 use Rattle.rinex_write.specs.declared.columns.Column.{Column}
 use Rattle.rinex_write.specs.declared.columns.Rule.{Rule}
 use Rattle.rinex_write.specs.declared.columns.Rule.TheVariants.{Plain, OrZero, OrLeast, Ura, Sisa, Fit, Sent, Unread}
 use Rattle.nav_rows.specs.Rows.{RowValue, record_text, row_in}
+use Rattle.nav_rows.specs.Encoding.{message_of}
+use Rattle.nav_rows.specs.declared.encode.EncodeFault.{EncodeFault}
+use Rattle.nav_rows.specs.declared.encode.EncodeFault.TheVariants as encodings
 use Rattle.nav_rows.specs.declared.kind.Kind.{Kind}
 use Rattle.nav_rows.specs.declared.row.Row.{Row}
 use Rattle.nav_rows.specs.declared.row.RowFault.{RowFault}
 use Rattle.nav_rows.specs.declared.row.RowFault.TheVariants.{Message, SpareSisa, Day}
 use Rattle.c_records.specs.Rooms.{IsLeft, StandsIn}
+use Rattle.c_messages.specs.RecordReads.{reason_status}
 use Rattle.c_rows.specs.Kinds.{IsKindOf}
 use Rattle.c_rows.specs.declared.row_raw.ColumnRaw.{ColumnRaw}
 use Rattle.c_rows.specs.declared.row_raw.RowRaw.{RowRaw}
@@ -65,6 +72,32 @@ WritesRow raw old new used status =
     ((status ≡ 23) × IsLeft old new used)
     ⊎ ((k : Kind) × IsKindOf raw.message k × AreFields k.layout.columns.now (take raw.count raw.columns)
     × (status ≡ 0) × StandsIn old new used (record_text k (row_of raw)))
+
+-- the number of the reason why times are not those of a frame
+abbrev pub frame_status : TimeFault → ℕ
+frame_status frames.Epoch = 40
+frame_status frames.Sent = 30
+frame_status frames.Day = 29
+
+-- the number of the reason why a row has no message; field 1 is the satellite
+abbrev pub encode_status : EncodeFault → ℕ
+encode_status (encodings.Epoch reason) = reason_status reason
+encode_status (encodings.Frame fault) = frame_status fault
+encode_status (encodings.OutOfRange field) = if field == 1 then 19 else 28
+encode_status encodings.SpareSisa = 21
+
+-- the frame of a message is in the buffer and the result is 0; or nothing is put, and the result is
+-- the number of the error
+abbrev pub PutsFrame : Result (List ℕ) EncodeFault → List ℕ → List ℕ → ℕ → ℕ → Type 0
+PutsFrame (Ok message) old new used status = (status ≡ 0) × StandsIn old new used (frame_bytes message)
+PutsFrame (Err fault) old new used status = (status ≡ encode_status fault) × IsLeft old new used
+
+-- the same of the message of the row; or the numbers encode no row
+abbrev pub WritesFrame : RowRaw → List ℕ → List ℕ → ℕ → ℕ → Type 0
+WritesFrame raw old new used status =
+    ((status ≡ 23) × IsLeft old new used)
+    ⊎ ((k : Kind) × IsKindOf raw.message k × AreFields k.layout.columns.now (take raw.count raw.columns)
+    × PutsFrame (message_of k (row_of raw)) old new used status)
 
 -- ---- columns
 

@@ -47,7 +47,7 @@ fn are_fields(columns: &[Column], numbers: &[i64]) -> bool
 
 // The row of these numbers; `None` where they are no fields of the kind's columns, or the epoch is
 // in no week.
-fn row_in(kind: &Kind, raw: &RowRaw) -> Option<Row>
+pub(crate) fn row_in(kind: &Kind, raw: &RowRaw) -> Option<Row>
     ensures { IfSome result (IsRowIn kind.now raw.now) }
 {
     if raw.count > 40 || raw.satellite > 99 {

@@ -1,12 +1,12 @@
 -- What a run says of a piece and of the end, as its job says it.
-use Rattle.std.proofs.Common.{◌≡◌, ◌≢◌, inl, inr, ℕ, ◌+◌, ◌^◌, ◌≤◌, List, [], ◌++◌, length, sym, ap, ◌∙◌, subst, arith, length-append}
-use Rattle.std.specs.Prelude.{Option, None, Some, option_map, IfSome, Result, Ok, Err, IfErr, OnErr, OnOk}
+use Rattle.std.proofs.Common.{◌≡◌, ◌≢◌, inl, inr, ℕ, ◌+◌, ◌^◌, ◌≤◌, List, [], ◌++◌, length, refl, sym, ap, ◌∙◌, subst, arith, length-append}
+use Rattle.std.specs.Prelude.{Option, None, Some, option_map, IfSome, IsSome, Result, Ok, Err, IfErr, OnErr, OnOk}
 use Rattle.nav_io.specs.Prefix.{IsPrefix}
 use Rattle.one_run.specs.declared.fault.BridgeFault.{BridgeFault}
-use Rattle.one_run.specs.declared.fault.BridgeFault.TheVariants.{NotThisForm, ReadFault, TooLong}
+use Rattle.one_run.specs.declared.fault.BridgeFault.TheVariants.{NoMemory, NotThisForm, ReadFault, ReportFault, TooLong, WriteFault}
 use Rattle.outlets.specs.Targets.{prefix_text, item_text}
 use Rattle.outlets.specs.declared.target.Target.{Target}
-use Rattle.captures.specs.Captures.{capture_of, counts_in, flushed_output, flushed_report, output_of, report_of_capture, target_of}
+use Rattle.captures.specs.Captures.{Capture as OfLines, capture_of, counts_in, flushed_output, flushed_report, output_of, report_of_capture, target_of}
 use Rattle.captures.specs.Pushed.{CaptureRunState, CutSays, IsCutShort as IsCaptureCut, IsPushed as IsCapturePushed, IsWhole as IsCaptureWhole}
 use Rattle.captures.specs.declared.counts.CaptureCounts.{CaptureCounts}
 use Rattle.streams.specs.Mirrors.{IsStreamFault}
@@ -42,6 +42,14 @@ if_err (Err e) p f = f e p
 pub on_err : {T A P : Type 0} {K Q : BridgeFault → Type 0} (r : Result T BridgeFault) → OnErr r P → (A → IfErr r K) → ((fault : BridgeFault) → P → (A → K fault) → Q fault) → IfErr r Q
 on_err (Ok x) p k f = tt
 on_err (Err e) p k f = f e p k
+
+pub either : {T P S : Type 0} {Q : BridgeFault → Type 0} (r : Result T BridgeFault) → OnOk r P → IfErr r Q → (P → S) → ((fault : BridgeFault) → Q fault → S) → S
+either (Ok x) p q f g = f p
+either (Err e) p q f g = g e q
+
+pub either_on : {T P Q S : Type 0} (r : Result T BridgeFault) → OnOk r P → OnErr r Q → (P → S) → (Q → S) → S
+either_on (Ok x) p q f g = f p
+either_on (Err e) p q f g = g q
 
 -- ---- texts by a target and a week, as another one names them
 
@@ -79,6 +87,23 @@ flushed_by run job bytes output report is = absurd is
 abbrev forgotten : Option CaptureCounts → Option (Unit {0})
 forgotten counts = option_map (λ (done : Done). tt) (option_map dones.Capture counts)
 
+counted : (capture : Option OfLines) → IsSome capture → IsSome (forgotten (counts_in capture))
+counted None never = never
+counted (Some capture) some = refl
+
+-- out of memory, the complete capture is accepted
+accepted_whole : (week week' : Option ℕ) (whole : List ℕ) (fault : BridgeFault) → week ≡ week' → CutSays week whole fault → fault ≢ NotThisForm → fault ≢ TooLong
+    → IsSome (forgotten (counts_in (capture_of week' whole)))
+accepted_whole week week' whole ReadFault same says form long = absurd says
+accepted_whole week week' whole NotThisForm same says form long = absurd (form refl)
+accepted_whole week week' whole TooLong same says form long = absurd (long refl)
+accepted_whole week week' whole WriteFault same says form long =
+    subst (λ (w : Option ℕ). IsSome (forgotten (counts_in (capture_of w whole)))) same (counted (capture_of week whole) says)
+accepted_whole week week' whole ReportFault same says form long =
+    subst (λ (w : Option ℕ). IsSome (forgotten (counts_in (capture_of w whole)))) same (counted (capture_of week whole) says)
+accepted_whole week week' whole NoMemory same says form long =
+    subst (λ (w : Option ℕ). IsSome (forgotten (counts_in (capture_of w whole)))) same (counted (capture_of week whole) says)
+
 cut_capture : (run : CaptureRunState) (job : CaptureJob) (bytes whole output report : List ℕ) (fault : BridgeFault) → run.to ≡ target_of job.to → run.week ≡ job.week
     → IsCaptureCut run.to run.week bytes whole (Some []) (Some output) (Some []) (Some report) fault → IsCut (jobs.Capture job) bytes whole output report fault
 cut_capture run job bytes whole output report fault to week cut =
@@ -90,6 +115,7 @@ cut_capture run job bytes whole output report fault to week cut =
       form = λ e. ap (λ (w : Option ℕ). forgotten (counts_in (capture_of w whole))) (sym week)
           ∙ ap (λ c. forgotten (counts_in c)) (subst (CutSays run.week whole) e cut.says);
       long = λ e. subst (CutSays run.week whole) e cut.says;
+      lack = accepted_whole run.week job.week whole fault week cut.says;
       least = subst (λ (l : List ℕ). IsPrefix l output) (of_job (λ t w. flushed_output t w bytes))
           (subst (λ (l : List ℕ). IsPrefix (flushed_output run.to run.week bytes) l) out cut.output.no_less);
       output = subst (λ (l : List ℕ). IsPrefix output l) (of_job (λ t w. output_of t w whole))
@@ -99,38 +125,38 @@ cut_capture run job bytes whole output report fault to week cut =
     }
 
 pub capture_goes : (run run' : CaptureRunState) (piece output output' report report' : List ℕ) → (run'.to ≡ run.to) × (run'.week ≡ run.week)
-    → ((bytes : List ℕ) (start begun : Option (List ℕ)) → IsCapturePushed run bytes start (Some output) begun (Some report)
-    → IsCapturePushed run' (bytes ++ piece) start (Some output') begun (Some report'))
+    → ((bytes : List ℕ) → IsCapturePushed run bytes (Some []) (Some output) (Some []) (Some report)
+    → IsCapturePushed run' (bytes ++ piece) (Some []) (Some output') (Some []) (Some report'))
     → GoesOn (Capture run) (Capture run') piece output output' report report'
 capture_goes run run' piece output output' report report' same goes (jobs.Capture job) bytes is =
-    (same.0 ∙ is.0, same.1 ∙ is.1, goes bytes (Some []) (Some []) is.2)
+    (same.0 ∙ is.0, same.1 ∙ is.1, goes bytes is.2)
 capture_goes run run' piece output output' report report' same goes job bytes is = absurd is
 
 pub capture_breaks : (run : CaptureRunState) (piece output output' report report' : List ℕ) (fault : BridgeFault)
-    → ((bytes more : List ℕ) (start begun : Option (List ℕ)) → IsCapturePushed run bytes start (Some output) begun (Some report)
-    → IsCaptureCut run.to run.week bytes ((bytes ++ piece) ++ more) start (Some output') begun (Some report') fault)
+    → ((bytes more : List ℕ) → IsCapturePushed run bytes (Some []) (Some output) (Some []) (Some report)
+    → IsCaptureCut run.to run.week bytes ((bytes ++ piece) ++ more) (Some []) (Some output') (Some []) (Some report') fault)
     → BreaksOff (Capture run) piece output output' report report' fault
 capture_breaks run piece output output' report report' fault short (jobs.Capture job) bytes more is =
-    cut_capture run job bytes ((bytes ++ piece) ++ more) output' report' fault is.0 is.1 (short bytes more (Some []) (Some []) is.2)
+    cut_capture run job bytes ((bytes ++ piece) ++ more) output' report' fault is.0 is.1 (short bytes more is.2)
 capture_breaks run piece output output' report report' fault short job bytes more is = absurd is
 
 pub capture_ends : (run : CaptureRunState) (output output' report report' : List ℕ) (counts : CaptureCounts)
-    → ((bytes : List ℕ) (start begun : Option (List ℕ)) → IsCapturePushed run bytes start (Some output) begun (Some report)
-    → IsCaptureWhole run.to run.week bytes start (Some output') begun (Some report') counts)
+    → ((bytes : List ℕ) → IsCapturePushed run bytes (Some []) (Some output) (Some []) (Some report)
+    → IsCaptureWhole run.to run.week bytes (Some []) (Some output') (Some []) (Some report') counts)
     → Ends (Capture run) output output' report report'
 capture_ends run output output' report report' counts ends (jobs.Capture job) bytes is =
     let of_job = named run.to (target_of job.to) run.week job.week is.0 is.1 in
-    let whole = ends bytes (Some []) (Some []) is.2 in
+    let whole = ends bytes is.2 in
     (whole.output ∙ of_job (λ t w. output_of t w bytes), whole.report ∙ of_job (λ t w. report_of_capture w bytes))
 capture_ends run output output' report report' counts ends job bytes is = absurd is
 
 -- fewer than 2^32 bytes were pushed
 pub capture_ends_short : (run : CaptureRunState) (output output' report report' : List ℕ) (fault : BridgeFault)
-    → ((bytes : List ℕ) (start begun : Option (List ℕ)) → IsCapturePushed run bytes start (Some output) begun (Some report)
-    → IsCaptureCut run.to run.week bytes bytes start (Some output') begun (Some report') fault)
+    → ((bytes : List ℕ) → IsCapturePushed run bytes (Some []) (Some output) (Some []) (Some report)
+    → IsCaptureCut run.to run.week bytes bytes (Some []) (Some output') (Some []) (Some report') fault)
     → EndsShort (Capture run) output output' report report' fault
 capture_ends_short run output output' report report' fault short (jobs.Capture job) bytes is =
-    let cut = short bytes (Some []) (Some []) is.2 in (
+    let cut = short bytes is.2 in (
       cut_capture run job bytes bytes output' report' fault is.0 is.1 cut,
       λ e. let many : 2 ^ 32 ≤ length bytes = subst (CutSays run.week bytes) e cut.says in
           absurd (omega (arith, is.2.few, many)),
@@ -161,6 +187,7 @@ cut_stream run job size bytes whole output report fault to week kind within cut 
       read = not_read size fault kind;
       form = λ e. absurd (not_form size fault kind e);
       long = λ e. omega (arith, how_long size fault kind e, within);
+      lack = λ form long. refl;
       least = subst (λ (l : List ℕ). IsPrefix l output) (of_job (flushed_text bytes))
           (subst (λ (l : List ℕ). IsPrefix (flushed_text bytes run.to run.week) l) out cut.output.no_less);
       output = subst (λ (l : List ℕ). IsPrefix output l) (of_job (whole_text whole))
@@ -170,41 +197,41 @@ cut_stream run job size bytes whole output report fault to week kind within cut 
     }
 
 pub stream_goes : (run run' : StreamRunState) (piece output output' report report' : List ℕ) → (run'.to ≡ run.to) × (run'.week ≡ run.week)
-    → ((bytes : List ℕ) (start begun : Option (List ℕ)) → IsPushed run bytes start (Some output) begun (Some report)
-    → IsPushed run' (bytes ++ piece) start (Some output') begun (Some report'))
+    → ((bytes : List ℕ) → IsPushed run bytes (Some []) (Some output) (Some []) (Some report)
+    → IsPushed run' (bytes ++ piece) (Some []) (Some output') (Some []) (Some report'))
     → run'.taken ≡ run.taken + length piece → run'.fault ≡ None
     → GoesOn (Stream run) (Stream run') piece output output' report report'
 stream_goes run run' piece output output' report report' same goes taken going (jobs.Stream job) bytes is =
-    (going, omega (arith, taken, is.1, length-append bytes piece), same.0 ∙ is.2, same.1 ∙ is.3, goes bytes (Some []) (Some []) is.4)
+    (going, omega (arith, taken, is.1, length-append bytes piece), same.0 ∙ is.2, same.1 ∙ is.3, goes bytes is.4)
 stream_goes run run' piece output output' report report' same goes taken going job bytes is = absurd is
 
 pub stream_breaks : (run : StreamRunState) (piece output output' report report' : List ℕ) (fault : BridgeFault)
-    → ((bytes more : List ℕ) (start begun : Option (List ℕ)) → IsPushed run bytes start (Some output) begun (Some report)
-    → IsCutShort run bytes ((bytes ++ piece) ++ more) start (Some output') begun (Some report'))
+    → ((bytes more : List ℕ) → IsPushed run bytes (Some []) (Some output) (Some []) (Some report)
+    → IsCutShort run bytes ((bytes ++ piece) ++ more) (Some []) (Some output') (Some []) (Some report'))
     → (run.fault ≡ None → IsPushFault (run.taken + length piece) fault)
     → BreaksOff (Stream run) piece output output' report report' fault
 stream_breaks run piece output output' report report' fault short kind (jobs.Stream job) bytes more is =
     cut_stream run job (run.taken + length piece) bytes ((bytes ++ piece) ++ more) output' report' fault is.2 is.3 (kind is.0)
-    (omega (arith, is.1, length-append (bytes ++ piece) more, length-append bytes piece)) (short bytes more (Some []) (Some []) is.4)
+    (omega (arith, is.1, length-append (bytes ++ piece) more, length-append bytes piece)) (short bytes more is.4)
 stream_breaks run piece output output' report report' fault short kind job bytes more is = absurd is
 
 pub stream_ends : (run : StreamRunState) (output output' report report' : List ℕ)
-    → ((bytes : List ℕ) (start begun : Option (List ℕ)) → IsPushed run bytes start (Some output) begun (Some report)
-    → IsWhole run bytes start (Some output') begun (Some report'))
+    → ((bytes : List ℕ) → IsPushed run bytes (Some []) (Some output) (Some []) (Some report)
+    → IsWhole run bytes (Some []) (Some output') (Some []) (Some report'))
     → Ends (Stream run) output output' report report'
 stream_ends run output output' report report' ends (jobs.Stream job) bytes is =
     let of_job = named run.to (target_of_stream job.to) run.week job.week is.2 is.3 in
-    let whole = ends bytes (Some []) (Some []) is.4 in
+    let whole = ends bytes is.4 in
     (whole.output ∙ of_job (whole_text bytes), whole.report ∙ of_job (whole_told bytes))
 stream_ends run output output' report report' ends job bytes is = absurd is
 
 pub stream_ends_short : (run : StreamRunState) (output output' report report' : List ℕ) (fault : BridgeFault)
-    → ((bytes : List ℕ) (start begun : Option (List ℕ)) → IsPushed run bytes start (Some output) begun (Some report)
-    → IsCutShort run bytes bytes start (Some output') begun (Some report'))
+    → ((bytes : List ℕ) → IsPushed run bytes (Some []) (Some output) (Some []) (Some report)
+    → IsCutShort run bytes bytes (Some []) (Some output') (Some []) (Some report'))
     → (run.fault ≡ None → IsStreamFault fault)
     → EndsShort (Stream run) output output' report report' fault
 stream_ends_short run output output' report report' fault short kind (jobs.Stream job) bytes is = (
-  cut_stream run job 0 bytes bytes output' report' fault is.2 is.3 (inl (kind is.0)) (omega arith) (short bytes (Some []) (Some []) is.4),
+  cut_stream run job 0 bytes bytes output' report' fault is.2 is.3 (inl (kind is.0)) (omega arith) (short bytes is.4),
   λ e. subst IsStreamFault e (kind is.0),
 )
 stream_ends_short run output output' report report' fault short kind job bytes is = absurd is

@@ -1,18 +1,30 @@
 -- What a run makes of the bytes that a conversion hands to it, whatever its conversion. Private
 -- functions cite these.
-use Rattle.std.specs.Prelude.{◌≡◌, ◌≢◌, ◌≤◌, ℕ, List, ◌++◌, length, None, IfSome}
+use Rattle.std.specs.Prelude.{◌≡◌, ◌≢◌, ◌≤◌, ℕ, List, ◌++◌, length, None, IfSome, IsSome}
 use Rattle.nav_io.specs.Prefix.{IsPrefix}
 use Rattle.one_run.specs.declared.fault.BridgeFault.{BridgeFault}
 use Rattle.one_run.specs.declared.fault.BridgeFault.TheVariants.{NotThisForm, ReadFault, TooLong}
 use Rattle.bridge_engine.specs.Meanings.{meaning_of}
 use Rattle.bridge_engine.specs.declared.job.Job.{Job}
+use Rattle.c_states.specs.Pending.{all_of}
 use Rattle.c_states.specs.Pushes.{IsRunOf, too_many}
+use Rattle.c_states.specs.declared.pending.Pending.{Pending}
 use Rattle.c_states.specs.declared.push.Run.{Run}
 
 -- a piece was taken, with the output and the report before and after
 abbrev pub GoesOn : Run → Run → List ℕ → List ℕ → List ℕ → List ℕ → List ℕ → Type 0
 GoesOn run run_new piece output output_new report report_new =
     (job : Job) (bytes : List ℕ) → IsRunOf run job bytes output report → IsRunOf run_new job (bytes ++ piece) output_new report_new
+
+-- no more is released than before
+abbrev pub IsAsReleased : Pending → Pending → Type 0
+IsAsReleased old new = length new.released.text ≡ length old.released.text
+
+-- the same of the output and the report of a run
+abbrev pub KeepsReleased : Run → Pending → Pending → Pending → Pending → Type 0
+KeepsReleased run output output_new report report_new =
+    (job : Job) (bytes : List ℕ) → IsRunOf run job bytes (all_of output) (all_of report)
+    → IsAsReleased output output_new × IsAsReleased report report_new
 
 -- A run of this conversion was ended early by an error, which is none of a read: what `bytes`
 -- decide was written, and of what the complete input gives no more than a prefix was written and
@@ -21,6 +33,7 @@ pub record IsCut (job : Job) (bytes whole written reported : List ℕ) (fault : 
   pub read : fault ≢ ReadFault
   pub form : fault ≡ NotThisForm → (meaning_of job).counts whole ≡ None
   pub long : fault ≡ TooLong → too_many job ≤ length whole
+  pub lack : fault ≢ NotThisForm → fault ≢ TooLong → IsSome ((meaning_of job).counts whole)
   pub least : IfSome (meaning_of job).flushed (λ texts. IsPrefix (texts.output bytes) written)
   pub output : IsPrefix written ((meaning_of job).whole.output whole)
   pub report : IsPrefix reported ((meaning_of job).whole.report whole)

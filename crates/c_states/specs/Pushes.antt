@@ -1,5 +1,5 @@
 -- A conversion whose input is pushed in pieces: what its steps leave, and what it is to hold one in memory.
-use Rattle.std.specs.Prelude.{◌≡◌, ◌≢◌, ◌⊎◌, ◌↔◌, ◌≤◌, ◌^◌, ◌+◌, ◌-◌, ℕ, List, [], ◌++◌, length, take, drop, min, All, IsUtf8, None, Some, IfSome}
+use Rattle.std.specs.Prelude.{◌≡◌, ◌≢◌, ◌⊎◌, ◌↔◌, ◌≤◌, ◌^◌, ◌+◌, ◌-◌, ◌*◌, ℕ, List, [], ◌++◌, length, take, drop, min, All, IsUtf8, None, Some, IfSome, IsSome}
 use Rattle.nav_io.specs.Prefix.{IsPrefix}
 use Rattle.captures.specs.Captures.{target_of}
 use Rattle.captures.specs.Pushed.{IsPushed as IsCapturePushed}
@@ -10,6 +10,7 @@ use Rattle.bridge_engine.specs.Meanings.{meaning_of}
 use Rattle.bridge_engine.specs.declared.job.Job.{Job}
 use Rattle.bridge_engine.specs.declared.job.Job.TheVariants as jobs
 use Rattle.c_records.specs.Rooms.{StandsIn}
+use Rattle.c_states.specs.Pending.{released_by}
 use Rattle.c_states.specs.declared.push.Run.{Run}
 use Rattle.c_states.specs.declared.push.Run.TheVariants.{Capture, Idle, Stream}
 
@@ -17,18 +18,30 @@ use Rattle.c_states.specs.declared.push.Run.TheVariants.{Capture, Idle, Stream}
 pub record PushState : Type 0 where
   -- the run that takes the input
   pub run : Run
-  -- all that was written, and how many bytes of it were taken
+  -- all that was written, how many bytes of it were taken, and how many of these are released: the
+  -- others are retained
   pub output : List ℕ
   pub taken : ℕ
-  -- all that was reported, and how many bytes of it were taken
+  pub released : ℕ
+  -- the same of all that was reported
   pub report : List ℕ
   pub told : ℕ
+  pub report_released : ℕ
   -- 0 if bytes may be pushed, else what each further push returns
   pub status : ℕ
 
 -- no conversion, and nothing retained; each further push returns so
 abbrev pub without_job : ℕ → PushState
-without_job status = record { run = Idle; output = []; taken = 0; report = []; told = 0; status = status }
+without_job status = record {
+  run = Idle;
+  output = [];
+  taken = 0;
+  released = 0;
+  report = [];
+  told = 0;
+  report_released = 0;
+  status = status;
+}
 
 -- no conversion was opened
 abbrev pub closed : PushState
@@ -55,6 +68,10 @@ IsRunOf (Stream run) (jobs.Stream job) bytes output report =
     × IsPushed run bytes (Some []) (Some output) (Some []) (Some report)
 IsRunOf run job bytes output report = ⊥
 
+-- where bytes may be pushed, those of some conversion were
+abbrev pub IsOfJob : PushState → Type 0
+IsOfJob s = s.status ≡ 0 → (job : Job) × (bytes : List ℕ) × IsRunOf s.run job bytes s.output s.report
+
 -- The conversion runs, and these bytes were pushed: exactly what they decide, whatever follows, was
 -- written and reported.
 pub record IsAt (s : PushState) (job : Job) (bytes : List ℕ) : Type 0 where
@@ -71,10 +88,11 @@ pub record HasMade (s : PushState) (job : Job) (bytes : List ℕ) : Type 0 where
 
 -- The conversion was ended early: what `bytes` decide was written, and of what the complete input
 -- gives no more than a prefix was written and reported. With the result 5 the complete input is not
--- of the form that the conversion reads, and with 8 it is too long.
+-- of the form that the conversion reads, with 6 it is, and with 8 it is too long.
 pub record IsCutAt (s : PushState) (job : Job) (bytes whole : List ℕ) (answer : ℕ) : Type 0 where
   pub form : answer ≡ 5 → (meaning_of job).counts whole ≡ None
   pub long : answer ≡ 8 → too_many job ≤ length whole
+  pub lack : answer ≡ 6 → IsSome ((meaning_of job).counts whole)
   pub least : IfSome (meaning_of job).flushed (λ texts. IsPrefix (texts.output bytes) s.output)
   pub output : IsPrefix s.output ((meaning_of job).whole.output whole)
   pub report : IsPrefix s.report ((meaning_of job).whole.report whole)
@@ -83,14 +101,19 @@ pub record IsCutAt (s : PushState) (job : Job) (bytes whole : List ℕ) (answer 
 abbrev pub Grows : PushState → PushState → Type 0
 Grows old new = IsPrefix old.output new.output × IsPrefix old.report new.report
 
--- what was taken stays so
+-- what was taken stays so, and no more is released
 abbrev pub KeepsTaken : PushState → PushState → Type 0
-KeepsTaken old new = (new.taken ≡ old.taken) × (new.told ≡ old.told)
+KeepsTaken old new =
+    (new.taken ≡ old.taken) × (new.told ≡ old.told) × (new.released ≡ old.released) × (new.report_released ≡ old.report_released)
+
+-- nothing was taken, and nothing is released
+abbrev pub NoneTaken : PushState → Type 0
+NoneTaken s = (s.taken ≡ 0) × (s.told ≡ 0) × (s.released ≡ 0) × (s.report_released ≡ 0)
 
 -- A conversion begins: bytes may be pushed, and none was; or there is no memory, or its input
 -- cannot be pushed.
 abbrev pub Begins : Job → PushState → Type 0
-Begins job new = (IsAt new job [] × (new.taken ≡ 0) × (new.told ≡ 0)) ⊎ (new ≡ without_job 6) ⊎ ((new ≡ without_job 10) × ¬ CanBePushed job)
+Begins job new = (IsAt new job [] × NoneTaken new) ⊎ (new ≡ without_job 6) ⊎ ((new ≡ without_job 10) × ¬ CanBePushed job)
 
 -- Words open a conversion, with this result.
 pub record Opens (words : List (List ℕ)) (new : PushState) (answer : ℕ) : Type 0 where
@@ -105,7 +128,7 @@ pub record Opens (words : List (List ℕ)) (new : PushState) (answer : ℕ) : Ty
   -- these results and 6, if out of memory, are all
   pub known : (answer ≡ 0) ⊎ (answer ≡ 2) ⊎ (answer ≡ 6) ⊎ (answer ≡ 9) ⊎ (answer ≡ 10)
   pub status : new.status ≡ answer
-  pub none : (new.taken ≡ 0) × (new.told ≡ 0)
+  pub none : NoneTaken new
 
 -- A piece is pushed, with this result.
 pub record Pushes (old : PushState) (piece : List ℕ) (new : PushState) (answer : ℕ) : Type 0 where
@@ -141,8 +164,18 @@ pub record Takes (made : List ℕ) (taken : ℕ) (old new : List ℕ) (count : �
 
 -- so many bytes more were taken of the output
 abbrev pub taken_more : PushState → ℕ → PushState
-taken_more s count = record { run = s.run; output = s.output; taken = s.taken + count; report = s.report; told = s.told; status = s.status }
+taken_more s count = record s {
+  taken = s.taken + count;
+  released = released_by (length s.output) (s.taken + count) s.released;
+}
 
 -- so many bytes more were taken of the report
 abbrev pub told_more : PushState → ℕ → PushState
-told_more s count = record { run = s.run; output = s.output; taken = s.taken; report = s.report; told = s.told + count; status = s.status }
+told_more s count = record s {
+  told = s.told + count;
+  report_released = released_by (length s.report) (s.told + count) s.report_released;
+}
+
+-- of so many bytes written at most twice those are retained that were not taken
+abbrev pub RetainsFew : ℕ → ℕ → ℕ → Type 0
+RetainsFew written taken released = written - released ≤ 2 * (written - taken)

@@ -18,11 +18,15 @@ pub mod deframer;
 mod kept;
 mod laws;
 pub mod pages;
+mod pending;
 pub mod push;
+mod released;
 mod words;
 
 pub use crate::kept::Kept;
 pub use crate::laws::what_a_deframer_gives_does_not_depend_on_pieces;
 pub use crate::pages::{JoinedPage, PagePairs, PartBits};
+pub use crate::pending::Pending;
 pub use crate::push::Conversion;
+pub use crate::released::Released;
 pub use crate::words::{are_texts, texts_of};

@@ -1,7 +1,7 @@
 //! A conversion whose input is pushed in pieces, and whose output and report are taken as they
 //! come.
 
-ghost use Rattle.std.specs.Prelude.{◌≡◌, ◌≢◌, ◌⊎◌, ◌↔◌};
+ghost use Rattle.std.specs.Prelude.{◌≡◌, ◌≢◌, ◌⊎◌, ◌↔◌, length};
 ghost use Rattle.std.specs.Prelude.{All, IfErr, IfOk, IsUtf8, OnOk, map};
 ghost use Rattle.std.specs.String.{string_bytes};
 ghost use Rattle.one_run.specs.declared.fault.BridgeFault.TheVariants.{NotThisForm};
@@ -9,11 +9,12 @@ ghost use Rattle.one_run.specs.declared.fault.BridgeFault.TheVariants.{ReadFault
 ghost use Rattle.one_run.specs.Ends.{number_of};
 ghost use Rattle.streams.specs.Mirrors.{IsStreamFault};
 ghost use Rattle.bridge_engine.specs.Job.{GivesJob, IsJob};
-ghost use Rattle.c_states.specs.Mirrors.{BreaksOff, Ends, EndsShort, GoesOn};
-ghost use Rattle.c_states.specs.Pushes.{Begins, Finishes, Opens, Pushes};
+ghost use Rattle.c_states.specs.Mirrors.{BreaksOff, Ends, EndsShort, GoesOn, KeepsReleased};
+ghost use Rattle.c_states.specs.Pending.{all_of};
+ghost use Rattle.c_states.specs.Pushes.{Begins, Finishes, Opens, Pushes, RetainsFew};
 ghost use Rattle.c_states.specs.Pushes.{Takes, closed, taken_more, told_more};
 
-use crate::kept::Kept;
+use crate::pending::Pending;
 use crate::words::{are_texts, texts_of};
 use bridge_engine::{BridgeFault, Job, job_of};
 use c_records::put;
@@ -48,15 +49,14 @@ impl Run {
     fn push(
         &mut self,
         piece: &[u8],
-        output: &mut Kept,
-        report: &mut Kept,
+        output: &mut Pending,
+        report: &mut Pending,
     ) -> Result<(), BridgeFault>
         ensures goes { OnOk result (GoesOn self.old self.new piece.now
-            output.old.bytes.items output.new.bytes.items
-            report.old.bytes.items report.new.bytes.items) }
+            (all_of output.old) (all_of output.new) (all_of report.old) (all_of report.new)) }
         ensures breaks { IfErr result (BreaksOff self.old piece.now
-            output.old.bytes.items output.new.bytes.items
-            report.old.bytes.items report.new.bytes.items) }
+            (all_of output.old) (all_of output.new) (all_of report.old) (all_of report.new)) }
+        ensures kept { KeepsReleased self.old output.old output.new report.old report.new }
     {
         match self {
             Run::Idle => Ok(()),
@@ -66,13 +66,12 @@ impl Run {
     }
 
     // Ends the input, where there is a run.
-    fn finish(self, output: &mut Kept, report: &mut Kept) -> Result<(), BridgeFault>
+    fn finish(self, output: &mut Pending, report: &mut Pending) -> Result<(), BridgeFault>
         ensures ends { OnOk result (Ends self
-            output.old.bytes.items output.new.bytes.items
-            report.old.bytes.items report.new.bytes.items) }
+            (all_of output.old) (all_of output.new) (all_of report.old) (all_of report.new)) }
         ensures short { IfErr result (EndsShort self
-            output.old.bytes.items output.new.bytes.items
-            report.old.bytes.items report.new.bytes.items) }
+            (all_of output.old) (all_of output.new) (all_of report.old) (all_of report.new)) }
+        ensures kept { KeepsReleased self output.old output.new report.old report.new }
     {
         match self {
             Run::Idle => Ok(()),
@@ -90,31 +89,48 @@ impl Run {
 
 /// A conversion whose input comes in pieces.
 ///
-/// It keeps all that it writes and reports, until it is closed.
+/// It retains what it writes and reports until that is taken.
 #[derive(Drop)]
 pub struct Conversion {
     alloc: Global,
     run: Run,
-    output: Kept,
+    output: Pending,
+    // how many bytes of those that are retained were taken
     taken: usize,
-    report: Kept,
+    report: Pending,
+    // the same of the report
     told: usize,
     status: u32,
 }
 
 impl Model for Conversion {
-    ghost use Rattle.c_states.specs.Pushes.{PushState};
+    ghost use Rattle.std.specs.Prelude.{◌+◌, length};
+    ghost use Rattle.c_states.specs.Pending.{all_of};
+    ghost use Rattle.c_states.specs.Pushes.{IsOfJob, PushState};
 
     ghost Value = { PushState };
 
     ghost view = { λ p. record {
       run = p.run;
-      output = p.output.bytes.items;
-      taken = p.taken;
-      report = p.report.bytes.items;
-      told = p.told;
+      output = all_of p.output;
+      taken = length p.output.released.text + p.taken;
+      released = length p.output.released.text;
+      report = all_of p.report;
+      told = length p.report.released.text + p.told;
+      report_released = length p.report.released.text;
       status = p.status;
     } };
+
+    ghost invariant = { λ p. IsOfJob (record {
+      run = p.run;
+      output = all_of p.output;
+      taken = length p.output.released.text + p.taken;
+      released = length p.output.released.text;
+      report = all_of p.report;
+      told = length p.report.released.text + p.told;
+      report_released = length p.report.released.text;
+      status = p.status;
+    }) };
 }
 
 /// A conversion that is not open yet.
@@ -124,9 +140,9 @@ pub fn new(alloc: Global) -> Conversion
     Conversion {
         alloc,
         run: Run::Idle,
-        output: Kept::new(alloc),
+        output: Pending::new(alloc),
         taken: 0,
-        report: Kept::new(alloc),
+        report: Pending::new(alloc),
         told: 0,
         status: CLOSED,
     }
@@ -177,7 +193,7 @@ fn begin(state: &mut Conversion, job: &Job)
                 state.status = 0;
             }
             Err(Failed) => {
-                state.output = Kept::new(alloc);
+                state.output = Pending::new(alloc);
                 state.status = NO_MEMORY;
             }
         },
@@ -212,6 +228,7 @@ fn answer_of(fault: BridgeFault) -> u32
     ensures capture { (fault ≡ ReadFault → ⊥) → (result ≡ 5) ⊎ (result ≡ 6) ⊎ (result ≡ 8) }
     ensures form { result ≡ 5 → fault ≡ NotThisForm }
     ensures last { result ≡ 8 → fault ≡ TooLong }
+    ensures lack { result ≡ 6 → (fault ≢ NotThisForm) × (fault ≢ TooLong) }
 {
     match fault {
         BridgeFault::ReadFault => 3,
@@ -276,13 +293,15 @@ fn put_behind(made: &[u8], taken: usize, room: &mut [u8]) -> usize
     put(&waiting[..count], room)
 }
 
-/// Puts pending output into a buffer, as many bytes as fit, and returns how many.
+/// Puts pending output into a buffer, as many bytes as fit, and returns how many. What was taken is
+/// released: at most twice what waits is retained.
 pub fn take(state: &mut Conversion, room: &mut [u8]) -> usize
     ensures takes { Takes state.old.output state.old.taken room.old room.new result }
     ensures state { state.new ≡ taken_more state.old result }
+    ensures few { RetainsFew (length state.new.output) state.new.taken state.new.released }
 {
     let count = put_behind(&state.output.bytes, state.taken, room);
-    state.taken += count;
+    state.taken = state.output.release(state.taken + count);
     count
 }
 
@@ -290,9 +309,10 @@ pub fn take(state: &mut Conversion, room: &mut [u8]) -> usize
 pub fn take_report(state: &mut Conversion, room: &mut [u8]) -> usize
     ensures takes { Takes state.old.report state.old.told room.old room.new result }
     ensures state { state.new ≡ told_more state.old result }
+    ensures few { RetainsFew (length state.new.report) state.new.told state.new.report_released }
 {
     let count = put_behind(&state.report.bytes, state.told, room);
-    state.told += count;
+    state.told = state.report.release(state.told + count);
     count
 }
 

@@ -21,18 +21,19 @@ use Rattle.captures.specs.declared.counts.Said.{Said}
 use Rattle.one_run.specs.declared.fault.BridgeFault.{BridgeFault}
 use Rattle.one_run.specs.declared.fault.BridgeFault.TheVariants.{ReadFault, WriteFault, ReportFault, TooLong, NoMemory, NotThisForm}
 use Rattle.outlets.specs.Targets.{back_text, prefix_text}
-use Rattle.captures.specs.Captures.{accepted_line, capture_in, capture_meaning, capture_of, capture_with, counts_in, counts_of, counts_text, least_output, output_of, periods, refusals_text, report_of_capture, flushed_output, flushed_report, flushed_text, target_meaning, target_of, texts_of}
+use Rattle.captures.specs.Captures.{Capture, accepted_line, capture_in, capture_meaning, capture_of, capture_with, counts_in, counts_of, counts_text, least_output, output_of, periods, refusals_text, report_of_capture, flushed_output, flushed_report, flushed_text, target_meaning, target_of, texts_of}
 use Rattle.captures.specs.declared.hearing.Hearing.{Hearing}
 use Rattle.captures.specs.Conversions.{ConvertsAll, ConversionBroke, ConversionSays}
-use Rattle.captures.specs.Converts.{AcceptsHead, CaptureAhead, CapturePrefix, GivesHead, GivesNoHead, Stop, StopSays, closed_texts, no_tally}
+use Rattle.captures.specs.Converts.{AcceptsHead, CaptureAhead, CapturePrefix, GivesHead, GivesNoHead, RejectionsPrefix, Stop, StopSays, closed_texts, no_tally}
 use Rattle.captures.specs.Notes.{line_report, tallied}
 use Rattle.captures.specs.Reports.{count_in, is_late, is_malformed, is_refused_event, is_unused}
 use Rattle.one_run.specs.Causes.{Faults, HasItsCause, faults_of}
 use Rattle.one_run.specs.Runs.{AppendsBetween, Broke, Done, Leaves, Says, World}
 use Rattle.captures.specs.Flushed.{said_of, with_counts}
-use Rattle.captures.proofs.CapturePrefixes.{Follow, accepts_first, capture_by, capture_lines, prefix_all, prefix_head, prefixes_of, known_lines, last_all, last_prefix, last_texts, least_prefix, least_none, lines_follow, nothing_part, output_is, refuses_first, refuses_none, report_prefix, report_is, flushed_is, flushed_report_is}
+use Rattle.captures.proofs.CapturePrefixes.{Follow, accepts_first, capture_by, capture_lines, prefix_all, prefix_head, prefixes_of, known_lines, last_all, last_prefix, last_texts, least_prefix, least_none, lines_follow, nothing_part, output_is, refuses_first, refuses_none, rejections_of, report_prefix, report_is, flushed_is, flushed_report_is}
 use Rattle.captures.proofs.Converting.{all_lines, ended_lines}
-use Rattle.captures.proofs.Prefixes.{LogLaws, appends_behind, appends_longer, prefix_behind, prefix_more, prefix_nil, prefix_trans}
+use Rattle.one_run.proofs.Surface.{nothing_told, taken_all}
+use Rattle.captures.proofs.Prefixes.{LogLaws, appends_behind, appends_longer, appends_whole, prefix_behind, prefix_more, prefix_nil, prefix_trans}
 use Rattle.captures.proofs.Writing.{texts_prefix}
 
 -- lines of which none was read
@@ -134,6 +135,7 @@ head_part to week left left1 written written_new reported old new head fresh h (
         prefix_head to week head h.line left written written_new reported h.accepted (known_lines left left1 old new (h.line ∷ []) h.gives.reads fresh.rest fresh.ended) (prefix, within, text),
         last_prefix to week left left1 written written_new (prefix, within, text),
       );
+      no_counts = λ other. nothing_told (λ bytes. refusals_text (capture_of week bytes)) left reported reported refl;
       says = head_accepts week left left1 old new head fresh h;
     }
 
@@ -157,6 +159,13 @@ convert_prefix to week None left1 left2 written written1 written2 reported repor
 convert_prefix to week (Some bytes) left1 left2 written written1 written2 reported reported2 middle new hearing head line fault accepted begun p k =
     let text = p.text k.0 k.2 in
     prefixes_of to week head line (p.given ++ p.last) k.0 bytes written written1 written2 reported reported2 accepted k.1 begun (text.prefix, text.within, text.grew) p.report
+
+convert_rejections : (to : Target) (week : Option ℕ) (left left1 left2 written1 written2 reported reported2 : Option (List ℕ)) (middle new : LinesState) (hearing : Hearing) (head : Accepted) (line : Line) (fault : BridgeFault) → accepted_line week line ≡ Some head
+    → (p : ConversionBroke to head [] left1 left2 middle new hearing written1 written2 reported reported2 fault)
+    → Follow left new (line ∷ (p.given ++ p.last)) → RejectionsPrefix week left reported reported2
+convert_rejections to week None left1 left2 written1 written2 reported reported2 middle new hearing head line fault accepted p k = tt
+convert_rejections to week (Some bytes) left1 left2 written1 written2 reported reported2 middle new hearing head line fault accepted p k =
+    rejections_of week head line (p.given ++ p.last) k.0 bytes reported reported2 accepted k.1 p.report
 
 -- what the fault says besides
 convert_says : (to : Target) (week : Option ℕ) (left left1 left2 written written1 written2 reported reported2 : Option (List ℕ)) (old middle new : LinesState) (hearing : Hearing) (head : Accepted) (given last : List Line) (fault : BridgeFault) → IsFresh old
@@ -224,6 +233,8 @@ convert_stops laws to week left left1 left2 written written1 written2 reported r
             (lines_follow left left2 old new (h.line ∷ (p.given ++ p.last)) reads fresh.rest fresh.ended),
         last_texts to week left left2 written written1 written2 (periods c) begun (text.prefix, text.within, text.grew),
       );
+      no_counts = λ other. convert_rejections to week left left1 left2 written1 written2 reported reported2 middle new hearing head h.line fault h.accepted p
+          (lines_follow left left2 old new (h.line ∷ (p.given ++ p.last)) reads fresh.rest fresh.ended);
       says = convert_says to week left left1 left2 written written1 written2 reported reported2 old middle new hearing head p.given p.last fault fresh h begun p.reads p.says;
     }
 
@@ -286,8 +297,8 @@ all_taken to week left left1 left2 written written1 written2 reported reported2 
 -- the trailing text was not written whole, or the counts were not reported whole
 end_stops : (laws : LogLaws) (to : Target) (week : Option ℕ) (left left2 written written2 written3 reported reported2 reported3 : Option (List ℕ)) (head : Accepted) (counts : CaptureCounts) (fault : BridgeFault)
     (t : IsTaken to week left left2 written written2 reported reported2 head counts) → AppendsPrefix written2 written3 (back_text to (counts_text counts)) → AppendsPrefix reported2 reported3 (counts_text counts)
-    → StopSays to week left t.taken written written3 reported reported3 fault → Stop to week left left2 written written3 reported reported3 fault
-end_stops laws to week left left2 written written2 written3 reported reported2 reported3 head counts fault t back report says =
+    → ((fault ≡ ReportFault → ⊥) → reported3 ≡ reported2) → StopSays to week left t.taken written written3 reported reported3 fault → Stop to week left left2 written written3 reported reported3 fault
+end_stops laws to week left left2 written written2 written3 reported reported2 reported3 head counts fault t back report untold says =
     let c = capture_by head t.given in
     let capture : capture_of week t.taken ≡ Some c = ap (capture_in week) t.lines ∙ capture_lines week head t.line t.given t.accepted in
     let texts = texts_of to (periods c) in
@@ -319,15 +330,19 @@ end_stops laws to week left left2 written written2 written3 reported reported2 r
       text = text;
       report = report_text;
       ahead = (prefix_all to week left written written3 reported reported3 t.taken same wrote report_text, last_all to week left left2 written written3 t.taken t.consumes t.end wrote);
+      no_counts = λ other. taken_all left left2 t.taken (λ bytes. AppendsPrefix reported reported3 (refusals_text (capture_of week bytes))) t.consumes t.end
+          (subst (λ (o : Option Capture). AppendsPrefix reported reported3 (refusals_text o)) (sym capture)
+          (subst (λ (u : Option (List ℕ)). AppendsPrefix reported u (line_report (log_of head.window t.given))) (sym (untold other))
+          (appends_whole reported reported2 (line_report (log_of head.window t.given)) t.report)));
       says = says;
     }
 
 pub end_stopped : (laws : LogLaws) (to : Target) (week : Option ℕ) (left left2 written written2 written3 reported reported2 reported3 : Option (List ℕ)) (head : Accepted) (counts : CaptureCounts) (fault : BridgeFault)
     → IsTaken to week left left2 written written2 reported reported2 head counts → AppendsPrefix written2 written3 (back_text to (counts_text counts)) → AppendsPrefix reported2 reported3 (counts_text counts)
-    → (fault ≡ WriteFault) ⊎ (fault ≡ ReportFault) → Stop to week left left2 written written3 reported reported3 fault
-end_stopped laws to week left left2 written written2 written3 reported reported2 reported3 head counts fault t back report kind =
-    ⊎_elim (λ (e : fault ≡ WriteFault). subst (Stop to week left left2 written written3 reported reported3) (sym e) (end_stops laws to week left left2 written written2 written3 reported reported2 reported3 head counts WriteFault t back report t.accepts))
-    (λ (e : fault ≡ ReportFault). subst (Stop to week left left2 written written3 reported reported3) (sym e) (end_stops laws to week left left2 written written2 written3 reported reported2 reported3 head counts ReportFault t back report t.accepts)) kind
+    → (fault ≡ WriteFault → reported3 ≡ reported2) → (fault ≡ WriteFault) ⊎ (fault ≡ ReportFault) → Stop to week left left2 written written3 reported reported3 fault
+end_stopped laws to week left left2 written written2 written3 reported reported2 reported3 head counts fault t back report untold kind =
+    ⊎_elim (λ (e : fault ≡ WriteFault). subst (Stop to week left left2 written written3 reported reported3) (sym e) (end_stops laws to week left left2 written written2 written3 reported reported2 reported3 head counts WriteFault t back report (λ other. untold e) t.accepts))
+    (λ (e : fault ≡ ReportFault). subst (Stop to week left left2 written written3 reported reported3) (sym e) (end_stops laws to week left left2 written written2 written3 reported reported2 reported3 head counts ReportFault t back report (λ other. absurd (other refl)) t.accepts)) kind
 
 -- ---- as a run of its meaning ends
 
@@ -338,14 +353,19 @@ leaves_nothing : {S T U : Type 0} (to : Target) (week : Option ℕ) (b a : World
 leaves_nothing to week b a = record { unread = λ e. absurd (true≢false e); silent = λ e. absurd (true≢false e) }
 
 -- each fault has its cause
+pub begin_cause : (reads reads_new writes writes_new reports : ℕ) → Rose writes writes_new → reads_new ≡ reads
+    → HasItsCause {T = Unit {0}} (faults_of reads writes reports) (faults_of reads_new writes_new reports) (Err WriteFault)
+begin_cause reads reads_new writes writes_new reports rose quiet = (rose, ap (λ (n : ℕ). faults_of n writes_new reports) quiet)
+
 pub head_cause : (week : Option ℕ) (left left_new : Option (List ℕ)) (old new : LinesState) (reads reads_new writes reports : ℕ) (fault : BridgeFault) → GivesNoHead week left left_new old new fault
-    → (fault ≡ ReadFault → Rose reads reads_new) → HasItsCause {T = Unit {0}} (faults_of reads writes reports) (faults_of reads_new writes reports) (Err fault)
-head_cause week left left_new old new reads reads_new writes reports ReadFault h rose = rose refl
-head_cause week left left_new old new reads reads_new writes reports NotThisForm h rose = tt
-head_cause week left left_new old new reads reads_new writes reports TooLong h rose = tt
-head_cause week left left_new old new reads reads_new writes reports WriteFault h rose = absurd h
-head_cause week left left_new old new reads reads_new writes reports ReportFault h rose = absurd h
-head_cause week left left_new old new reads reads_new writes reports NoMemory h rose = tt
+    → (fault ≡ ReadFault → Rose reads reads_new) → ((fault ≡ ReadFault → ⊥) → reads_new ≡ reads)
+    → HasItsCause {T = Unit {0}} (faults_of reads writes reports) (faults_of reads_new writes reports) (Err fault)
+head_cause week left left_new old new reads reads_new writes reports ReadFault h rose quiet = (rose refl, refl)
+head_cause week left left_new old new reads reads_new writes reports NotThisForm h rose quiet = ap (λ (n : ℕ). faults_of n writes reports) (quiet (λ e. cc))
+head_cause week left left_new old new reads reads_new writes reports TooLong h rose quiet = ap (λ (n : ℕ). faults_of n writes reports) (quiet (λ e. cc))
+head_cause week left left_new old new reads reads_new writes reports WriteFault h rose quiet = absurd h
+head_cause week left left_new old new reads reads_new writes reports ReportFault h rose quiet = absurd h
+head_cause week left left_new old new reads reads_new writes reports NoMemory h rose quiet = absurd h
 
 pub convert_cause : (reads reads1 writes writes1 reports : ℕ) (now : Faults) (fault : BridgeFault) → HasItsCause {T = Unit {0}} (faults_of reads1 writes1 reports) now (Err fault) → reads1 ≡ reads → writes1 ≡ writes
     → HasItsCause {T = Unit {0}} (faults_of reads writes reports) now (Err fault)
@@ -383,14 +403,20 @@ pub end_form : (fault : BridgeFault) → (fault ≡ WriteFault) ⊎ (fault ≡ R
 end_form fault kind = written_fault fault NotThisForm write_form report_form kind
 
 pub end_cause : (reads reads_new writes writes1 writes_new reports reports1 reports_new : ℕ) (fault : BridgeFault) → (fault ≡ WriteFault) ⊎ (fault ≡ ReportFault)
-    → HasItsCause {T = Unit {0}} (faults_of 0 writes1 reports1) (faults_of 0 writes_new reports_new) (Err fault) → writes1 ≡ writes → reports1 ≡ reports
+    → HasItsCause {T = Unit {0}} (faults_of 0 writes1 reports1) (faults_of 0 writes_new reports_new) (Err fault) → writes1 ≡ writes → reports1 ≡ reports → reads_new ≡ reads
     → HasItsCause {T = Unit {0}} (faults_of reads writes reports) (faults_of reads_new writes_new reports_new) (Err fault)
-end_cause reads reads_new writes writes1 writes_new reports reports1 reports_new WriteFault kind h e f = subst (λ (n : ℕ). Rose n writes_new) e h
-end_cause reads reads_new writes writes1 writes_new reports reports1 reports_new ReportFault kind h e f = subst (λ (n : ℕ). Rose n reports_new) f h
-end_cause reads reads_new writes writes1 writes_new reports reports1 reports_new ReadFault kind h e f = absurd (end_read ReadFault kind refl)
-end_cause reads reads_new writes writes1 writes_new reports reports1 reports_new NotThisForm kind h e f = absurd (end_form NotThisForm kind refl)
-end_cause reads reads_new writes writes1 writes_new reports reports1 reports_new TooLong kind h e f = tt
-end_cause reads reads_new writes writes1 writes_new reports reports1 reports_new NoMemory kind h e f = tt
+end_cause reads reads_new writes writes1 writes_new reports reports1 reports_new WriteFault kind h e f r = (
+  subst (λ (n : ℕ). Rose n writes_new) e h.0,
+  ap (λ (n : ℕ). faults_of n writes_new reports_new) r ∙ ap (λ (n : ℕ). faults_of reads writes_new n) (ap (λ (x : Faults). x.report) h.1 ∙ f),
+)
+end_cause reads reads_new writes writes1 writes_new reports reports1 reports_new ReportFault kind h e f r = (
+  subst (λ (n : ℕ). Rose n reports_new) f h.0,
+  ap (λ (n : ℕ). faults_of n writes_new reports_new) r ∙ ap (λ (n : ℕ). faults_of reads n reports_new) (ap (λ (x : Faults). x.output) h.1 ∙ e),
+)
+end_cause reads reads_new writes writes1 writes_new reports reports1 reports_new ReadFault kind h e f r = absurd (end_read ReadFault kind refl)
+end_cause reads reads_new writes writes1 writes_new reports reports1 reports_new NotThisForm kind h e f r = absurd (end_form NotThisForm kind refl)
+end_cause reads reads_new writes writes1 writes_new reports reports1 reports_new TooLong kind h e f r = absurd (written_fault TooLong TooLong (λ e. cc) (λ e. cc) kind refl)
+end_cause reads reads_new writes writes1 writes_new reports reports1 reports_new NoMemory kind h e f r = absurd (written_fault NoMemory NoMemory (λ e. cc) (λ e. cc) kind refl)
 
 pub end_quiet : (reads reads1 reads_new writes writes1 writes2 writes_new reports reports1 reports_new : ℕ) → faults_of 0 writes_new reports_new ≡ faults_of 0 writes2 reports1
     → faults_of reads_new writes2 reports1 ≡ faults_of reads1 writes1 reports → reads1 ≡ reads → writes1 ≡ writes
@@ -401,9 +427,9 @@ end_quiet reads reads1 reads_new writes writes1 writes2 writes_new reports repor
 stop_says : {S T U : Type 0} (to : Target) (week : Option ℕ) (taken : List ℕ) (b a : World S T U) (fault : BridgeFault)
     → StopSays to week b.left taken b.written a.written b.reported a.reported fault → HasItsCause {T = Unit {0}} (faults_at b) (faults_at a) (Err fault)
     → (fault ≡ ReadFault → IsTrue b.never_fails → ⊥) → (fault ≡ NotThisForm → (a.output ≡ b.output) × (a.report ≡ b.report)) → Says (target_meaning to week) taken b a fault
-stop_says to week taken b a ReadFault says cause never form = (refl, cause, never refl, says)
-stop_says to week taken b a WriteFault says cause never form = (cause, says)
-stop_says to week taken b a ReportFault says cause never form = (refl, cause, says)
+stop_says to week taken b a ReadFault says cause never form = (refl, cause.0, never refl, says)
+stop_says to week taken b a WriteFault says cause never form = (cause.0, says)
+stop_says to week taken b a ReportFault says cause never form = (refl, cause.0, says)
 stop_says to week taken b a NotThisForm says cause never form = (says.0, says.1, (form refl).0, (form refl).1)
 stop_says to week taken b a TooLong says cause never form = says
 stop_says to week taken b a NoMemory says cause never form = (refl, says)
@@ -417,6 +443,9 @@ stopped_by to target week b a fault same stop cause never form =
       consumes = stop.consumes;
       text = stop.text;
       told = stop.report;
+      ahead = stop.ahead.0;
+      no_counts = stop.no_counts;
+      cause = cause;
       leaves = leaves_nothing target week b a;
       says = stop_says target week stop.taken b a fault stop.says cause never form;
     })

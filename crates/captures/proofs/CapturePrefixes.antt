@@ -19,6 +19,7 @@ use Rattle.outlets.specs.declared.target.Target.TheVariants.{Rinex, Rinex3, Rtcm
 use Rattle.outlets.specs.Targets.{back_text, prefix_text}
 use Rattle.captures.specs.Captures.{Capture, accepted_line, capture_in, capture_of, capture_with, counts_in, counts_of, counts_text, least_output, output_of, periods, refusals_text, report_of_capture, flushed_output, flushed_report, flushed_text, texts_of, whole_report, whole_text, without_last}
 use Rattle.captures.specs.Converts.{AcceptsHead, CapturePrefix, CountsLast, Refuses, Stop, StopSays}
+use Rattle.one_run.proofs.Surface.{nothing_told}
 use Rattle.captures.specs.Notes.{line_report}
 use Rattle.captures.proofs.Prefixes.{LogLaws, appends_behind, appends_longer, prefix_behind, prefix_more, prefix_nil, prefix_trans}
 use Rattle.captures.proofs.Logs.{known_of, log_more, report_append}
@@ -196,6 +197,16 @@ prefixes_of to week head line lines more bytes written written1 written2 reporte
           (prefix_trans told all_told (all_told ++ counts_text (counts_of c)) (report_prefix head.window lines more) (prefix_more all_told (counts_text (counts_of c)))) report),
     )
 
+-- without counts
+pub rejections_of : (week : Option ℕ) (head : Accepted) (line : Line) (lines more : List Line) (bytes : List ℕ) (reported reported2 : Option (List ℕ)) → accepted_line week line ≡ Some head
+    → lines_by false bytes ≡ (line ∷ lines) ++ more → AppendsPrefix reported reported2 (line_report (log_of head.window lines))
+    → AppendsPrefix reported reported2 (refusals_text (capture_of week bytes))
+rejections_of week head line lines more bytes reported reported2 accepted all report =
+    let c = capture_by head (lines ++ more) in
+    let capture : capture_of week bytes ≡ Some c = ap (capture_in week) all ∙ capture_lines week head line (lines ++ more) accepted in
+    subst (λ (o : Option Capture). AppendsPrefix reported reported2 (refusals_text o)) (sym capture)
+    (appends_longer reported reported2 (line_report (log_of head.window lines)) (line_report (log_of head.window c.lines)) (report_prefix head.window lines more) report)
+
 -- nothing was reported, and a prefix of the leading text was written
 pub prefix_head : (to : Target) (week : Option ℕ) (head : Accepted) (line : Line) (left written written_new reported : Option (List ℕ)) → accepted_line week line ≡ Some head
     → IfSome left (λ bytes. IsPrefixOf (line ∷ []) (lines_by false bytes)) → AppendsPrefix written written_new (prefix_text to) → CapturePrefix to week left written written_new reported reported
@@ -237,6 +248,7 @@ nothing_part to week left left_new written reported t fault consumes few says = 
   };
   report = ([], prefix_nil (report_of_capture week t), Appends-nil reported);
   ahead = (prefix_nothing to week left written reported, last_nothing to week left left_new written written (Appends-nil written));
+  no_counts = λ other. nothing_told (λ bytes. refusals_text (capture_of week bytes)) left reported reported refl;
   says = says;
 }
 

@@ -280,13 +280,21 @@ converted_end to head past left left1 left2 old middle state h new start written
 -- ---- causes
 
 pub step_cause : (reads reads_new writes writes_new writes1 reports reports_new reports1 : ℕ) (fault : BridgeFault) → IsStepFault (faults_of 0 writes1 reports1) (faults_of 0 writes_new reports_new) fault
-    → writes1 ≡ writes → reports1 ≡ reports → HasItsCause {T = Unit {0}} (faults_of reads writes reports) (faults_of reads_new writes_new reports_new) (Err fault)
-step_cause reads reads_new writes writes_new writes1 reports reports_new reports1 WriteFault h e f = subst (λ (n : ℕ). Rose n writes_new) e h
-step_cause reads reads_new writes writes_new writes1 reports reports_new reports1 ReportFault h e f = subst (λ (n : ℕ). Rose n reports_new) f h
-step_cause reads reads_new writes writes_new writes1 reports reports_new reports1 NoMemory h e f = tt
-step_cause reads reads_new writes writes_new writes1 reports reports_new reports1 ReadFault h e f = absurd h
-step_cause reads reads_new writes writes_new writes1 reports reports_new reports1 TooLong h e f = absurd h
-step_cause reads reads_new writes writes_new writes1 reports reports_new reports1 NotThisForm h e f = absurd h
+    → writes1 ≡ writes → reports1 ≡ reports → reads_new ≡ reads → HasItsCause {T = Unit {0}} (faults_of reads writes reports) (faults_of reads_new writes_new reports_new) (Err fault)
+step_cause reads reads_new writes writes_new writes1 reports reports_new reports1 WriteFault h e f r = (
+  subst (λ (n : ℕ). Rose n writes_new) e h.0,
+  ap (λ (n : ℕ). faults_of n writes_new reports_new) r ∙ ap (λ (n : ℕ). faults_of reads writes_new n) (ap (λ (x : Faults). x.report) h.1 ∙ f),
+)
+step_cause reads reads_new writes writes_new writes1 reports reports_new reports1 ReportFault h e f r = (
+  subst (λ (n : ℕ). Rose n reports_new) f h.0,
+  ap (λ (n : ℕ). faults_of n writes_new reports_new) r ∙ ap (λ (n : ℕ). faults_of reads n reports_new) (ap (λ (x : Faults). x.output) h.1 ∙ e),
+)
+step_cause reads reads_new writes writes_new writes1 reports reports_new reports1 NoMemory h e f r =
+    ap (λ (n : ℕ). faults_of n writes_new reports_new) r ∙ ap (λ (n : ℕ). faults_of reads n reports_new) (ap (λ (x : Faults). x.output) h ∙ e)
+    ∙ ap (λ (n : ℕ). faults_of reads writes n) (ap (λ (x : Faults). x.report) h ∙ f)
+step_cause reads reads_new writes writes_new writes1 reports reports_new reports1 ReadFault h e f r = absurd h
+step_cause reads reads_new writes writes_new writes1 reports reports_new reports1 TooLong h e f r = absurd h
+step_cause reads reads_new writes writes_new writes1 reports reports_new reports1 NotThisForm h e f r = absurd h
 
 pub step_never : (writes writes_new reports reports_new : ℕ) (fault : BridgeFault) → IsStepFault (faults_of 0 writes reports) (faults_of 0 writes_new reports_new) fault → fault ≡ ReadFault → ⊥
 step_never writes writes_new reports reports_new fault says e = subst (IsStepFault (faults_of 0 writes reports) (faults_of 0 writes_new reports_new)) e says
@@ -298,10 +306,13 @@ pub finish_cause : {T : Type 0} (to : Target) (head : Accepted) (lines : List Li
     → HasItsCause (faults_of reads writes reports) (faults_of reads_new writes_new reports1) result
 finish_cause to head lines h new start written before (Ok x) reads reads1 reads_new writes writes_new reports reports1 a b d e done = rw (a, b, done.1, d, e) refl
 finish_cause to head lines h new start written before (Err ReadFault) reads reads1 reads_new writes writes_new reports reports1 a b d e done = absurd done.1
-finish_cause to head lines h new start written before (Err WriteFault) reads reads1 reads_new writes writes_new reports reports1 a b d e done = subst (λ (n : ℕ). Rose n writes_new) d done.1
+finish_cause to head lines h new start written before (Err WriteFault) reads reads1 reads_new writes writes_new reports reports1 a b d e done = (
+  subst (λ (n : ℕ). Rose n writes_new) d done.1,
+  ap (λ (n : ℕ). faults_of n writes_new reports1) (a ∙ b) ∙ ap (λ (n : ℕ). faults_of reads writes_new n) e,
+)
 finish_cause to head lines h new start written before (Err ReportFault) reads reads1 reads_new writes writes_new reports reports1 a b d e done = absurd done.1
 finish_cause to head lines h new start written before (Err TooLong) reads reads1 reads_new writes writes_new reports reports1 a b d e done = absurd done.1
-finish_cause to head lines h new start written before (Err NoMemory) reads reads1 reads_new writes writes_new reports reports1 a b d e done = tt
+finish_cause to head lines h new start written before (Err NoMemory) reads reads1 reads_new writes writes_new reports reports1 a b d e done = rw (a, b, done.1, d, e) refl
 finish_cause to head lines h new start written before (Err NotThisForm) reads reads1 reads_new writes writes_new reports reports1 a b d e done = absurd done.1
 
 pub finish_never : {T : Type 0} (to : Target) (head : Accepted) (lines : List Line) (h new : Hearing) (start written : Option (List ℕ)) (before now : ℕ) (result : Result T BridgeFault)

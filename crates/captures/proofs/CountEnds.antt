@@ -3,14 +3,15 @@ use Rattle.std.proofs.Common.{◌≡◌, ◌<◌, ◌^◌, ℕ, List, length, le
 use Rattle.std.specs.Prelude.{Option, None, Some, IfSome, IsSome, IsTrue, Ok}
 use Rattle.std.proofs.lemmas.Bool.{true≢false}
 use Rattle.std.specs.Io.KnownBytes.{Appends, Consumes}
-use Rattle.one_run.specs.Causes.{faults_of}
+use Rattle.nav_io.specs.Prefix.{AppendsPrefix}
+use Rattle.one_run.specs.Causes.{Faults, faults_of}
 use Rattle.one_run.specs.Runs.{Broke, Done, World}
 use Rattle.one_run.specs.declared.fault.BridgeFault.{BridgeFault}
 use Rattle.one_run.specs.declared.fault.BridgeFault.TheVariants.{ReadFault, WriteFault, ReportFault, TooLong, NoMemory, NotThisForm}
 use Rattle.one_run.proofs.Surface.{counts_of, told_of, text_of}
 use Rattle.outlets.specs.declared.target.Target.TheVariants.{Count}
 use Rattle.captures.specs.declared.counts.CaptureCounts.{CaptureCounts}
-use Rattle.captures.specs.Captures.{Capture, capture_of, counts_in, output_of, report_of_capture, target_meaning}
+use Rattle.captures.specs.Captures.{Capture, capture_of, counts_in, output_of, refusals_text, report_of_capture, target_meaning}
 use Rattle.captures.specs.Converts.{CaptureAhead}
 use Rattle.captures.specs.declared.seed_target.SeedCounts.TheVariants.{Counted}
 use Rattle.captures.specs.Counting.{CountBroke, CountDone, IsSeedFault}
@@ -45,11 +46,13 @@ none_there (Some c) some none = absurd cc
 cause_of : {S T U : Type 0} (r : ℕ) (text : List ℕ) (b a : World S T U) (fault : BridgeFault) → b.left ≡ Some text → length text < 2 ^ 32 → IsSome (capture_of (Some r) text) → IsTrue b.never_fails
     → Broke (target_meaning Count (Some r)) b a fault → IsSeedFault (faults_of 0 b.writes_failed b.reports_failed) (faults_of 0 a.writes_failed a.reports_failed) fault
 cause_of r text b a ReadFault known low some never h = h.says.2 never
-cause_of r text b a WriteFault known low some never h = h.says.0
-cause_of r text b a ReportFault known low some never h = h.says.1
+cause_of r text b a WriteFault known low some never h = (h.cause.0, ap (λ (n : ℕ). faults_of 0 a.writes_failed n) (ap (λ (f : Faults). f.report) h.cause.1))
+cause_of r text b a ReportFault known low some never h = (h.cause.0, ap (λ (n : ℕ). faults_of 0 n a.reports_failed) (ap (λ (f : Faults). f.output) h.cause.1))
 cause_of r text b a NotThisForm known low some never h = none_there (capture_of (Some r) text) some (rw known at h.says.1)
 cause_of r text b a TooLong known low some never h = not_too_many text h.taken a.left low (subst (λ (o : Option (List ℕ)). Consumes o a.left h.taken) known h.consumes) h.says
-cause_of r text b a NoMemory known low some never h = tt
+cause_of r text b a NoMemory known low some never h =
+    ap (λ (n : ℕ). faults_of 0 n a.reports_failed) (ap (λ (f : Faults). f.output) h.cause)
+    ∙ ap (λ (n : ℕ). faults_of 0 b.writes_failed n) (ap (λ (f : Faults). f.report) h.cause)
 
 prefix_of : (r : ℕ) (text : List ℕ) (left left_new written written_new reported reported_new : Option (List ℕ)) → left ≡ Some text
     → CaptureAhead Count (Some r) left left_new written written_new reported reported_new → CountBroke r text written written_new reported reported_new
@@ -59,6 +62,10 @@ prefix_of r text left left_new written written_new reported reported_new known h
 pub count_broke : {S T U : Type 0} (r : ℕ) (text left : List ℕ) (b a : World S T U) (fault : BridgeFault) → left ≡ text → b.left ≡ Some left → length text < 2 ^ 32 → IsSome (capture_of (Some r) text) → IsTrue b.never_fails
     → Broke (target_meaning Count (Some r)) b a fault → CaptureAhead Count (Some r) b.left a.left b.written a.written b.reported a.reported
     → CountBroke r text b.written a.written b.reported a.reported × IsSeedFault (faults_of 0 b.writes_failed b.reports_failed) (faults_of 0 a.writes_failed a.reports_failed) fault
+    × ((fault ≡ ReportFault → ⊥) → AppendsPrefix b.reported a.reported (refusals_text (capture_of (Some r) text)))
 count_broke r text left b a fault same known low some never broke ahead =
-    let all : b.left ≡ Some text = known ∙ ap Some same in
-    (prefix_of r text b.left a.left b.written a.written b.reported a.reported all ahead, cause_of r text b a fault all low some never broke)
+    let all : b.left ≡ Some text = known ∙ ap Some same in (
+      prefix_of r text b.left a.left b.written a.written b.reported a.reported all ahead,
+      cause_of r text b a fault all low some never broke,
+      λ other. subst (λ (o : Option (List ℕ)). IfSome o (λ bytes. AppendsPrefix b.reported a.reported (refusals_text (capture_of (Some r) bytes)))) all (broke.no_counts other),
+    )

@@ -599,7 +599,7 @@ pub piece_read : (to : Target) (week : Option ℕ) (bytes piece rest : List ℕ)
     → IsWaiting lines × IsBehind to week lines hearing (bytes ++ piece) start written begun reported
 piece_read to week bytes piece rest failed lines hearing start written begun reported writes writes_new reports reports_new fault e cause stop =
     let rose : Rose 0 (piece_faults failed rest) =
-    subst (λ (f : BridgeFault). HasItsCause {T = Unit {0}} (faults_of 0 writes reports) (faults_of (piece_faults failed rest) writes_new reports_new) (Err f)) e cause in
+    (subst (λ (f : BridgeFault). HasItsCause {T = Unit {0}} (faults_of 0 writes reports) (faults_of (piece_faults failed rest) writes_new reports_new) (Err f)) e cause).0 in
     let says = subst (FollowSays to week bytes (bytes ++ stop.taken) lines hearing start written begun reported) e stop.says in
     let whole : stop.taken ≡ piece = sym (append-nil stop.taken) ∙ ap (λ (l : List ℕ). stop.taken ++ l) (sym (piece_ends failed rest rose)) ∙ sym (piece_split piece stop.taken rest stop.consumes) in
     (says.0, subst (λ (l : List ℕ). IsBehind to week lines hearing (bytes ++ l) start written begun reported) whole says.1)

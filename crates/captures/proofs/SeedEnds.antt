@@ -6,18 +6,19 @@ use Rattle.std.specs.Io.KnownBytes.{Appends}
 use Rattle.std.proofs.KnownBytes.{Appends-nil}
 use Rattle.nav_io.specs.Prefix.{AppendsPrefix}
 use Rattle.nav_vectors.specs.Text.{capture_text}
-use Rattle.one_run.specs.Causes.{Faults, faults_of}
-use Rattle.one_run.specs.Runs.{Broke, Done, Ended, Says, World}
+use Rattle.one_run.specs.Causes.{Faults, HasItsCause, faults_of}
+use Rattle.one_run.specs.Runs.{Broke, Done, Ended, Says, World, faults_in}
+use Rattle.one_run.proofs.Surface.{none_failed, report_failed, write_failed}
 use Rattle.one_run.specs.declared.fault.BridgeFault.{BridgeFault}
 use Rattle.one_run.specs.declared.fault.BridgeFault.TheVariants.{ReadFault, WriteFault, ReportFault, TooLong, NoMemory, NotThisForm}
 use Rattle.outlets.specs.declared.target.Target.TheVariants.{Count}
 use Rattle.captures.specs.declared.counts.CaptureCounts.{CaptureCounts}
-use Rattle.captures.specs.Captures.{Capture, capture_of, counts_in, counts_of, output_of, report_of_capture}
+use Rattle.captures.specs.Captures.{Capture, capture_of, counts_in, counts_of, output_of, refusals_text, report_of_capture}
 use Rattle.captures.specs.declared.seed_target.SeedTo.{SeedTo}
 use Rattle.captures.specs.declared.seed_target.SeedTo.TheVariants as seeds
 use Rattle.captures.specs.declared.seed_target.SeedCounts.{SeedCounts}
 use Rattle.captures.specs.declared.seed_target.SeedCounts.TheVariants.{Written, Counted}
-use Rattle.captures.specs.Seeds.{generated, is_counted, seed_counts, seed_meaning, seed_output, seed_report}
+use Rattle.captures.specs.Seeds.{generated, is_counted, seed_counts, seed_meaning, seed_output, seed_rejections, seed_report}
 use Rattle.captures.specs.Counting.{CountsText, IsSeedFault, WritesText}
 
 -- a run that is done
@@ -42,20 +43,33 @@ done_by to seed n r b a counts unread silent text told same reads writes reports
 seed_says : {S T U : Type 0} (to : SeedTo) (seed n r : ℕ) (b a : World S T U) (fault : BridgeFault) → (fault ≡ ReportFault → is_counted to ≡ true)
     → IsSeedFault (faults_of 0 b.writes_failed b.reports_failed) (faults_of 0 a.writes_failed a.reports_failed) fault → Says (seed_meaning to seed n r) [] b a fault
 seed_says to seed n r b a ReadFault reports h = absurd h
-seed_says to seed n r b a WriteFault reports h = (h, refl)
-seed_says to seed n r b a ReportFault reports h = (reports refl, h, refl)
+seed_says to seed n r b a WriteFault reports h = (h.0, refl)
+seed_says to seed n r b a ReportFault reports h = (reports refl, h.0, refl)
 seed_says to seed n r b a NotThisForm reports h = absurd h
 seed_says to seed n r b a TooLong reports h = absurd h
 seed_says to seed n r b a NoMemory reports h = (refl, refl)
 
+seed_cause : {S T U : Type 0} (b a : World S T U) (fault : BridgeFault) → a.reads_failed ≡ b.reads_failed
+    → IsSeedFault (faults_of 0 b.writes_failed b.reports_failed) (faults_of 0 a.writes_failed a.reports_failed) fault → HasItsCause {T = Unit {0}} (faults_in b) (faults_in a) (Err fault)
+seed_cause b a ReadFault reads h = absurd h
+seed_cause b a WriteFault reads h = write_failed b a h.0 reads (ap (λ (f : Faults). f.report) h.1)
+seed_cause b a ReportFault reads h = report_failed b a h.0 reads (ap (λ (f : Faults). f.output) h.1)
+seed_cause b a NotThisForm reads h = absurd h
+seed_cause b a TooLong reads h = absurd h
+seed_cause b a NoMemory reads h = none_failed b a reads (ap (λ (f : Faults). f.output) h) (ap (λ (f : Faults). f.report) h)
+
 broke_by : {S T U : Type 0} (to : SeedTo) (seed n r : ℕ) (b a : World S T U) (fault : BridgeFault) → a.input ≡ b.input → (is_counted to ≡ false → a.report ≡ b.report) → (fault ≡ ReportFault → is_counted to ≡ true)
     → AppendsPrefix b.written a.written (seed_output to seed n r) → AppendsPrefix b.reported a.reported (seed_report to seed n r)
+    → ((fault ≡ ReportFault → ⊥) → AppendsPrefix b.reported a.reported (seed_rejections to seed n r)) → a.reads_failed ≡ b.reads_failed
     → IsSeedFault (faults_of 0 b.writes_failed b.reports_failed) (faults_of 0 a.writes_failed a.reports_failed) fault → Broke (seed_meaning to seed n r) b a fault
-broke_by to seed n r b a fault unread silent reports text told cause = record {
+broke_by to seed n r b a fault unread silent reports text told no_counts reads cause = record {
   taken = [];
   consumes = refl;
   text = record { prefix = text.0; within = text.1; no_less = (text.0, refl); grew = text.2 };
   told = told;
+  ahead = (text, told);
+  no_counts = no_counts;
+  cause = seed_cause b a fault reads cause;
   leaves = record { unread = λ e. unread; silent = silent };
   says = seed_says to seed n r b a fault reports cause;
 }
@@ -63,7 +77,8 @@ broke_by to seed n r b a fault unread silent reports text told cause = record {
 -- nothing was written and nothing reported
 pub no_memory : {S T U : Type 0} (to : SeedTo) (seed n r : ℕ) (b : World S T U) → Broke (seed_meaning to seed n r) b b NoMemory
 no_memory to seed n r b =
-    broke_by to seed n r b b NoMemory refl (λ e. refl) (λ e. absurd cc) ([], (seed_output to seed n r, refl), Appends-nil b.written) ([], (seed_report to seed n r, refl), Appends-nil b.reported) tt
+    broke_by to seed n r b b NoMemory refl (λ e. refl) (λ e. absurd cc) ([], (seed_output to seed n r, refl), Appends-nil b.written) ([], (seed_report to seed n r, refl), Appends-nil b.reported)
+    (λ other. ([], (seed_rejections to seed n r, refl), Appends-nil b.reported)) refl refl
 
 -- ---- the capture
 
@@ -74,7 +89,8 @@ written_by seed n r text b a (Ok counts) same unread unsaid reads reports told h
     done_by seeds.Capture seed n r b a counts unread (λ e. unsaid) (subst (Appends b.written a.written) same h.0) told (h.1 ∙ ap (λ (l : List ℕ). Written (length l)) same) reads
     (ap (λ (f : Faults). f.output) h.2) reports
 written_by seed n r text b a (Err WriteFault) same unread unsaid reads reports told h =
-    broke_by seeds.Capture seed n r b a WriteFault unread (λ e. unsaid) (λ e. absurd cc) (subst (AppendsPrefix b.written a.written) same h.0) ([], ([], refl), told) h.1
+    broke_by seeds.Capture seed n r b a WriteFault unread (λ e. unsaid) (λ e. absurd cc) (subst (AppendsPrefix b.written a.written) same h.0) ([], ([], refl), told)
+    (λ other. ([], ([], refl), told)) reads (h.1, ap (λ (n : ℕ). faults_of 0 a.writes_failed n) reports)
 written_by seed n r text b a (Err ReadFault) same unread unsaid reads reports told h = absurd h
 written_by seed n r text b a (Err ReportFault) same unread unsaid reads reports told h = absurd h
 written_by seed n r text b a (Err NotThisForm) same unread unsaid reads reports told h = absurd h
@@ -109,7 +125,8 @@ counted_by seed n r b a (Ok counts) capture output report unread reads h =
     done_by seeds.Count seed n r b a counts unread (λ e. absurd (true≢false e)) (subst (Appends b.written a.written) output h.wrote) (subst (Appends b.reported a.reported) report h.told)
     (known_counts counts (capture_of (Some r) (capture_text seed n r)) (generated seed n r) h.of capture h.of_is h.counted) reads (ap (λ (f : Faults). f.output) h.quiet) (ap (λ (f : Faults). f.report) h.quiet)
 counted_by seed n r b a (Err fault) capture output report unread reads h =
-    broke_by seeds.Count seed n r b a fault unread (λ e. absurd (true≢false e)) (λ e. refl) (subst (AppendsPrefix b.written a.written) output h.0.0) (subst (AppendsPrefix b.reported a.reported) report h.0.1) h.1
+    broke_by seeds.Count seed n r b a fault unread (λ e. absurd (true≢false e)) (λ e. refl) (subst (AppendsPrefix b.written a.written) output h.0.0) (subst (AppendsPrefix b.reported a.reported) report h.0.1)
+    (λ other. subst (AppendsPrefix b.reported a.reported) (ap refusals_text capture) (h.2 other)) reads h.1
 
 pub ended_count : {S T U : Type 0} (to : SeedTo) (seed n r : ℕ) (text : List ℕ) (b a : World S T U) (result : Result SeedCounts BridgeFault) → to ≡ seeds.Count → text ≡ capture_text seed n r
     → capture_of (Some r) (capture_text seed n r) ≡ Some (generated seed n r)

@@ -127,8 +127,8 @@ took_line laws to head number lines line item old new start written told reporte
 -- by what the item broke off
 unheard_cause : (v w : Option (List ℕ)) (written before now : ℕ) (log : List Noted) (fault : BridgeFault) → Unheard v w before now log fault
     → AppendsPrefix v w (line_report log) × IsStepFault (faults_of 0 written before) (faults_of 0 written now) fault
-unheard_cause v w written before now log ReportFault h = h
-unheard_cause v w written before now log NoMemory h = (h.0, tt)
+unheard_cause v w written before now log ReportFault h = (h.0, (h.1, refl))
+unheard_cause v w written before now log NoMemory h = (h.0, ap (λ (n : ℕ). faults_of 0 written n) h.1)
 unheard_cause v w written before now log ReadFault h = absurd h
 unheard_cause v w written before now log WriteFault h = absurd h
 unheard_cause v w written before now log TooLong h = absurd h
@@ -227,8 +227,8 @@ stands_written to head before watermark lines h assembly said start written writ
 
 -- by what writing broke off
 writing_cause : (told before now : ℕ) (fault : BridgeFault) → IsWriting {T = Unit {0}} before now (Err fault) → IsStepFault (faults_of 0 before told) (faults_of 0 now told) fault
-writing_cause told before now WriteFault h = h
-writing_cause told before now NoMemory h = tt
+writing_cause told before now WriteFault h = (h, refl)
+writing_cause told before now NoMemory h = ap (λ (n : ℕ). faults_of 0 n told) h
 writing_cause told before now ReadFault h = absurd h
 writing_cause told before now ReportFault h = absurd h
 writing_cause told before now TooLong h = absurd h

@@ -205,6 +205,7 @@ target_meaning to week = record {
   limit = 2 ^ 32;
   counts = λ bytes. counts_in (capture_of week bytes);
   whole = record { output = output_of to week; report = report_of_capture week };
+  rejections = λ bytes. refusals_text (capture_of week bytes);
   least = least_output to week;
   flushed = Some (record { output = flushed_output to week; report = flushed_report week });
 }

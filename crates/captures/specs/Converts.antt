@@ -13,7 +13,7 @@ use Rattle.outlets.specs.declared.target.Target.TheVariants.{Count}
 use Rattle.captures.specs.declared.counts.Tally.{Tally}
 use Rattle.one_run.specs.declared.fault.BridgeFault.{BridgeFault}
 use Rattle.one_run.specs.declared.fault.BridgeFault.TheVariants.{ReadFault, WriteFault, ReportFault, TooLong, NoMemory, NotThisForm}
-use Rattle.captures.specs.Captures.{accepted_line, capture_of, counts_in, least_output, output_of, report_of_capture, flushed_output, flushed_report, texts_of}
+use Rattle.captures.specs.Captures.{accepted_line, capture_of, counts_in, least_output, output_of, refusals_text, report_of_capture, flushed_output, flushed_report, texts_of}
 use Rattle.captures.specs.declared.accept.Accepted.{Accepted}
 use Rattle.captures.specs.Notes.{KeepsHalves, tallied, total}
 use Rattle.one_run.specs.Runs.{AppendsBetween}
@@ -60,6 +60,10 @@ abbrev pub CapturePrefix : Target → Option ℕ → Option (List ℕ) → Optio
 CapturePrefix to week left written written_new reported reported_new =
     IfSome left (λ bytes. AppendsPrefix written written_new (output_of to week bytes) × AppendsPrefix reported reported_new (report_of_capture week bytes))
 
+-- no counts were reported: what was is a prefix of the rejections of the complete input
+abbrev pub RejectionsPrefix : Option ℕ → Option (List ℕ) → Option (List ℕ) → Option (List ℕ) → Type 0
+RejectionsPrefix week left reported reported_new = IfSome left (λ bytes. AppendsPrefix reported reported_new (refusals_text (capture_of week bytes)))
+
 -- counts are written only after the input was read to its end
 abbrev pub CountsLast : Target → Option ℕ → Option (List ℕ) → Option (List ℕ) → Option (List ℕ) → Option (List ℕ) → Type 0
 CountsLast Count week left left_new written written_new = WritesLast (output_of Count week) left left_new written written_new
@@ -95,4 +99,5 @@ pub record Stop (to : Target) (week : Option ℕ) (left left_new written written
   pub text : AppendsBetween written written_new (least_output to week taken) (output_of to week taken)
   pub report : AppendsPrefix reported reported_new (report_of_capture week taken)
   pub ahead : CaptureAhead to week left left_new written written_new reported reported_new
+  pub no_counts : (fault ≡ ReportFault → ⊥) → RejectionsPrefix week left reported reported_new
   pub says : StopSays to week left taken written written_new reported reported_new fault

@@ -3,24 +3,24 @@ use Rattle.std.specs.Prelude.{◌≡◌, ℕ, List, length, Option, Some, Result
 use Rattle.std.specs.Io.KnownBytes.{Appends}
 use Rattle.nav_io.specs.Causes.{Rose}
 use Rattle.nav_io.specs.Prefix.{AppendsPrefix}
-use Rattle.one_run.specs.Causes.{Faults}
+use Rattle.one_run.specs.Causes.{Faults, HasItsCause}
 use Rattle.one_run.specs.declared.fault.BridgeFault.{BridgeFault}
 use Rattle.one_run.specs.declared.fault.BridgeFault.TheVariants.{ReadFault, WriteFault, ReportFault, TooLong, NoMemory, NotThisForm}
 use Rattle.outlets.specs.declared.target.Target.TheVariants.{Count}
 use Rattle.captures.specs.declared.counts.CaptureCounts.{CaptureCounts}
-use Rattle.captures.specs.Captures.{capture_of, counts_in, output_of, report_of_capture}
+use Rattle.captures.specs.Captures.{capture_of, counts_in, output_of, refusals_text, report_of_capture}
 use Rattle.captures.specs.declared.seed_target.SeedCounts.{SeedCounts}
 use Rattle.captures.specs.declared.seed_target.SeedCounts.TheVariants.{Written, Counted}
 
--- the error count of the output or report that failed rose; the input, its form and its length are
--- never the cause
+-- the error count of the output or report that failed rose, and no other; the input, its form and
+-- its length are never the cause
 abbrev pub IsSeedFault : Faults → Faults → BridgeFault → Type 0
 IsSeedFault before now ReadFault = ⊥
-IsSeedFault before now WriteFault = Rose before.output now.output
-IsSeedFault before now ReportFault = Rose before.report now.report
+IsSeedFault before now WriteFault = HasItsCause {T = Unit {0}} before now (Err WriteFault)
+IsSeedFault before now ReportFault = HasItsCause {T = Unit {0}} before now (Err ReportFault)
 IsSeedFault before now NotThisForm = ⊥
 IsSeedFault before now TooLong = ⊥
-IsSeedFault before now NoMemory = Unit {0}
+IsSeedFault before now NoMemory = HasItsCause {T = Unit {0}} before now (Err NoMemory)
 
 -- the text was written, or a prefix of it
 abbrev pub WritesText : List ℕ → Option (List ℕ) → Option (List ℕ) → Faults → Faults → Result SeedCounts BridgeFault → Type 0
@@ -50,3 +50,4 @@ CountsText r text written written_new reported reported_new before now (Ok count
     CountDone r text written written_new reported reported_new before now counts
 CountsText r text written written_new reported reported_new before now (Err fault) =
     CountBroke r text written written_new reported reported_new × IsSeedFault before now fault
+    × ((fault ≡ ReportFault → ⊥) → AppendsPrefix reported reported_new (refusals_text (capture_of (Some r) text)))

@@ -11,7 +11,7 @@ use Rattle.slot_assembly.specs.SlotStanding.{SlotsStandFor}
 use Rattle.capture_log.specs.Events.{Known, item_line}
 use Rattle.capture_log.specs.Log.{Noted, log_of, watermark_after, parts_of}
 use Rattle.capture_log.specs.declared.event.Event.{Event}
-use Rattle.one_run.specs.Causes.{Faults}
+use Rattle.one_run.specs.Causes.{Faults, HasItsCause}
 use Rattle.one_run.specs.Runs.{AppendsBetween}
 use Rattle.one_run.specs.declared.fault.BridgeFault.{BridgeFault}
 use Rattle.one_run.specs.declared.fault.BridgeFault.TheVariants.{WriteFault, ReportFault, NoMemory}
@@ -111,11 +111,11 @@ pub record HoldsSome (to : Target) (h : Hearing) (written : Option (List ℕ)) :
   pub few : 1 + length lines < 2 ^ 32
   pub stands : Stands to head lines h start written told reported
 
--- why a line broke off: out of memory, or an output or a report that failed, whose error count rose
+-- why a line broke off: out of memory, or an output or a report that failed, whose error count rose alone
 abbrev pub IsStepFault : Faults → Faults → BridgeFault → Type 0
-IsStepFault before now WriteFault = Rose before.output now.output
-IsStepFault before now ReportFault = Rose before.report now.report
-IsStepFault before now NoMemory = Unit {0}
+IsStepFault before now WriteFault = HasItsCause {T = Unit {0}} before now (Err WriteFault)
+IsStepFault before now ReportFault = HasItsCause {T = Unit {0}} before now (Err ReportFault)
+IsStepFault before now NoMemory = HasItsCause {T = Unit {0}} before now (Err NoMemory)
 IsStepFault before now _ = ⊥
 
 -- A line was not fully processed. Whatever lines follow, a prefix was written of what they all give, no less than what is closed

@@ -27,6 +27,11 @@ seed_report seeds.Capture seed n r = []
 seed_report seeds.Count seed n r =
     report_in (codes "line") (log_of 7200 (generated seed n r).lines) ++ counts_text (counts_of (generated seed n r))
 
+-- what is reported before the counts
+abbrev pub seed_rejections : SeedTo → ℕ → ℕ → ℕ → List ℕ
+seed_rejections seeds.Capture seed n r = []
+seed_rejections seeds.Count seed n r = report_in (codes "line") (log_of 7200 (generated seed n r).lines)
+
 -- what is counted: the bytes that were written, or what a run over the capture counts
 abbrev pub seed_counts : SeedTo → ℕ → ℕ → ℕ → SeedCounts
 seed_counts seeds.Capture seed n r = Written (length (capture_text seed n r))
@@ -46,6 +51,7 @@ seed_meaning to seed n r = record {
   limit = 2 ^ 32;
   counts = λ bytes. Some (seed_counts to seed n r);
   whole = record { output = λ bytes. seed_output to seed n r; report = λ bytes. seed_report to seed n r };
+  rejections = λ bytes. seed_rejections to seed n r;
   least = no_least;
   flushed = None;
 }

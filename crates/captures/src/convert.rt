@@ -47,6 +47,8 @@ pub(crate) fn first_line<S: Source>(
     ensures read { IsErrOf result BridgeFault.ReadFault
         → Rose (S.faults input.old) (S.faults input.new) }
     ensures quiet { OnOk result (S.faults input.new ≡ S.faults input.old) }
+    ensures still { (IsErrOf result BridgeFault.ReadFault → ⊥)
+        → S.faults input.new ≡ S.faults input.old }
     ensures never { IsTrue (S.never_fails input.old)
         → (IsErrOf result BridgeFault.ReadFault → ⊥) × IsTrue (S.never_fails input.new) }
 {
@@ -116,6 +118,8 @@ pub(crate) fn end_run<T: Sink, U: Sink>(
         (back_text to.now (counts_text counts.now))) }
     ensures report_part { OnErr result
         (AppendsPrefix (U.written report.old) (U.written report.new) (counts_text counts.now)) }
+    ensures untold { IsErrOf result BridgeFault.WriteFault
+        → U.written report.new ≡ U.written report.old }
     ensures kind { IfErr result (λ fault.
         (fault ≡ BridgeFault.WriteFault) ⊎ (fault ≡ BridgeFault.ReportFault)) }
     ensures cause { HasItsCause

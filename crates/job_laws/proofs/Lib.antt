@@ -21,3 +21,11 @@ mod LogLines
 mod TakenLogs
 mod FirstLines
 mod FormsTold
+mod RinexTexts
+mod RinexFields
+mod RinexRows
+mod RinexItems
+mod RinexKinds
+mod RinexRecords3
+mod RinexHeaders
+mod RinexWholeFiles

@@ -9,3 +9,5 @@ pub mod LogItems
 pub mod LogHeard
 pub mod LogTaken
 pub mod Told
+pub mod RinexRecords
+pub mod RinexFiles

@@ -35,6 +35,13 @@
 //! - [`a_sent_file_comes_back`]: what is received of the capture is converted back to the text of
 //!   the items that were sent.
 //!
+//! Of the records and the header of a navigation file (`rinex_read`):
+//!
+//! - [`records_give_their_items`] and [`records3_give_their_items`]: lines are read as an item
+//!   exactly if they are a record of it, column by column;
+//! - [`headers_have_their_columns`], the same of a header, and [`files_give_their_items`], of the
+//!   bytes of a file.
+//!
 //! Of the log of a receiver (`receiver_log`) and its capture:
 //!
 //! - [`a_log_is_heard_through_its_capture`]: the parts received from the capture are those that the
@@ -47,6 +54,7 @@ mod counted;
 mod forms;
 mod laws;
 mod logs;
+mod records;
 mod round_trip;
 
 pub use crate::counted::{
@@ -61,5 +69,9 @@ pub use crate::laws::{
 pub use crate::logs::{
     a_heard_log_is_a_capture, a_log_is_converted_through_its_capture,
     a_log_is_heard_through_its_capture,
+};
+pub use crate::records::{
+    files_give_their_items, headers_have_their_columns, records_give_their_items,
+    records3_give_their_items,
 };
 pub use crate::round_trip::a_sent_file_comes_back;

@@ -1,7 +1,7 @@
 -- How a run over a file ends: in the header, after it, after its records, or well. What is written, reported and counted of the
 -- records is the job's.
-use Rattle.std.proofs.Common.{◌≡◌, ◌⊎◌, inl, inr, ◌^◌, ℕ, Bool, true, false, List, [], ◌∷◌, ◌++◌, length, refl, sym, ap, subst, ◌∙◌, arith, append-nil, length-append}
-use Rattle.std.specs.Prelude.{Option, None, Some, Result, Err, IfSome, IsSome, IsTrue, IsErrOf}
+use Rattle.std.proofs.Common.{◌≡◌, ◌⊎◌, inl, inr, ◌^◌, ℕ, Bool, true, false, List, [], ◌∷◌, ◌++◌, length, refl, sym, ap, subst, ◌∙◌, arith, append_assoc, append-nil, length-append}
+use Rattle.std.specs.Prelude.{Option, None, Some, Result, Ok, Err, IfSome, IsSome, IsTrue, IsErrOf}
 use Rattle.std.specs.List.{flat_map}
 use Rattle.std.specs.Io.KnownBytes.{Appends, Consumes, IsAtEnd}
 use Rattle.std.proofs.KnownBytes.{Appends-nil, Consumes-trans}
@@ -19,23 +19,21 @@ use Rattle.rinex_read.specs.declared.judged.ItemRead.{ItemRead}
 use Rattle.one_run.specs.declared.fault.BridgeFault.{BridgeFault}
 use Rattle.one_run.specs.declared.fault.BridgeFault.TheVariants.{ReadFault, WriteFault, ReportFault, NotThisForm, TooLong, NoMemory}
 use Rattle.one_run.specs.Causes.{Faults, HasItsCause, faults_of}
-use Rattle.one_run.specs.Runs.{AppendsBetween, Broke, Done, Leaves, Meaning, Says, World}
-use Rattle.one_run.proofs.Surface.{between, prefix_nil, prefix_trans, prefix_within, no_prefix}
+use Rattle.one_run.specs.Runs.{AppendsBetween, Broke, Done, IsAheadOf, Leaves, Meaning, Says, World, faults_in}
+use Rattle.one_run.proofs.Surface.{ahead_at_end, ahead_by, between, no_prefix, none_failed, nothing_ahead, nothing_told, prefix_nil, prefix_of, prefix_trans, prefix_within, read_failed, report_failed, taken_all, with_rest, write_failed}
 use Rattle.nav_files.specs.Files.{counted_in, file_meaning, text_before, text_in}
 use Rattle.nav_files.specs.Mirrors.{HeaderFaultOf, NoHeader}
 use Rattle.nav_files.specs.Taken.{AtEnd}
 use Rattle.nav_files.proofs.RecordLemmas.{AreNear}
 use Rattle.nav_files.proofs.TakenLemmas.{least_all, least_before}
-use Rattle.nav_files.proofs.FileLemmas.{Begins, Earlies, NoEarlies, Opens, Wholes, ends_there, file_prefix, file_whole, none_left}
+use Rattle.nav_files.proofs.FileLemmas.{Begins, Earlies, NoEarlies, Opens, Wholes, ends_there, file_prefix, file_taken, file_whole, none_left}
 
 -- ---- what failed
 
--- what failed after the header
+-- what failed after the header, and nothing else
 pub record Fails {S T U : Type 0} (b a : World S T U) (fault : BridgeFault) : Type 0 where
-  pub read : fault ≡ ReadFault → Rose b.reads_failed a.reads_failed
+  pub cause : HasItsCause {T = Unit {0}} (faults_in b) (faults_in a) (Err fault)
   pub never : fault ≡ ReadFault → IsTrue b.never_fails → ⊥
-  pub write : fault ≡ WriteFault → Rose b.writes_failed a.writes_failed
-  pub report : fault ≡ ReportFault → Rose b.reports_failed a.reports_failed
   pub form : fault ≡ NotThisForm → ⊥
 
 -- the cause of a call that broke off
@@ -48,44 +46,42 @@ pub fails_of : {S T U : Type 0} (b a : World S T U) (fault : BridgeFault) (reads
     → HasItsCause {T = Unit {0}} (faults_of reads writes reports) (faults_of a.reads_failed a.writes_failed a.reports_failed) (Err fault)
     → (IsTrue b.never_fails → IsErrOf {T = Unit {0}} {E = BridgeFault} (Err fault) ReadFault → ⊥) → (fault ≡ NotThisForm → ⊥) → Fails b a fault
 fails_of b a fault reads writes reports r w u cause never form = record {
-  read = λ is. subst (λ n. Rose n a.reads_failed) r (subst (Cause (faults_of reads writes reports) (faults_of a.reads_failed a.writes_failed a.reports_failed)) is cause);
+  cause = subst (λ (n : ℕ). Cause (faults_of b.reads_failed b.writes_failed n) (faults_in a) fault) u
+      (subst (λ (n : ℕ). Cause (faults_of b.reads_failed n reports) (faults_in a) fault) w
+      (subst (λ (n : ℕ). Cause (faults_of n writes reports) (faults_in a) fault) r cause));
   never = λ is quiet. never quiet (ap Err is);
-  write = λ is. subst (λ n. Rose n a.writes_failed) w (subst (Cause (faults_of reads writes reports) (faults_of a.reads_failed a.writes_failed a.reports_failed)) is cause);
-  report = λ is. subst (λ n. Rose n a.reports_failed) u (subst (Cause (faults_of reads writes reports) (faults_of a.reads_failed a.writes_failed a.reports_failed)) is cause);
   form = form;
 }
 
 -- a write of the output failed, or one of the report
-pub fails_write : {S T U : Type 0} (b a : World S T U) → Rose b.writes_failed a.writes_failed → Fails b a WriteFault
-fails_write b a rose = record {
-  read = λ is. absurd (let none : WriteFault ≡ ReadFault = is in cc);
+pub fails_write : {S T U : Type 0} (b a : World S T U) → Rose b.writes_failed a.writes_failed → a.reads_failed ≡ b.reads_failed → a.reports_failed ≡ b.reports_failed → Fails b a WriteFault
+fails_write b a rose reads reports = record {
+  cause = write_failed b a rose reads reports;
   never = λ is. absurd (let none : WriteFault ≡ ReadFault = is in cc);
-  write = λ is. rose;
-  report = λ is. absurd (let none : WriteFault ≡ ReportFault = is in cc);
   form = λ is. let none : WriteFault ≡ NotThisForm = is in cc;
 }
 
-pub fails_report : {S T U : Type 0} (b a : World S T U) → Rose b.reports_failed a.reports_failed → Fails b a ReportFault
-fails_report b a rose = record {
-  read = λ is. absurd (let none : ReportFault ≡ ReadFault = is in cc);
+pub fails_report : {S T U : Type 0} (b a : World S T U) → Rose b.reports_failed a.reports_failed → a.reads_failed ≡ b.reads_failed → a.writes_failed ≡ b.writes_failed → Fails b a ReportFault
+fails_report b a rose reads writes = record {
+  cause = report_failed b a rose reads writes;
   never = λ is. absurd (let none : ReportFault ≡ ReadFault = is in cc);
-  write = λ is. absurd (let none : ReportFault ≡ WriteFault = is in cc);
-  report = λ is. rose;
   form = λ is. let none : ReportFault ≡ NotThisForm = is in cc;
 }
 
 -- by the cause of reading the header
-pub header_rose : (fault : BridgeFault) (reads reads_new : ℕ) → HasItsCause {T = Unit {0}} (faults_of reads 0 0) (faults_of reads_new 0 0) (Err fault) → fault ≡ ReadFault → Rose reads reads_new
-header_rose fault reads reads_new cause is = subst (Cause (faults_of reads 0 0) (faults_of reads_new 0 0)) is cause
+header_rose : (fault : BridgeFault) (reads reads_new : ℕ) → Cause (faults_of reads 0 0) (faults_of reads_new 0 0) fault → fault ≡ ReadFault → Rose reads reads_new
+header_rose fault reads reads_new cause is = (subst (Cause (faults_of reads 0 0) (faults_of reads_new 0 0)) is cause).0
+
+header_cause : {S T U : Type 0} (b a : World S T U) (fault : BridgeFault) (s : RecordsState) → HeaderFaultOf fault s → Cause (faults_of b.reads_failed 0 0) (faults_of a.reads_failed 0 0) fault
+    → a.writes_failed ≡ b.writes_failed → a.reports_failed ≡ b.reports_failed → Cause (faults_in b) (faults_in a) fault
+header_cause b a ReadFault s by cause writes reports = read_failed b a cause.0 writes reports
+header_cause b a NotThisForm s by cause writes reports = none_failed b a (ap (λ (f : Faults). f.input) cause) writes reports
+header_cause b a TooLong s by cause writes reports = none_failed b a (ap (λ (f : Faults). f.input) cause) writes reports
+header_cause b a WriteFault s by cause writes reports = absurd by
+header_cause b a ReportFault s by cause writes reports = absurd by
+header_cause b a NoMemory s by cause writes reports = absurd by
 
 -- ---- the header, whatever follows it
-
--- with what is left
-with_rest : (left left_new : Option (List ℕ)) (taken : List ℕ) (P : List ℕ → Type 0) → Consumes left left_new taken
-    → ((rest : List ℕ) → left_new ≡ Some rest → P (taken ++ rest)) → IfSome left P
-with_rest None left_new taken P takes each = tt
-with_rest (Some bytes) None taken P takes each = absurd takes
-with_rest (Some bytes) (Some rest) taken P takes each = subst P (sym takes) (each rest refl)
 
 no_end : (s : RecordsState) → s.lines.ended ≡ false → s.lines.ended ≡ true → ⊥
 no_end s more ended = cc
@@ -215,16 +211,21 @@ between_none w w1 least whole same none = record {
 -- the header is refused, or the input breaks off in it
 pub broke_header : {C S T U : Type 0} (f : Form) (memory : Bool) (wrote tells output report : List ItemRead → List ℕ) (count : List ItemRead → C) (b a : World S T U) (s0 s1 : RecordsState) (fault : BridgeFault)
     → Begins f → Opens f → NoEarlies f → IsNew s0 → NoHeader f b.left a.left s0 s1 fault
-    → (fault ≡ ReadFault → Rose b.reads_failed a.reads_failed) → (IsTrue b.never_fails → fault ≡ ReadFault → ⊥)
+    → Cause (faults_of b.reads_failed 0 0) (faults_of a.reads_failed 0 0) fault → a.writes_failed ≡ b.writes_failed → a.reports_failed ≡ b.reports_failed
+    → (IsTrue b.never_fails → fault ≡ ReadFault → ⊥)
     → a.output ≡ b.output → a.report ≡ b.report → a.written ≡ b.written → a.reported ≡ b.reported
     → Broke (file_meaning f memory wrote tells output report count) b a fault
-broke_header f memory wrote tells output report count b a s0 s1 fault begins opens none new broken rose never out told written reported =
+broke_header f memory wrote tells output report count b a s0 s1 fault begins opens none new broken cause writes reports never out told written reported =
+    let rose = header_rose fault b.reads_failed a.reads_failed cause in
     let taken = broken.steps.reads.taken in
     let m = file_meaning f memory wrote tells output report count in record {
       taken = taken;
       consumes = broken.steps.reads.consumes;
       text = between_none b.written a.written _ _ written (ap (text_before wrote) (none b.left a.left s0 s1 new broken.steps broken.early (not_passed fault s1 broken.by)));
       told = subst (λ (u : Option (List ℕ)). AppendsPrefix b.reported u (text_in report (file_reads f taken))) (sym reported) (no_prefix b.reported _);
+      ahead = nothing_ahead m.whole b.left b.written a.written b.reported a.reported written reported;
+      no_counts = λ other. nothing_told m.rejections b.left b.reported a.reported reported;
+      cause = header_cause b a fault s1 broken.by cause writes reports;
       leaves = reading m b a refl refl;
       says = says_header f memory wrote tells output report count b a s0 s1 fault begins new broken.steps broken.by rose never out told
           (flushed_header f wrote tells b a s0 s1 fault opens new broken.steps broken.by written reported);
@@ -235,9 +236,9 @@ says_behind : {C S T U : Type 0} (f : Form) (memory : Bool) (wrote tells output 
     → Fails b a fault → (fault ≡ TooLong → length taken ≡ 2 ^ 32) → (fault ≡ NoMemory → memory ≡ true)
     → Flushed f wrote tells taken b a fault
     → Says (file_meaning f memory wrote tells output report count) taken b a fault
-says_behind f memory wrote tells output report count b a taken ReadFault some fails long wants flushed = (refl, fails.read refl, fails.never refl, flushed refl)
-says_behind f memory wrote tells output report count b a taken WriteFault some fails long wants flushed = (fails.write refl, some)
-says_behind f memory wrote tells output report count b a taken ReportFault some fails long wants flushed = (refl, fails.report refl, some)
+says_behind f memory wrote tells output report count b a taken ReadFault some fails long wants flushed = (refl, fails.cause.0, fails.never refl, flushed refl)
+says_behind f memory wrote tells output report count b a taken WriteFault some fails long wants flushed = (fails.cause.0, some)
+says_behind f memory wrote tells output report count b a taken ReportFault some fails long wants flushed = (refl, fails.cause.0, some)
 says_behind f memory wrote tells output report count b a taken NotThisForm some fails long wants flushed = absurd (fails.form refl)
 says_behind f memory wrote tells output report count b a taken TooLong some fails long wants flushed = long refl
 says_behind f memory wrote tells output report count b a taken NoMemory some fails long wants flushed = (wants refl, some)
@@ -249,10 +250,12 @@ pub broke_file : {C S T U : Type 0} (f : Form) (memory : Bool) (wrote tells outp
     → IsPrefix (text_before wrote (early_reads f (header.steps.reads.taken ++ steps.reads.taken))) some
     → AppendsBetween b.written a.written some text → IsPrefix text (output (given ++ records_to_come f s2 []))
     → AppendsPrefix b.reported a.reported told → IsPrefix told (report (given ++ records_to_come f s2 []))
+    → ((fault ≡ ReportFault → ⊥) → IfSome b.left (λ bytes. AppendsPrefix b.reported a.reported (text_in tells (file_reads f bytes))))
+    → IsAheadOf (file_meaning f memory wrote tells output report count).whole b.left b.written a.written b.reported a.reported
     → Fails b a fault → (fault ≡ TooLong → s2.lines.taken ≡ 2 ^ 32) → (fault ≡ NoMemory → memory ≡ true)
     → Flushed f wrote tells (header.steps.reads.taken ++ steps.reads.taken) b a fault
     → Broke (file_meaning f memory wrote tells output report count) b a fault
-broke_file f memory wrote tells output report count b a l1 s0 s1 s2 given some text told fault begins new header steps least written text_is reported told_is fails long wants flushed =
+broke_file f memory wrote tells output report count b a l1 s0 s1 s2 given some text told fault begins new header steps least written text_is reported told_is early ahead fails long wants flushed =
     let m = file_meaning f memory wrote tells output report count in
     let is = file_prefix f b.left l1 a.left s0 s1 s2 given begins new header steps in
     let taken = header.steps.reads.taken ++ steps.reads.taken in record {
@@ -260,10 +263,49 @@ broke_file f memory wrote tells output report count b a l1 s0 s1 s2 given some t
       consumes = Consumes-trans b.left l1 a.left _ _ header.steps.reads.consumes steps.reads.consumes;
       text = between_within b.written a.written _ some text _ least (subst (λ r. IsPrefix text (text_in output r)) (sym is) text_is) written;
       told = prefix_within b.reported a.reported told _ (subst (λ r. IsPrefix told (text_in report r)) (sym is) told_is) reported;
+      ahead = ahead;
+      no_counts = early;
+      cause = fails.cause;
       leaves = reading m b a refl refl;
       says = says_behind f memory wrote tells output report count b a taken fault (accepted f count b.left l1 s0 s1 begins new header) fails
           (λ is_long. omega (arith, length-append header.steps.reads.taken steps.reads.taken, new.taken, header.steps.reads.count, steps.reads.count, long is_long)) wants flushed;
     }
+
+-- the records of all bytes, where these are left
+file_rest : (f : Form) (left l1 l2 : Option (List ℕ)) (s0 s1 s2 : RecordsState) (given : List ItemRead)
+    → Begins f → IsNew s0 → (header : PassesHeader f left l1 s0 s1) → (steps : Steps f l1 l2 s1 s2 given) → (rest : List ℕ) → l2 ≡ Some rest
+    → file_reads f ((header.steps.reads.taken ++ steps.reads.taken) ++ rest) ≡ Ok (given ++ records_to_come f s2 rest)
+file_rest f left l1 l2 s0 s1 s2 given begins new header steps rest is =
+    ap (file_reads f) (append_assoc header.steps.reads.taken steps.reads.taken rest)
+    ∙ file_taken f left l1 l2 s0 s1 s2 given begins new header steps rest
+    (λ ended. subst IsAtEnd is (ends_there f left l1 l2 s0 s1 s2 given new header steps ended))
+
+-- whatever records follow those that were read, a prefix was reported of what all give
+file_told : (f : Form) (tells : List ItemRead → List ℕ) (left l1 l2 u u1 : Option (List ℕ)) (s0 s1 s2 : RecordsState) (given : List ItemRead) (told : List ℕ)
+    → Begins f → IsNew s0 → (header : PassesHeader f left l1 s0 s1) → (steps : Steps f l1 l2 s1 s2 given)
+    → AppendsPrefix u u1 told → ((more : List ItemRead) → IsPrefix told (tells (given ++ more)))
+    → IfSome left (λ bytes. AppendsPrefix u u1 (text_in tells (file_reads f bytes)))
+file_told f tells left l1 l2 u u1 s0 s1 s2 given told begins new header steps reported told_is =
+    with_rest left l2 (header.steps.reads.taken ++ steps.reads.taken) _ (Consumes-trans left l1 l2 _ _ header.steps.reads.consumes steps.reads.consumes)
+    (λ rest is. prefix_within u u1 told _
+    (subst (λ r. IsPrefix told (text_in tells r)) (sym (file_rest f left l1 l2 s0 s1 s2 given begins new header steps rest is)) (told_is (records_to_come f s2 rest))) reported)
+
+-- and a prefix was written
+file_ahead : {C S T U : Type 0} (f : Form) (memory : Bool) (wrote tells output report : List ItemRead → List ℕ) (count : List ItemRead → C) (b a : World S T U) (l1 : Option (List ℕ)) (s0 s1 s2 : RecordsState)
+    (given : List ItemRead) (text told : List ℕ)
+    → Begins f → IsNew s0 → (header : PassesHeader f b.left l1 s0 s1) → (steps : Steps f l1 a.left s1 s2 given)
+    → AppendsPrefix b.written a.written text → ((more : List ItemRead) → IsPrefix text (output (given ++ more)))
+    → AppendsPrefix b.reported a.reported told → ((more : List ItemRead) → IsPrefix told (report (given ++ more)))
+    → IsAheadOf (file_meaning f memory wrote tells output report count).whole b.left b.written a.written b.reported a.reported
+file_ahead f memory wrote tells output report count b a l1 s0 s1 s2 given text told begins new header steps written text_is reported told_is =
+    ahead_by (file_meaning f memory wrote tells output report count).whole b.left a.left b.written a.written b.reported a.reported (header.steps.reads.taken ++ steps.reads.taken)
+    (Consumes-trans b.left l1 a.left _ _ header.steps.reads.consumes steps.reads.consumes)
+    (λ rest is.
+    let more = records_to_come f s2 rest in
+    let all = file_rest f b.left l1 a.left s0 s1 s2 given begins new header steps rest is in (
+      prefix_within b.written a.written text _ (subst (λ r. IsPrefix text (text_in output r)) (sym all) (text_is more)) written,
+      prefix_within b.reported a.reported told _ (subst (λ r. IsPrefix told (text_in report r)) (sym all) (told_is more)) reported,
+    ))
 
 -- what is written grows with the records
 abbrev pub Grows : (List ItemRead → List ℕ) → Type 0
@@ -273,28 +315,32 @@ Grows text = (some more : List ItemRead) → IsPrefix (text some) (text (some ++
 pub broke_taken : {C S T U : Type 0} (f : Form) (memory : Bool) (wrote tells output report : List ItemRead → List ℕ) (count : List ItemRead → C) (b a : World S T U) (l1 : Option (List ℕ)) (s0 s1 s2 : RecordsState)
     (given : List ItemRead) (text told : List ℕ) (fault : BridgeFault)
     → Begins f → Wholes f → Earlies f → Grows wrote → IsNew s0 → PassesHeader f b.left l1 s0 s1 → (steps : Steps f l1 a.left s1 s2 given) → AreEarly s1.lines steps.reads.taken steps.lines
-    → AppendsBetween b.written a.written (wrote (but_last given)) text → IsPrefix text (output (given ++ records_to_come f s2 []))
-    → AppendsPrefix b.reported a.reported told → IsPrefix told (report (given ++ records_to_come f s2 []))
+    → AppendsBetween b.written a.written (wrote (but_last given)) text → ((more : List ItemRead) → IsPrefix text (output (given ++ more)))
+    → AppendsPrefix b.reported a.reported told → ((more : List ItemRead) → IsPrefix told (report (given ++ more))) → ((more : List ItemRead) → IsPrefix told (tells (given ++ more)))
     → Fails b a fault → (fault ≡ TooLong → s2.lines.taken ≡ 2 ^ 32) → (fault ≡ NoMemory → memory ≡ true)
     → (fault ≡ ReadFault → IsPaused s2 × Appends b.written a.written (wrote given) × Appends b.reported a.reported (tells given))
     → Broke (file_meaning f memory wrote tells output report count) b a fault
-broke_taken f memory wrote tells output report count b a l1 s0 s1 s2 given text told fault begins wholes earlies grows new header steps early written text_is reported told_is fails long wants exact =
+broke_taken f memory wrote tells output report count b a l1 s0 s1 s2 given text told fault begins wholes earlies grows new header steps early written text_is reported told_is tells_is fails long wants exact =
     broke_file f memory wrote tells output report count b a l1 s0 s1 s2 given (wrote (but_last given)) text told fault begins new header steps
-    (least_before wrote grows given _ (earlies b.left l1 a.left s0 s1 s2 given new header steps early)) written text_is reported told_is fails long wants
+    (least_before wrote grows given _ (earlies b.left l1 a.left s0 s1 s2 given new header steps early)) written (text_is _) reported (told_is _)
+    (λ other. file_told f tells b.left l1 a.left b.reported a.reported s0 s1 s2 given told begins new header steps reported tells_is)
+    (file_ahead f memory wrote tells output report count b a l1 s0 s1 s2 given text told begins new header steps (prefix_of b.written a.written _ text written) text_is reported told_is) fails long wants
     (flushed_file f wrote tells b a l1 s0 s1 s2 given fault wholes new header steps exact)
 
 -- the leading text is not written to its end
 pub broke_begin : {C S T U : Type 0} (f : Form) (memory : Bool) (wrote tells output report : List ItemRead → List ℕ) (count : List ItemRead → C) (b a : World S T U) (s0 s1 : RecordsState) (prefix : List ℕ)
     → Begins f → Earlies f → AreNear f → IsNew s0 → PassesHeader f b.left a.left s0 s1 → NearSteps f a.left a.left s1 s1 []
-    → AppendsPrefix b.written a.written prefix → IsPrefix prefix (output (records_to_come f s1 [])) → a.reported ≡ b.reported → Fails b a WriteFault
+    → AppendsPrefix b.written a.written prefix → ((more : List ItemRead) → IsPrefix prefix (output more)) → a.reported ≡ b.reported → Fails b a WriteFault
     → Broke (file_meaning f memory wrote tells output report count) b a WriteFault
 broke_begin f memory wrote tells output report count b a s0 s1 prefix begins earlies nears new header none written prefix_is same fails =
     let all = nears a.left a.left s1 s1 [] none in
     let early = none_begin _ (earlies b.left a.left a.left s0 s1 s1 [] new header all.steps all.early) in
+    let silent : AppendsPrefix b.reported a.reported [] = subst (λ (u : Option (List ℕ)). AppendsPrefix b.reported u []) (sym same) (no_prefix b.reported []) in
     broke_file f memory wrote tells output report count b a a.left s0 s1 s1 [] [] prefix [] WriteFault begins new header all.steps
     (subst (λ (l : List ItemRead). IsPrefix (text_before wrote l) []) (sym early) (prefix_nil []))
-    (between b.written a.written prefix written) prefix_is
-    (subst (λ (u : Option (List ℕ)). AppendsPrefix b.reported u []) (sym same) (no_prefix b.reported [])) (prefix_nil _) fails (λ long. cc) (λ wants. cc) (λ is. absurd (let none : WriteFault ≡ ReadFault = is in cc))
+    (between b.written a.written prefix written) (prefix_is _) silent (prefix_nil _)
+    (λ other. file_told f tells b.left a.left a.left b.reported a.reported s0 s1 s1 [] [] begins new header all.steps silent (λ more. prefix_nil _))
+    (file_ahead f memory wrote tells output report count b a a.left s0 s1 s1 [] prefix [] begins new header all.steps written prefix_is silent (λ more. prefix_nil _)) fails (λ long. cc) (λ wants. cc) (λ is. absurd (let none : WriteFault ≡ ReadFault = is in cc))
   where
     none_begin : (xs : List ItemRead) → BeginWith [] xs → xs ≡ []
     none_begin [] h = refl
@@ -305,14 +351,22 @@ pub broke_end : {C S T U : Type 0} (f : Form) (memory : Bool) (wrote tells outpu
     (given : List ItemRead) (text told : List ℕ) (fault : BridgeFault)
     → Begins f → Earlies f → AreNear f → Grows wrote → IsNew s0 → PassesHeader f b.left l1 s0 s1 → NearSteps f l1 a.left s1 s2 given → AtEnd s2
     → AppendsBetween b.written a.written (wrote given) text → IsPrefix text (output given) → AppendsPrefix b.reported a.reported told → IsPrefix told (report given)
-    → Fails b a fault → (fault ≡ TooLong → ⊥) → (fault ≡ NoMemory → memory ≡ true) → (fault ≡ ReadFault → ⊥)
+    → ((fault ≡ ReportFault → ⊥) → IsPrefix told (tells given)) → Fails b a fault → (fault ≡ TooLong → ⊥) → (fault ≡ NoMemory → memory ≡ true) → (fault ≡ ReadFault → ⊥)
     → Broke (file_meaning f memory wrote tells output report count) b a fault
-broke_end f memory wrote tells output report count b a l1 s0 s1 s2 given text told fault begins earlies nears grows new header near end written text_is reported told_is fails short wants over =
+broke_end f memory wrote tells output report count b a l1 s0 s1 s2 given text told fault begins earlies nears grows new header near end written text_is reported told_is early fails short wants over =
     let steps = nears l1 a.left s1 s2 given near in
+    let taken = header.steps.reads.taken ++ steps.steps.reads.taken in
+    let consumes = Consumes-trans b.left l1 a.left _ _ header.steps.reads.consumes steps.steps.reads.consumes in
+    let over_is = ends_there f b.left l1 a.left s0 s1 s2 given new header steps.steps end.ended in
+    let whole = file_whole f b.left l1 a.left s0 s1 s2 given begins new header steps.steps end.kept end.rest in
     let all : given ≡ given ++ records_to_come f s2 [] = sym (ap (λ (l : List ItemRead). given ++ l) (none_left f s2 end.kept end.rest) ∙ append-nil given) in
     broke_file f memory wrote tells output report count b a l1 s0 s1 s2 given (wrote given) text told fault begins new header steps.steps
     (least_all wrote grows given _ (earlies b.left l1 a.left s0 s1 s2 given new header steps.steps steps.early))
     written (subst (λ (l : List ItemRead). IsPrefix text (output l)) all text_is) reported (subst (λ (l : List ItemRead). IsPrefix told (report l)) all told_is)
+    (λ other. taken_all b.left a.left taken _ consumes over_is (prefix_within b.reported a.reported told _ (subst (λ r. IsPrefix told (text_in tells r)) (sym whole) (early other)) reported))
+    (ahead_at_end (file_meaning f memory wrote tells output report count).whole b.left a.left b.written a.written b.reported a.reported taken consumes over_is
+    (prefix_within b.written a.written text _ (subst (λ r. IsPrefix text (text_in output r)) (sym whole) text_is) (prefix_of b.written a.written _ text written))
+    (prefix_within b.reported a.reported told _ (subst (λ r. IsPrefix told (text_in report r)) (sym whole) told_is) reported))
     fails (λ is. absurd (short is)) wants (λ is. absurd (over is))
 
 -- the run is done

@@ -109,6 +109,7 @@ file_meaning f memory text told output report count = record {
   limit = 2 ^ 32;
   counts = λ bytes. counted_in count (file_reads f bytes);
   whole = record { output = λ bytes. text_in output (file_reads f bytes); report = λ bytes. text_in report (file_reads f bytes) };
+  rejections = λ bytes. text_in told (file_reads f bytes);
   least = λ bytes. text_before text (early_reads f bytes);
   flushed = Some (record { output = λ bytes. text_in text (whole_reads f bytes); report = λ bytes. text_in told (whole_reads f bytes) });
 }

@@ -50,8 +50,8 @@ pub trait Taker {
     // The state is that after these records.
     ghost holds: { Self → Self.State → List ItemRead → Type 0 };
 
-    // What was written and reported is a prefix of the whole, and of what is written of more
-    // records; at first nothing is reported.
+    // What was written and reported is a prefix of the whole, and of what is written and reported
+    // of more records; at first nothing is reported.
     fn begins(&self)
         ensures grows { (some more : List ItemRead)
             → IsPrefix (text self.now some) (text self.now (some ++ more)) }
@@ -59,6 +59,8 @@ pub trait Taker {
             → IsPrefix (text self.now some) (whole self.now (some ++ more)) }
         ensures told { (some more : List ItemRead)
             → IsPrefix (told self.now some) (reported self.now (some ++ more)) }
+        ensures more { (some more : List ItemRead)
+            → IsPrefix (told self.now some) (told self.now (some ++ more)) }
         ensures silent { told self.now [] ≡ [] };
 
     // Writes the leading text.

@@ -4,7 +4,7 @@ use Rattle.std.specs.Prelude.{Option, Some, None, Result, Ok, Err, if◌then◌e
 use Rattle.nav_tables.specs.declared.message.TableFault.{TableFault}
 use Rattle.nav_tables.specs.Messages.{message_in}
 use Rattle.nav_links.specs.Links.{nth, columns_of}
-use Rattle.rinex_write.specs.RowTexts.{RowKind, row_record, split_rows}
+use Rattle.rinex_write.specs.RowTexts.{RowKind, row_body, row_record, split_rows}
 use Rattle.rinex_write.specs.Texts.{text_of}
 use Rattle.nav_rows.specs.declared.kind.Kind.{Kind}
 use Rattle.nav_rows.specs.declared.times.RowTimes.{RowTimes}
@@ -64,6 +64,14 @@ record_of k row = row_record (record_kind k) k.letter row.number row.moment row.
 -- the text of a row's record
 abbrev pub record_text : Kind → RowValue → List ℕ
 record_text k row = text_of (record_of k row)
+
+-- the lines of a row's record in RINEX 3, which has no title
+abbrev pub body_of : Kind → RowValue → List (List ℕ)
+body_of k row = row_body (record_kind k).rows k.letter row.number row.moment row.columns
+
+-- their text
+abbrev pub body_text : Kind → RowValue → List ℕ
+body_text k row = text_of (body_of k row)
 
 -- the row of a message near a reference week, or why it has none
 abbrev pub row_in : Kind → List ℕ → ℕ → Result RowValue RowFault

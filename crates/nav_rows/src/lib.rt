@@ -38,9 +38,9 @@ pub use crate::laws::{
     messages_come_back, records_of_rows_are_read, rows_are_ordered, rows_come_back,
     table_1019_is_read, table_1046_is_read,
 };
-pub use crate::order::{are_alike, compare_rows};
+pub use crate::order::{are_alike, compare_rows, rank_of};
 pub use crate::read::{has_fields, read_record};
-pub use crate::row::{Row, RowFault, row_of_message, write_record};
+pub use crate::row::{Row, RowFault, row_of_message, write_body, write_record};
 pub use crate::tables::{
     FIELDS_1019, FIELDS_1020, FIELDS_1041, FIELDS_1042, FIELDS_1044, FIELDS_1045, FIELDS_1046,
     table_1019, table_1046,

@@ -88,9 +88,9 @@ fn front_of(kind: &Kind, row: &Row) -> [i64; 5]
     ]
 }
 
-// What comes first in the order of rows.
+/// What comes first in the order of rows: duplicates have the same numbers.
 #[tactic(auto, unfolding(crate::specs::Order::rank_of))]
-fn rank_of(kind: &Kind, row: &Row) -> ArrayVec<i64, 34>
+pub fn rank_of(kind: &Kind, row: &Row) -> ArrayVec<i64, 34>
     requires kind { IsKind kind.now }
     requires fields { AreFields kind.now.layout.columns.now row.now.columns.items }
     ensures { result.items ≡ rank_of kind.now (value row.now) }

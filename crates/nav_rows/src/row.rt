@@ -1,14 +1,14 @@
 //! Rows: the records of messages.
 
 ghost use Rattle.std.specs.Prelude.{◌≡◌, ◌<◌, ◌≤◌, ◌++◌, ◌∷◌, [], length, pos, ◌≤ℤ◌, unsigned_abs};
-ghost use Rattle.std.specs.Prelude.{IfOk, IfErr, Ok, Err, map};
+ghost use Rattle.std.specs.Prelude.{IfOk, IfErr, Ok, Err, codes, map};
 ghost use Rattle.nav_io.specs.Writes.{Writes};
 ghost use Rattle.nav_links.specs.Links.{nth};
 ghost use Rattle.rinex_write.specs.Columns.{AreFields};
 ghost use Rattle.nav_rows.specs.Kinds.{IsKind};
 ghost use Rattle.nav_rows.specs.Times.{IsSatellite};
-ghost use Rattle.nav_rows.specs.Rows.{SisaInside, given_of, has_spare_sisa, record_text, row_in};
-ghost use Rattle.nav_rows.specs.Rows.{value};
+ghost use Rattle.nav_rows.specs.Rows.{SisaInside, body_text, given_of, has_spare_sisa};
+ghost use Rattle.nav_rows.specs.Rows.{record_text, row_in, value};
 
 use crate::kind::Kind;
 use crate::times::{RowTimes, times_told};
@@ -17,7 +17,7 @@ use gnss_week::{Moment, RefWeek};
 use nav_io::{Failed, Sink};
 use nav_links::columns_of;
 use nav_tables::{TableFault, read_message};
-use rinex_write::{RowHead, write_row};
+use rinex_write::{RowHead, write_row, write_row_body};
 
 /// An ephemeris of some kind.
 #[derive(Drop)]
@@ -94,6 +94,21 @@ pub fn row_of_message(kind: &Kind, payload: &[u8], reference: RefWeek) -> Result
     })
 }
 
+// What is before the date of a row.
+fn head_of(kind: &Kind, row: &Row) -> RowHead
+    ensures class { result.class ≡ codes "EPH" }
+    ensures letter { result.letter ≡ kind.now.letter }
+    ensures message { result.message.now ≡ kind.now.title.now }
+    ensures number { result.number ≡ row.now.number }
+{
+    RowHead {
+        class: *b"EPH",
+        letter: kind.letter,
+        message: kind.title,
+        number: row.number,
+    }
+}
+
 /// Appends the record of a row to a sink.
 ///
 /// # Errors
@@ -106,11 +121,32 @@ pub fn write_record<T: Sink>(kind: &Kind, row: &Row, out: &mut T) -> Result<(), 
     ensures { Writes (T.written out.old) (T.written out.new) (T.faults out.old) (T.faults out.new)
         result (record_text kind.now (value row.now)) }
 {
-    let head = RowHead {
-        class: *b"EPH",
-        letter: kind.letter,
-        message: kind.title,
-        number: row.number,
-    };
-    write_row(&head, row.moment, &kind.layout, row.columns.as_slice(), out)
+    write_row(
+        &head_of(kind, row),
+        row.moment,
+        &kind.layout,
+        row.columns.as_slice(),
+        out,
+    )
+}
+
+/// Appends the record of a row without its title line to a sink (RINEX 3.05, navigation message
+/// files).
+///
+/// # Errors
+///
+/// As [`write_record`].
+pub fn write_body<T: Sink>(kind: &Kind, row: &Row, out: &mut T) -> Result<(), Failed>
+    requires kind { IsKind kind.now }
+    requires fields { AreFields kind.now.layout.columns.now row.now.columns.items }
+    ensures { Writes (T.written out.old) (T.written out.new) (T.faults out.old) (T.faults out.new)
+        result (body_text kind.now (value row.now)) }
+{
+    write_row_body(
+        &head_of(kind, row),
+        row.moment,
+        &kind.layout,
+        row.columns.as_slice(),
+        out,
+    )
 }

@@ -6,8 +6,8 @@
 //! - [`nb_is_frame`], [`nb_frame_make`] and [`nb_frame_read`] judge, make and read a frame;
 //! - [`nb_subframes_join`] and [`nb_words_join`] make ephemerides of subframes and of words;
 //! - [`nb_header_write`], [`nb_header_size`] and [`nb_record_size`] are for files of records;
-//! - [`nb_row_from_message`], [`nb_row_rinex`] and [`nb_row_column`] read and write ephemerides of
-//!   any system as rows of integers;
+//! - [`nb_row_from_message`], [`nb_row_message`], [`nb_row_rinex`] and [`nb_row_column`] read and
+//!   write ephemerides of any system as rows of integers;
 //! - [`nb_week_of_unix`] gives the week of a time;
 //! - [`nb_convert`] does a conversion over memory, as the program does it over its streams.
 //!
@@ -45,7 +45,7 @@ ghost use Rattle.c_messages.specs.RecordEnds.{EndsHeader, EndsRecord};
 ghost use Rattle.c_messages.specs.RecordReads.{IsVersion, PutsRead, judged_in};
 ghost use Rattle.c_messages.specs.RecordWrites.{IsHeader, IsSaidBy, PutsRecord, header_text};
 ghost use Rattle.c_messages.specs.Weeks.{unix_week};
-ghost use Rattle.c_rows.specs.Rows.{GivesColumn, ReadsRow, WritesRow};
+ghost use Rattle.c_rows.specs.Rows.{GivesColumn, ReadsRow, WritesFrame, WritesRow};
 ghost use Rattle.navbridge_c.specs.Conversions.{Converts};
 
 use c_messages::{HeaderRaw, PageBits, SubframeBits, SubframeRaw, SubframesRaw, WordRaw, WordsRaw};
@@ -350,6 +350,15 @@ pub extern "C" fn nb_row_from_message(payload: &[u8], week: u32, row: &mut RowRa
     ensures week { (IsReference week → ⊥) → (result ≡ 22) × (row.new ≡ row.old) }
 {
     c_rows::read_row(payload, week, row)
+}
+
+/// Puts the prefix that fits of the frame of the message of a row, and its size into `used`; 23 if
+/// the numbers encode no row, 19, 21, 28 to 30 or 38 to 41 if it has no message.
+#[unsafe(no_mangle)]
+pub extern "C" fn nb_row_message(row: &RowRaw, frame: &mut [u8], used: &mut usize) -> u32
+    ensures message { WritesFrame row.now frame.old frame.new used.new result }
+{
+    c_rows::write_message(row, frame, used)
 }
 
 /// Puts the prefix that fits of the record of a row (RINEX 4.01), and its length into `used`; 23 if

@@ -59,7 +59,8 @@ pub unsafe extern "C" fn nb_push_finish(at: *mut u8) -> u32
     push::finish(&mut *place)
 }
 
-/// Puts pending output, as many bytes as fit, and returns how many.
+/// Puts pending output, as many bytes as fit, and returns how many. What was taken is released: at
+/// most twice what waits is retained.
 #[unsafe(no_mangle)]
 pub unsafe extern "C" fn nb_push_take(at: *mut u8, room: &mut [u8]) -> usize
     ghost old: { PushState }

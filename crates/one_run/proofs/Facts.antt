@@ -1,12 +1,15 @@
 -- What follows from how a run ended.
 use Rattle.std.proofs.Common.{◌≡◌, ◌⊎◌, inl, inr, ◌<◌, ◌≤◌, ℕ, Bool, false, true, List, ◌++◌, length, Option, None, Some, Result, Ok, Err, refl, sym, ap, subst, ◌∙◌, arith, append-nil, length-append}
-use Rattle.std.specs.Prelude.{IfSome, IfOk, IsSome, IsOk, IsErr, IsErrOf, OnOk}
+use Rattle.std.specs.Prelude.{IfSome, IfOk, IsSome, IsOk, IsErr, IsErrOf, OnErr, OnOk}
 use Rattle.std.specs.Io.KnownBytes.{Appends, Consumes, IsAtEnd}
 use Rattle.nav_io.specs.Causes.{Rose}
+use Rattle.nav_io.specs.Prefix.{AppendsPrefix}
 use Rattle.one_run.specs.declared.fault.BridgeFault.{BridgeFault}
 use Rattle.one_run.specs.declared.fault.BridgeFault.TheVariants.{ReadFault, WriteFault, ReportFault, NotThisForm, TooLong, NoMemory}
-use Rattle.one_run.specs.Runs.{Accepts, Broke, Done, Ended, Leaves, Meaning, Says, World, bytes_for}
+use Rattle.one_run.specs.Causes.{HasItsCause, faults_of}
+use Rattle.one_run.specs.Runs.{Accepts, Broke, Done, Ended, IsAheadOf, Leaves, Meaning, Says, Texts, World, bytes_for, faults_in}
 use Rattle.one_run.specs.Ends.{EndedBy, fault_status, status_of}
+use Rattle.one_run.proofs.Prefixes.{no_prefix}
 
 -- ---- known bytes
 
@@ -18,10 +21,16 @@ at_some : (o : Option (List ℕ)) (P : List ℕ → Type 0) (bytes : List ℕ) �
 at_some o P bytes is all = subst (λ (x : Option (List ℕ)). IfSome x P) is all
 
 -- what was read up to the end is all of it
-taken_all : (o o' : Option (List ℕ)) (taken : List ℕ) (P : List ℕ → Type 0) → Consumes o o' taken → IsAtEnd o' → P taken → IfSome o P
+pub taken_all : (o o' : Option (List ℕ)) (taken : List ℕ) (P : List ℕ → Type 0) → Consumes o o' taken → IsAtEnd o' → P taken → IfSome o P
 taken_all None o' taken P takes end p = tt
 taken_all (Some bytes) None taken P takes end p = absurd takes
 taken_all (Some bytes) (Some rest) taken P takes end p = subst P (sym (takes ∙ ap (λ (l : List ℕ). taken ++ l) end ∙ append-nil taken)) p
+
+-- what holds of what was read and of what is left holds of all
+pub with_rest : (o o' : Option (List ℕ)) (taken : List ℕ) (P : List ℕ → Type 0) → Consumes o o' taken → ((rest : List ℕ) → o' ≡ Some rest → P (taken ++ rest)) → IfSome o P
+with_rest None o' taken P takes each = tt
+with_rest (Some bytes) None taken P takes each = absurd takes
+with_rest (Some bytes) (Some rest) taken P takes each = subst P (sym takes) (each rest refl)
 
 -- no more was read than was there
 taken_within : (o o' : Option (List ℕ)) (taken bytes : List ℕ) → o ≡ Some bytes → Consumes o o' taken → length taken ≤ length bytes
@@ -29,6 +38,54 @@ taken_within o o' taken bytes is takes = within o' (subst (λ (x : Option (List 
   within : (o' : Option (List ℕ)) → Consumes (Some bytes) o' taken → length taken ≤ length bytes
   within None none = absurd none
   within (Some rest) split = omega (arith, ap length split, length-append taken rest)
+
+-- ---- the complete input
+
+-- what is left follows what was read
+pub ahead_by : (whole : Texts) (o o' w w' u u' : Option (List ℕ)) (taken : List ℕ) → Consumes o o' taken
+    → ((rest : List ℕ) → o' ≡ Some rest → AppendsPrefix w w' (whole.output (taken ++ rest)) × AppendsPrefix u u' (whole.report (taken ++ rest)))
+    → IsAheadOf whole o w w' u u'
+ahead_by whole o o' w w' u u' taken takes each = with_rest o o' taken _ takes each
+
+-- what was read is all
+pub ahead_at_end : (whole : Texts) (o o' w w' u u' : Option (List ℕ)) (taken : List ℕ) → Consumes o o' taken → IsAtEnd o'
+    → AppendsPrefix w w' (whole.output taken) → AppendsPrefix u u' (whole.report taken) → IsAheadOf whole o w w' u u'
+ahead_at_end whole o o' w w' u u' taken takes end text told = taken_all o o' taken _ takes end (text, told)
+
+-- nothing was reported
+pub nothing_told : (rejections : List ℕ → List ℕ) (o u u' : Option (List ℕ)) → u' ≡ u → IfSome o (λ bytes. AppendsPrefix u u' (rejections bytes))
+nothing_told rejections o u u' silent =
+    if_some o _ (λ bytes is. subst (λ (x : Option (List ℕ)). AppendsPrefix u x (rejections bytes)) (sym silent) (no_prefix u (rejections bytes)))
+
+-- nothing was written and nothing reported
+pub nothing_ahead : (whole : Texts) (o w w' u u' : Option (List ℕ)) → w' ≡ w → u' ≡ u → IsAheadOf whole o w w' u u'
+nothing_ahead whole o w w' u u' same silent = if_some o _ (λ bytes is. (
+  subst (λ (x : Option (List ℕ)). AppendsPrefix w x (whole.output bytes)) (sym same) (no_prefix w (whole.output bytes)),
+  subst (λ (x : Option (List ℕ)). AppendsPrefix u x (whole.report bytes)) (sym silent) (no_prefix u (whole.report bytes)),
+))
+
+-- ---- what failed
+
+pub none_failed : {S T U : Type 0} (b a : World S T U) → a.reads_failed ≡ b.reads_failed → a.writes_failed ≡ b.writes_failed → a.reports_failed ≡ b.reports_failed
+    → faults_in a ≡ faults_in b
+none_failed b a r w u =
+    ap (λ (n : ℕ). faults_of n a.writes_failed a.reports_failed) r ∙ ap (λ (n : ℕ). faults_of b.reads_failed n a.reports_failed) w
+    ∙ ap (λ (n : ℕ). faults_of b.reads_failed b.writes_failed n) u
+
+pub read_failed : {S T U : Type 0} (b a : World S T U) → Rose b.reads_failed a.reads_failed → a.writes_failed ≡ b.writes_failed → a.reports_failed ≡ b.reports_failed
+    → HasItsCause {T = Unit {0}} (faults_in b) (faults_in a) (Err ReadFault)
+read_failed b a rose w u =
+    (rose, ap (λ (n : ℕ). faults_of a.reads_failed n a.reports_failed) w ∙ ap (λ (n : ℕ). faults_of a.reads_failed b.writes_failed n) u)
+
+pub write_failed : {S T U : Type 0} (b a : World S T U) → Rose b.writes_failed a.writes_failed → a.reads_failed ≡ b.reads_failed → a.reports_failed ≡ b.reports_failed
+    → HasItsCause {T = Unit {0}} (faults_in b) (faults_in a) (Err WriteFault)
+write_failed b a rose r u =
+    (rose, ap (λ (n : ℕ). faults_of n a.writes_failed a.reports_failed) r ∙ ap (λ (n : ℕ). faults_of b.reads_failed a.writes_failed n) u)
+
+pub report_failed : {S T U : Type 0} (b a : World S T U) → Rose b.reports_failed a.reports_failed → a.reads_failed ≡ b.reads_failed → a.writes_failed ≡ b.writes_failed
+    → HasItsCause {T = Unit {0}} (faults_in b) (faults_in a) (Err ReportFault)
+report_failed b a rose r w =
+    (rose, ap (λ (n : ℕ). faults_of n a.writes_failed a.reports_failed) r ∙ ap (λ (n : ℕ). faults_of b.reads_failed n a.reports_failed) w)
 
 -- ---- a run that is done
 
@@ -115,6 +172,12 @@ complete_of {C = C} m b a r ended = if_some _ _ (λ bytes is. by_end r ended byt
 pub broke_by : {C S T U : Type 0} (m : Meaning C) (b a : World S T U) (r : Result C BridgeFault) (fault : BridgeFault) → Ended m b a r → IsErrOf r fault
     → Broke m b a fault
 broke_by m b a r fault ended is = subst (Ended m b a) is ended
+
+-- what was written and reported is a prefix of what the complete input gives
+pub ahead_after : {C S T U : Type 0} (m : Meaning C) (b a : World S T U) (r : Result C BridgeFault) → Ended m b a r
+    → OnErr r (IsAheadOf m.whole (bytes_for m b) b.written a.written b.reported a.reported)
+ahead_after m b a (Ok counts) done = tt
+ahead_after m b a (Err fault) broke = broke.ahead
 
 -- ---- by its exit status
 

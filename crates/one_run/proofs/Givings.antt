@@ -2,7 +2,8 @@
 use Rattle.std.proofs.Common.{◌≡◌, ℕ, List, Bool, false, true, Option, None, Some, Result, Ok, Err, refl, sym, ap, subst}
 use Rattle.std.specs.Prelude.{IfErr, IfSome, IsSome, IsOkAnd, MatchResult, OnErr, option_map}
 use Rattle.one_run.specs.Ends.{giving, status_of, uncounted}
-use Rattle.one_run.specs.Runs.{Broke, Done, Ended, Meaning, Says, World}
+use Rattle.one_run.specs.Runs.{Broke, Done, Ended, IsAheadOf, Meaning, Says, World, bytes_for}
+use Rattle.one_run.proofs.Facts.{ahead_after}
 use Rattle.one_run.specs.declared.fault.BridgeFault.{BridgeFault}
 use Rattle.one_run.specs.declared.fault.BridgeFault.TheVariants.{ReadFault, WriteFault, ReportFault, NotThisForm, TooLong, NoMemory}
 
@@ -49,6 +50,9 @@ broke_given f m b a fault broke = record {
   consumes = broke.consumes;
   text = broke.text;
   told = broke.told;
+  ahead = broke.ahead;
+  no_counts = broke.no_counts;
+  cause = broke.cause;
   leaves = record { unread = broke.leaves.unread; silent = broke.leaves.silent };
   says = says_given f m broke.taken b a fault broke.says;
 }
@@ -69,10 +73,11 @@ pub ahead_given : {C D : Type 0} (A : Type 0) (f : C → D) (run : Result C Brid
 ahead_given {D = D} A f (Ok counts) result is ahead = subst (λ (r : Result D BridgeFault). OnErr r A) (sym (ok_is result (f counts) is)) tt
 ahead_given {D = D} A f (Err fault) result is ahead = subst (λ (r : Result D BridgeFault). OnErr r A) (sym is) ahead
 
--- nothing holds besides
-pub nothing_given : {D : Type 0} (result : Result D BridgeFault) → OnErr result (Unit {0})
-nothing_given (Ok done) = tt
-nothing_given (Err fault) = tt
+-- nor is how it relates to the complete input
+pub ahead_given_by : {C D S T U : Type 0} (f : C → D) (m : Meaning C) (b a : World S T U) (run : Result C BridgeFault) (result : Result D BridgeFault)
+    → MatchResult run (λ counts. IsOkAnd result (λ d. d ≡ f counts)) (λ fault. result ≡ Err fault) → Ended m b a run
+    → OnErr result (IsAheadOf m.whole (bytes_for m b) b.written a.written b.reported a.reported)
+ahead_given_by f m b a run result is ended = ahead_after (giving f m) b a result (given_as f m b a run result is ended)
 
 -- ---- without the counts
 

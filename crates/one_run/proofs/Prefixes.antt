@@ -46,6 +46,10 @@ prefix_longer w w1 text more grew = prefix_within w w1 text (text ++ more) (pref
 pub no_prefix : (w : Option (List ℕ)) (text : List ℕ) → AppendsPrefix w w text
 no_prefix w text = ([], prefix_nil text, Appends-nil w)
 
+-- what grew by a text between two others grew by a prefix of the second
+pub prefix_of : (w w1 : Option (List ℕ)) (least text : List ℕ) → AppendsBetween w w1 least text → AppendsPrefix w w1 text
+prefix_of w w1 least text b = (b.prefix, b.within, b.grew)
+
 -- a prefix, where no more is promised
 pub between : (w w1 : Option (List ℕ)) (text : List ℕ) → AppendsPrefix w w1 text → AppendsBetween w w1 [] text
 between w w1 text (prefix, within, grew) = record {

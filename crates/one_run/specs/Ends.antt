@@ -15,6 +15,7 @@ giving f m = record {
   limit = m.limit;
   counts = λ bytes. option_map f (m.counts bytes);
   whole = m.whole;
+  rejections = m.rejections;
   least = m.least;
   flushed = m.flushed;
 }

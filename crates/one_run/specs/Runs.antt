@@ -3,6 +3,7 @@ use Rattle.std.specs.Prelude.{◌≡◌, ◌<◌, ℕ, Bool, true, false, List, 
 use Rattle.std.specs.Io.KnownBytes.{Appends, Consumes, IsAtEnd}
 use Rattle.nav_io.specs.Causes.{Rose}
 use Rattle.nav_io.specs.Prefix.{AppendsPrefix, IsPrefix}
+use Rattle.one_run.specs.Causes.{Faults, HasItsCause, faults_of}
 use Rattle.one_run.specs.declared.fault.BridgeFault.{BridgeFault}
 use Rattle.one_run.specs.declared.fault.BridgeFault.TheVariants.{ReadFault, WriteFault, ReportFault, NotThisForm, TooLong, NoMemory}
 
@@ -25,6 +26,8 @@ pub record Meaning (C : Type 0) : Type 0 where
   pub counts : List ℕ → Option C
   -- what it writes and reports of a complete input
   pub whole : Texts
+  -- what it reports of a complete input before the counts
+  pub rejections : List ℕ → List ℕ
   -- what it has written at least once these bytes were read, whatever fails
   pub least : List ℕ → List ℕ
   -- exactly what was written and reported of the bytes read when a read fails, if the meaning determines it
@@ -82,6 +85,15 @@ Accepts m before = IfSome (bytes_for m before) (λ bytes. IsSome (m.counts bytes
 abbrev pub Refuses : {C S T U : Type 0} → Meaning C → World S T U → Type 0
 Refuses m before = IfSome (bytes_for m before) (λ bytes. m.counts bytes ≡ None)
 
+-- the counts of errors of the three objects
+abbrev pub faults_in : {S T U : Type 0} → World S T U → Faults
+faults_in w = faults_of w.reads_failed w.writes_failed w.reports_failed
+
+-- what was written and reported is a prefix of what the complete input gives, unread bytes included
+abbrev pub IsAheadOf : Texts → Option (List ℕ) → Option (List ℕ) → Option (List ℕ) → Option (List ℕ) → Option (List ℕ) → Type 0
+IsAheadOf whole input written written_new reported reported_new =
+    IfSome input (λ bytes. AppendsPrefix written written_new (whole.output bytes) × AppendsPrefix reported reported_new (whole.report bytes))
+
 -- an object that the run does not use is unchanged
 pub record Leaves {C S T U : Type 0} (m : Meaning C) (before after : World S T U) : Type 0 where
   pub unread : m.reads ≡ false → after.input ≡ before.input
@@ -119,12 +131,16 @@ Says m taken before after TooLong = length taken ≡ m.limit
 Says m taken before after NoMemory = (m.memory ≡ true) × Accepts m before
 
 -- The run ended early with an error: a prefix of the output of the bytes read was written, no less
--- than the least, and a prefix of their report.
+-- than the least, and a prefix of their report; both are prefixes of what the complete input gives.
+-- Unless the report failed, no counts were reported. Nothing else failed.
 pub record Broke {C S T U : Type 0} (m : Meaning C) (before after : World S T U) (fault : BridgeFault) : Type 0 where
   pub taken : List ℕ
   pub consumes : Consumes (bytes_for m before) (bytes_for m after) taken
   pub text : AppendsBetween before.written after.written (m.least taken) (m.whole.output taken)
   pub told : AppendsPrefix before.reported after.reported (m.whole.report taken)
+  pub ahead : IsAheadOf m.whole (bytes_for m before) before.written after.written before.reported after.reported
+  pub no_counts : (fault ≡ ReportFault → ⊥) → IfSome (bytes_for m before) (λ bytes. AppendsPrefix before.reported after.reported (m.rejections bytes))
+  pub cause : HasItsCause {T = Unit {0}} (faults_in before) (faults_in after) (Err fault)
   pub leaves : Leaves m before after
   pub says : Says m taken before after fault
 

@@ -19,6 +19,6 @@ mod target;
 mod times;
 
 pub use crate::item_lines::{append_issue, append_satellite, item_line};
-pub use crate::sent::write_message;
+pub use crate::sent::{write_message, write_payload};
 pub use crate::target::Target;
-pub use crate::times::{Times, with_item, with_items};
+pub use crate::times::{Times, with_item, with_items, with_time};

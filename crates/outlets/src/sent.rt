@@ -25,8 +25,13 @@ pub fn write_message<T: Sink>(item: &NavItem, out: &mut T) -> Result<(), Failed>
     }
 }
 
-// Appends the frame of a payload.
-fn write_payload<T: Sink>(payload: &[u8], out: &mut T) -> Result<(), Failed>
+/// Appends the frame of a payload (RTCM 10403.3, section 4).
+///
+/// # Errors
+///
+/// `Failed` only if the sink's count of errors rose in this call or is at its maximum; a prefix of
+/// the frame was appended then.
+pub fn write_payload<T: Sink>(payload: &[u8], out: &mut T) -> Result<(), Failed>
     requires { length payload.now ≤ 1023 }
     ensures { Writes (T.written out.old) (T.written out.new) (T.faults out.old) (T.faults out.new)
         result (frame_bytes payload.now) }

@@ -1,7 +1,7 @@
 //! The times of ephemerides.
 
-ghost use Rattle.std.specs.Prelude.{◌≡◌, min, max};
-ghost use Rattle.outlets.specs.Times.{times_with, with_item};
+ghost use Rattle.std.specs.Prelude.{◌≡◌, Some, min, max};
+ghost use Rattle.outlets.specs.Times.{times_with, with_item, with_time};
 
 use gnss_week::Moment;
 use nav_eph::NavItem;
@@ -16,22 +16,29 @@ pub struct Times {
     pub last: Moment,
 }
 
+/// The times together with one more.
+pub fn with_time(times: Option<Times>, epoch: Moment) -> Option<Times>
+    ensures { result ≡ with_time times (Some epoch) }
+{
+    match times {
+        None => Some(Times {
+            first: epoch,
+            last: epoch,
+        }),
+        Some(times) => Some(Times {
+            first: earlier(times.first, epoch),
+            last: later(times.last, epoch),
+        }),
+    }
+}
+
 /// The times together with the epoch of an item, if it is an ephemeris.
 pub fn with_item(times: Option<Times>, item: &NavItem) -> Option<Times>
     ensures { result ≡ with_item times item.now }
 {
     match epoch_of(item) {
         None => times,
-        Some(epoch) => match times {
-            None => Some(Times {
-                first: epoch,
-                last: epoch,
-            }),
-            Some(times) => Some(Times {
-                first: earlier(times.first, epoch),
-                last: later(times.last, epoch),
-            }),
-        },
+        Some(epoch) => with_time(times, epoch),
     }
 }
 

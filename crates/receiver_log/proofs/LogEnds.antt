@@ -2,18 +2,22 @@
 use Rattle.std.proofs.Common.{◌≡◌, ℕ, Bool, true, false, List, [], ◌++◌, length, map}
 use Rattle.std.proofs.Common.{refl, sym, ap, subst, ◌∙◌, append-nil, arith}
 use Rattle.std.proofs.KnownBytes.{Appends-trans}
-use Rattle.std.specs.Prelude.{Option, Some, None, IfSome, IsSome}
-use Rattle.std.specs.Io.KnownBytes.{Appends}
+use Rattle.std.specs.Prelude.{Option, Some, None, Err, IfSome, IsSome}
+use Rattle.std.specs.Io.KnownBytes.{Appends, IsAtEnd}
 use Rattle.nav_io.specs.Causes.{Rose}
 use Rattle.nav_io.specs.Prefix.{AppendsPrefix}
 use Rattle.receiver_frames.specs.Headings.{Heading, format_of}
 use Rattle.receiver_frames.specs.Messages.{messages, messages_past, decided}
-use Rattle.one_run.specs.Runs.{Accepts, Broke, Done, Says, World}
+use Rattle.one_run.specs.Causes.{HasItsCause}
+use Rattle.one_run.specs.Runs.{Accepts, Broke, Done, Says, World, faults_in}
 use Rattle.one_run.specs.declared.fault.BridgeFault.{BridgeFault}
 use Rattle.one_run.specs.declared.fault.BridgeFault.TheVariants.{ReadFault, WriteFault, ReportFault}
 use Rattle.one_run.specs.declared.fault.BridgeFault.TheVariants.{NotThisForm, TooLong, NoMemory}
-use Rattle.one_run.proofs.Surface.{between, prefix_behind, prefix_longer, whole_prefix}
+use Rattle.one_run.proofs.Surface.{ahead_at_end, ahead_by, between, none_failed, prefix_behind}
+use Rattle.one_run.proofs.Surface.{prefix_longer, read_failed, report_failed, whole_prefix}
+use Rattle.one_run.proofs.Surface.{with_rest, write_failed}
 use Rattle.receiver_messages.specs.declared.said.Said.{Said}
+use Rattle.receiver_log.specs.declared.reception.Reception.{Reception}
 use Rattle.receiver_log.specs.declared.state.LogCounts.{LogCounts}
 use Rattle.receiver_log.specs.Capture.{capture_of, counts_after, counts_of, decided_capture}
 use Rattle.receiver_log.specs.Capture.{lines_from, log_meaning, refusals_from}
@@ -90,6 +94,12 @@ module _ (h : Heading) (said : List ℕ → Said) where
       (append-nil bytes)
       ∙ sym (comes_as_defined more [] (map said (messages_past (format_of h) more bytes 0)))
 
+  -- and those of all bytes
+  start_with : (bytes : List ℕ) → ahead h said false (start_of []) bytes
+      ≡ receptions_of said (messages (format_of h) bytes)
+  start_with bytes =
+      sym (comes_as_defined false [] (map said (messages_past (format_of h) false bytes 0)))
+
   module _ (a : LogView) (bytes lines : List ℕ) (p : List ℕ → Type 0)
       (m : Hears h said fresh a bytes [] lines p) where
     received : receptions_of said (messages (format_of h) bytes)
@@ -122,23 +132,37 @@ module _ (h : Heading) (said : List ℕ → Said) where
         (capture ∙ ap (λ t. t.counts) (m.state_is
         ∙ ap (state_after begun) (sym (all_received over idle))))
 
-    capture_has : (w w1 : Option (List ℕ)) → AppendsPrefix w w1 lines
-        → AppendsPrefix w w1 (capture_of h said bytes)
-    capture_has w w1 put =
-        subst (λ rs. AppendsPrefix w w1 (lines_from begun rs)) (sym received)
-        (subst (AppendsPrefix w w1)
-        (sym (lines_on begun m.heard (ahead h said false a.place [])))
+    -- all bytes are received so
+    abbrev Begins : List ℕ → List Reception → Type 0
+    Begins all more = receptions_of said (messages (format_of h) all) ≡ m.heard ++ more
+
+    received_with : (following : List ℕ) → (a.ended ≡ true → following ≡ [])
+        → Begins (bytes ++ following) (ahead h said false a.place following)
+    received_with following last = sym (start_with (bytes ++ following)) ∙ m.passes.stream following last
+
+    capture_has : (all : List ℕ) (more : List Reception) → Begins all more
+        → (w w1 : Option (List ℕ)) → AppendsPrefix w w1 lines
+        → AppendsPrefix w w1 (capture_of h said all)
+    capture_has all more is w w1 put =
+        subst (λ rs. AppendsPrefix w w1 (lines_from begun rs)) (sym is)
+        (subst (AppendsPrefix w w1) (sym (lines_on begun m.heard more))
         (prefix_longer w w1 (lines_from begun m.heard) _
         (subst (AppendsPrefix w w1) m.lines_are put)))
 
-    report_has : (r r1 : Option (List ℕ)) → AppendsPrefix r r1 (refusals_from begun m.heard)
-        → AppendsPrefix r r1 (report_of h said bytes)
-    report_has r r1 told =
-        prefix_longer r r1 (refusals_from begun (receptions_of said (messages (format_of h) bytes))) _
-        (subst (λ rs. AppendsPrefix r r1 (refusals_from begun rs)) (sym received)
-        (subst (AppendsPrefix r r1)
-        (sym (refusals_on begun m.heard (ahead h said false a.place [])))
-        (prefix_longer r r1 (refusals_from begun m.heard) _ told)))
+    refusals_has : (all : List ℕ) (more : List Reception) → Begins all more
+        → (r r1 : Option (List ℕ)) → AppendsPrefix r r1 (refusals_from begun m.heard)
+        → AppendsPrefix r r1 (refusals_from begun (receptions_of said (messages (format_of h) all)))
+    refusals_has all more is r r1 told =
+        subst (λ rs. AppendsPrefix r r1 (refusals_from begun rs)) (sym is)
+        (subst (AppendsPrefix r r1) (sym (refusals_on begun m.heard more))
+        (prefix_longer r r1 (refusals_from begun m.heard) _ told))
+
+    report_has : (all : List ℕ) (more : List Reception) → Begins all more
+        → (r r1 : Option (List ℕ)) → AppendsPrefix r r1 (refusals_from begun m.heard)
+        → AppendsPrefix r r1 (report_of h said all)
+    report_has all more is r r1 told =
+        prefix_longer r r1 (refusals_from begun (receptions_of said (messages (format_of h) all))) _
+        (refusals_has all more is r r1 told)
 
   -- ---- in the words of the contract
 
@@ -155,16 +179,35 @@ module _ (h : Heading) (said : List ℕ → Said) where
       (m : Reads h said fresh v b.left a.left [] lines p)
       → AppendsPrefix b.written a.written lines
       → ((t : List ℕ) → p t → AppendsPrefix b.reported a.reported t)
+      → HasItsCause {T = Unit {0}} (faults_in b) (faults_in a) (Err fault)
       → Says (log_meaning h said) m.bytes b a fault → Broke (log_meaning h said) b a fault
-  broke b a fault v lines p m put told says = record {
+  broke b a fault v lines p m put told cause says = record {
     taken = m.bytes;
     consumes = m.consumes;
     text = between b.written a.written _
-        (capture_has v m.bytes lines p m.hears b.written a.written put);
-    told = report_has v m.bytes lines p m.hears b.reported a.reported (told _ m.hears.told);
+        (capture_has v m.bytes lines p m.hears m.bytes _ (received v m.bytes lines p m.hears)
+        b.written a.written put);
+    told = report_has v m.bytes lines p m.hears m.bytes _ (received v m.bytes lines p m.hears)
+        b.reported a.reported (told _ m.hears.told);
+    ahead = ahead_by (log_meaning h said).whole b.left a.left b.written a.written
+        b.reported a.reported m.bytes m.consumes (λ rest is. (
+          capture_has v m.bytes lines p m.hears (m.bytes ++ rest) _ (all rest is)
+              b.written a.written put,
+          report_has v m.bytes lines p m.hears (m.bytes ++ rest) _ (all rest is)
+              b.reported a.reported (told _ m.hears.told),
+        ));
+    no_counts = λ other. with_rest b.left a.left m.bytes _ m.consumes (λ rest is.
+        refusals_has v m.bytes lines p m.hears (m.bytes ++ rest) _ (all rest is)
+        b.reported a.reported (told _ m.hears.told));
+    cause = cause;
     leaves = record { unread = λ e. cc e; silent = λ e. cc e };
     says = says;
   }
+    where
+      all : (rest : List ℕ) → a.left ≡ Some rest
+          → Begins v m.bytes lines p m.hears (m.bytes ++ rest) (ahead h said false v.place rest)
+      all rest is = received_with v m.bytes lines p m.hears rest
+          (λ over. subst IsAtEnd is (m.end over (λ e. cc e)).0)
 
   prefix_told : (fault : BridgeFault) (r r1 : Option (List ℕ)) (t : List ℕ) → Tells fault r r1 t
       → AppendsPrefix r r1 t
@@ -183,7 +226,7 @@ module _ (h : Heading) (said : List ℕ → Said) where
       → Stops h said v waiting b.never_fails b.reads_failed a.reads_failed b.reports_failed
       a.reports_failed fault
       → Says (log_meaning h said) m.bytes b a fault
-  stop_says b a ReadFault v waiting text m put (rose, later, never, none, on, idle) =
+  stop_says b a ReadFault v waiting text m put (rose, later, never, none, on, idle, silent) =
       let is = all_decided v m.bytes (text ++ waiting) _ m.hears on idle in
       let lines : text ≡ decided_capture h said m.bytes =
       sym (append-nil text) ∙ ap (λ t. text ++ t) (sym none) ∙ m.hears.lines_are
@@ -198,11 +241,24 @@ module _ (h : Heading) (said : List ℕ → Said) where
         ),
       )
   stop_says b a WriteFault v waiting text m put stops = absurd stops
-  stop_says b a ReportFault v waiting text m put rose = (refl, rose, accepts b)
+  stop_says b a ReportFault v waiting text m put (rose, kept) = (refl, rose, accepts b)
   stop_says b a NotThisForm v waiting text m put stops = absurd stops
-  stop_says b a TooLong v waiting text m put (same, many) =
+  stop_says b a TooLong v waiting text m put (same, many, silent) =
       omega (arith, m.size, many)
   stop_says b a NoMemory v waiting text m put stops = absurd stops
+
+  stop_cause : {S T U : Type 0} (b a : World S T U) (fault : BridgeFault) (v : LogView)
+      (waiting : List ℕ) → a.writes_failed ≡ b.writes_failed
+      → Stops h said v waiting b.never_fails b.reads_failed a.reads_failed b.reports_failed
+      a.reports_failed fault
+      → HasItsCause {T = Unit {0}} (faults_in b) (faults_in a) (Err fault)
+  stop_cause b a ReadFault v waiting writes (rose, later, never, none, on, idle, silent) =
+      read_failed b a rose writes silent
+  stop_cause b a WriteFault v waiting writes stops = absurd stops
+  stop_cause b a ReportFault v waiting writes (rose, kept) = report_failed b a rose kept writes
+  stop_cause b a NotThisForm v waiting writes stops = absurd stops
+  stop_cause b a TooLong v waiting writes (kept, many, silent) = none_failed b a kept writes silent
+  stop_cause b a NoMemory v waiting writes stops = absurd stops
 
   -- no more lines came
   pub stopped : {S T U : Type 0} (b a : World S T U) (fault : BridgeFault)
@@ -210,16 +266,16 @@ module _ (h : Heading) (said : List ℕ → Said) where
       → SoFar h said b.left l1 b.written a.written b.reported r1 u → old ≡ []
       → Reads h said u v l1 a.left old waiting (Tells fault r1 a.reported)
       → Stops h said v waiting b.never_fails b.reads_failed a.reads_failed b.reports_failed
-      a.reports_failed fault
+      a.reports_failed fault → a.writes_failed ≡ b.writes_failed
       → Broke (log_meaning h said) b a fault
-  stopped b a fault l1 r1 u v old waiting far none m stops =
+  stopped b a fault l1 r1 u v old waiting far none m stops writes =
       let all = next b.left l1 a.left b.written a.written b.reported r1 u v old waiting
       (Tells fault r1 a.reported) (Tells fault b.reported a.reported)
       (told_by fault b.reported r1 a.reported) far none m in
       broke b a fault v (far.text ++ waiting) (Tells fault b.reported a.reported) all
       (prefix_longer b.written a.written far.text waiting
       (whole_prefix b.written a.written far.text far.grew))
-      (prefix_told fault b.reported a.reported)
+      (prefix_told fault b.reported a.reported) (stop_cause b a fault v waiting writes stops)
       (stop_says b a fault v waiting far.text all far.grew stops)
 
   -- the lines were not written
@@ -228,8 +284,9 @@ module _ (h : Heading) (said : List ℕ → Said) where
       → SoFar h said b.left l1 b.written w1 b.reported r1 u → old ≡ []
       → Reads h said u v l1 a.left old lines (Appends r1 a.reported)
       → piece ≡ lines → AppendsPrefix w1 a.written piece → Rose b.writes_failed a.writes_failed
+      → a.reads_failed ≡ b.reads_failed → a.reports_failed ≡ b.reports_failed
       → Broke (log_meaning h said) b a WriteFault
-  unwritten b a l1 w1 r1 u v old lines piece far none m is put rose =
+  unwritten b a l1 w1 r1 u v old lines piece far none m is put rose reads reports =
       broke b a WriteFault v (far.text ++ lines) (Appends b.reported a.reported)
       (next b.left l1 a.left b.written w1 b.reported r1 u v old lines
       (Appends r1 a.reported) (Appends b.reported a.reported)
@@ -237,7 +294,7 @@ module _ (h : Heading) (said : List ℕ → Said) where
       (prefix_behind b.written w1 a.written far.text lines far.grew
       (subst (AppendsPrefix w1 a.written) is put))
       (λ t told. whole_prefix b.reported a.reported t told)
-      (rose, accepts b)
+      (write_failed b a rose reads reports) (rose, accepts b)
 
   -- all was read and written
   module _ {S T U : Type 0} (b a : World S T U) (r2 : Option (List ℕ)) (v : LogView)
@@ -286,15 +343,24 @@ module _ (h : Heading) (said : List ℕ → Said) where
 
     -- the counts were not reported
     pub unreported : AppendsPrefix r2 a.reported piece
-        → Rose b.reports_failed a.reports_failed → Broke (log_meaning h said) b a ReportFault
-    unreported part rose = record {
-      taken = far.reads.bytes;
-      consumes = far.reads.consumes;
-      text = between b.written a.written _
-          (capture_has v far.reads.bytes far.text _ far.reads.hears b.written a.written
-          (whole_prefix b.written a.written far.text far.grew));
-      told = prefix_behind b.reported r2 a.reported _ _ told
-          (subst (AppendsPrefix r2 a.reported) (says ∙ counts_text) part);
-      leaves = record { unread = λ e. cc e; silent = λ e. cc e };
-      says = (refl, rose, accepts b);
-    }
+        → Rose b.reports_failed a.reports_failed → a.reads_failed ≡ b.reads_failed
+        → a.writes_failed ≡ b.writes_failed → Broke (log_meaning h said) b a ReportFault
+    unreported part rose reads writes =
+        let text = capture_has v far.reads.bytes far.text _ far.reads.hears far.reads.bytes _
+        (received v far.reads.bytes far.text _ far.reads.hears) b.written a.written
+        (whole_prefix b.written a.written far.text far.grew) in
+        let report = prefix_behind b.reported r2 a.reported _ _ told
+        (subst (AppendsPrefix r2 a.reported) (says ∙ counts_text) part) in
+        record {
+          taken = far.reads.bytes;
+          consumes = far.reads.consumes;
+          text = between b.written a.written _ text;
+          told = report;
+          ahead = ahead_at_end (log_meaning h said).whole b.left a.left b.written a.written
+              b.reported a.reported far.reads.bytes far.reads.consumes
+              (far.reads.end over (λ e. cc e)).0 text report;
+          no_counts = λ other. absurd (other refl);
+          cause = report_failed b a rose reads writes;
+          leaves = record { unread = λ e. cc e; silent = λ e. cc e };
+          says = (refl, rose, accepts b);
+        }

@@ -273,7 +273,7 @@ module _ (h : Heading) (said : List ℕ → Said) where
       → Joins (Appends r r1) (λ u. u ≡ []) (Tells fault r r1)
   fault_told ReadFault a never reads reads1 r r1 stops = none_told (Appends r r1)
   fault_told WriteFault a never reads reads1 r r1 stops = absurd stops
-  fault_told ReportFault a never reads reads1 r r1 stops = absurd (omega (arith, stops))
+  fault_told ReportFault a never reads reads1 r r1 stops = absurd (omega (arith, stops.0))
   fault_told NotThisForm a never reads reads1 r r1 stops = absurd stops
   fault_told TooLong a never reads reads1 r r1 stops = none_told (Appends r r1)
   fault_told NoMemory a never reads reads1 r r1 stops = absurd stops
@@ -295,15 +295,15 @@ module _ (h : Heading) (said : List ℕ → Said) where
       → Stops h said a waiting never reads reads1 reports reports1 fault
       → Stops h said a waiting never0 reads0 reads1 reports0 reports1 fault
   stops_from ReadFault a waiting never never0 reads reads0 reads1 reports reports0 reports1 same told
-      quiet (rose, later, cannot, rest, on, idle) =
-      (rw (← same) rose, rw (← same) later, λ still. cannot (quiet still), rest, on, idle)
+      quiet (rose, later, cannot, rest, on, idle, kept) =
+      (rw (← same) rose, rw (← same) later, λ still. cannot (quiet still), rest, on, idle, kept ∙ told)
   stops_from WriteFault a waiting never never0 reads reads0 reads1 reports reports0 reports1 same told
       quiet stops = stops
   stops_from ReportFault a waiting never never0 reads reads0 reads1 reports reports0 reports1 same told
-      quiet stops = rw (← told) stops
+      quiet (rose, kept) = (rw (← told) rose, kept ∙ same)
   stops_from NotThisForm a waiting never never0 reads reads0 reads1 reports reports0 reports1 same told
       quiet stops = stops
   stops_from TooLong a waiting never never0 reads reads0 reads1 reports reports0 reports1 same told
-      quiet (kept, many) = (kept ∙ same, many)
+      quiet (kept, many, silent) = (kept ∙ same, many, silent ∙ told)
   stops_from NoMemory a waiting never never0 reads reads0 reads1 reports reports0 reports1 same told
       quiet stops = stops

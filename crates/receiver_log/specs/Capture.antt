@@ -89,6 +89,7 @@ log_meaning heading said = record {
   limit = too_many;
   counts = λ bytes. Some (counts_of said (messages (format_of heading) bytes));
   whole = record { output = capture_of heading said; report = report_of heading said };
+  rejections = λ bytes. refusals_from begun (receptions_of said (messages (format_of heading) bytes));
   least = no_least;
   flushed = Some (record {
     output = decided_capture heading said;

@@ -97,11 +97,11 @@ abbrev pub Stops : Heading → (List ℕ → Said) → LogView → List ℕ → 
     → Type 0
 Stops h said a waiting never_fails reads reads_new reports reports_new ReadFault =
     Rose reads reads_new × (reads ≤ reads_new) × (IsTrue never_fails → ⊥) × (waiting ≡ [])
-    × (a.ended ≡ false) × IsIdle h said a
+    × (a.ended ≡ false) × IsIdle h said a × (reports_new ≡ reports)
 Stops h said a waiting never_fails reads reads_new reports reports_new TooLong =
-    (reads_new ≡ reads) × (a.taken ≡ too_many)
+    (reads_new ≡ reads) × (a.taken ≡ too_many) × (reports_new ≡ reports)
 Stops h said a waiting never_fails reads reads_new reports reports_new ReportFault =
-    Rose reports reports_new
+    Rose reports reports_new × (reads_new ≡ reads)
 Stops h said a waiting never_fails reads reads_new reports reports_new fault = ⊥
 
 -- A bound on the steps to come: each reads bytes, finds the end, passes a message, settles a time, or gives what waited.

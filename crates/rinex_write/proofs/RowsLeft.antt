@@ -92,15 +92,24 @@ start_joined : (start : List ℕ) (rows : List (List Column)) (zs : List ℤ) �
 start_joined start [] zs h = absurd (omega arith)
 start_joined start (r ∷ rs) zs h = simp append_assoc
 
+-- four columns, a date and the lines of all rows make a record without its title
+pub body_joined : (old four date with_four with_date new : List ℕ) (rows : List (List Column)) (zs : List ℤ) → 0 < length (map length rows)
+    → with_four ≡ old ++ four → with_date ≡ with_four ++ date → new ≡ with_date ++ text_of (row_lines [] rows zs) → new ≡ old ++ text_of (row_lines (four ++ date) rows zs)
+body_joined old four date with_four with_date new rows zs h f g i =
+    let s = start_joined (four ++ date) rows zs h in
+    let joined : ((old ++ four) ++ date) ++ text_of (row_lines [] rows zs) ≡ old ++ ((four ++ date) ++ text_of (row_lines [] rows zs)) = simp append_assoc in
+    cc
+
+-- a title and that make a record
+pub title_joined : (title with_title body new : List ℕ) → with_title ≡ title ++ 10 ∷ [] → new ≡ with_title ++ body → new ≡ title ++ 10 ∷ body
+title_joined title with_title body new e f = f ∙ ap (λ (l : List ℕ). l ++ body) e ∙ append_assoc title (10 ∷ []) body
+
 -- a title, four columns, a date and the lines of all rows make a record
 pub record_joined : (title four date with_title with_four with_date new : List ℕ) (rows : List (List Column)) (zs : List ℤ) → 0 < length (map length rows)
     → with_title ≡ title ++ 10 ∷ [] → with_four ≡ with_title ++ four → with_date ≡ with_four ++ date
     → new ≡ with_date ++ text_of (row_lines [] rows zs) → new ≡ title ++ 10 ∷ text_of (row_lines (four ++ date) rows zs)
 record_joined title four date with_title with_four with_date new rows zs h e f g i =
-    let s = start_joined (four ++ date) rows zs h in
-    let joined : (((title ++ 10 ∷ []) ++ four) ++ date) ++ text_of (row_lines [] rows zs) ≡ title ++ 10 ∷ ((four ++ date) ++ text_of (row_lines [] rows zs)) =
-    simp append_assoc in
-    cc
+    title_joined title with_title (text_of (row_lines (four ++ date) rows zs)) new e (body_joined with_title four date with_four with_date new rows zs h f g i)
 
 -- the pieces of a header make its lines
 pub header_joined : (version first program date label before leap after end : List ℕ)

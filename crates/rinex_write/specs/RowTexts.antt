@@ -19,10 +19,14 @@ row_satellite letter number = letter ∷ digits 2 number
 abbrev pub row_title : RowKind → ℕ → ℕ → List ℕ
 row_title k letter number = codes "> " ++ (k.class ++ 32 ∷ (row_satellite letter number ++ 32 ∷ k.message))
 
+-- the lines of a row behind its title
+abbrev pub row_body : List (List Column) → ℕ → ℕ → ℕ → List ℤ → List (List ℕ)
+row_body rows letter number moment fields =
+    row_lines ((row_satellite letter number ++ 32 ∷ []) ++ date_text (civil_to moment)) rows fields
+
 -- the lines of a row
 abbrev pub row_record : RowKind → ℕ → ℕ → ℕ → List ℤ → List (List ℕ)
-row_record k letter number moment fields =
-    row_title k letter number ∷ row_lines ((row_satellite letter number ++ 32 ∷ []) ++ date_text (civil_to moment)) k.rows fields
+row_record k letter number moment fields = row_title k letter number ∷ row_body k.rows letter number moment fields
 
 -- a list of columns cut into rows of these lengths
 abbrev pub split_rows : List ℕ → List Column → List (List Column)

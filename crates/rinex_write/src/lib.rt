@@ -49,6 +49,6 @@ pub use crate::layouts::{
     RecordLayout, SBAS, SBAS_ROWS, galileo_ionosphere_layout, galileo_layout,
     gps_ionosphere_layout, gps_layout, sbas_layout,
 };
-pub use crate::row::{RowHead, write_row};
+pub use crate::row::{RowHead, write_row, write_row_body};
 pub use crate::words::HeaderWords;
 pub use crate::write3::{write_header3, write_item3};

@@ -1,11 +1,13 @@
 //! The records of rows: kinds of any system by their layouts.
 
-ghost use Rattle.std.specs.Prelude.{◌≡◌, ◌≤◌, ◌∷◌, ◌++◌, [], length, map};
+ghost use Rattle.std.specs.Prelude.{◌≡◌, ◌≤◌, ◌∷◌, ◌++◌, [], List, length, map};
 ghost use Rattle.nav_io.specs.Writes.{Writes};
 ghost use Rattle.rinex_write.specs.Columns.{joined_rows};
 ghost use Rattle.rinex_write.specs.Mirrors.{AreReady, IsTable};
-ghost use Rattle.rinex_write.specs.RowTexts.{RowKind, row_record, row_satellite, row_title};
+ghost use Rattle.rinex_write.specs.RowTexts.{RowKind, row_body, row_record, row_satellite};
+ghost use Rattle.rinex_write.specs.RowTexts.{row_title};
 ghost use Rattle.rinex_write.specs.Texts.{text_of};
+ghost use Rattle.rinex_write.specs.declared.columns.Column.{Column};
 
 use crate::layouts::RecordLayout;
 use crate::record::{Record, append, append_table, date_columns, two_digits};
@@ -37,7 +39,8 @@ fn satellite_of(head: &RowHead) -> [u8; 3]
 fn append_row_title(text: &mut Record, head: &RowHead)
     requires empty { text.old.items ≡ [] }
     requires message { length head.now.message.now ≤ 4 }
-    ensures items { (k : RowKind) → head.now.class ≡ k.class → head.now.message.now ≡ k.message → text.new.items ≡ row_title k head.now.letter head.now.number ++ 10 ∷ [] }
+    ensures items { (k : RowKind) → head.now.class ≡ k.class → head.now.message.now ≡ k.message
+        → text.new.items ≡ row_title k head.now.letter head.now.number ++ 10 ∷ [] }
     ensures short { length text.new.items ≤ 15 }
 {
     append(text, b"> ");
@@ -57,6 +60,26 @@ fn row_start(head: &RowHead) -> [u8; 4]
     [letter, tens, ones, b' ']
 }
 
+// Appends the lines of a row behind its title.
+fn append_row_body(
+    text: &mut Record,
+    head: &RowHead,
+    moment: Moment,
+    layout: &RecordLayout,
+    fields: &[i64],
+)
+    requires short { length text.old.items ≤ 15 }
+    requires table { IsTable layout.now.rows.now layout.now.columns.now }
+    requires ready { AreReady layout.now.columns.now fields.now }
+    ensures { (rows : List (List Column)) → layout.now.columns.now ≡ joined_rows rows
+        → layout.now.rows.now ≡ map length rows → text.new.items ≡ text.old.items
+        ++ text_of (row_body rows head.now.letter head.now.number moment fields.now) }
+{
+    append(text, &row_start(head));
+    append(text, &date_columns(&civil(moment)));
+    append_table(text, layout, fields);
+}
+
 // Appends the lines of a row; nothing stands before it.
 fn append_row_record(
     text: &mut Record,
@@ -69,14 +92,13 @@ fn append_row_record(
     requires message { length head.now.message.now ≤ 4 }
     requires table { IsTable layout.now.rows.now layout.now.columns.now }
     requires ready { AreReady layout.now.columns.now fields.now }
-    ensures { (k : RowKind) → head.now.class ≡ k.class → head.now.message.now ≡ k.message → layout.now.columns.now ≡ joined_rows k.rows
-        → layout.now.rows.now ≡ map length k.rows
-        → text.new.items ≡ text_of (row_record k head.now.letter head.now.number moment fields.now) }
+    ensures { (k : RowKind) → head.now.class ≡ k.class → head.now.message.now ≡ k.message
+        → layout.now.columns.now ≡ joined_rows k.rows → layout.now.rows.now ≡ map length k.rows
+        → text.new.items
+        ≡ text_of (row_record k head.now.letter head.now.number moment fields.now) }
 {
     append_row_title(text, head);
-    append(text, &row_start(head));
-    append(text, &date_columns(&civil(moment)));
-    append_table(text, layout, fields);
+    append_row_body(text, head, moment, layout, fields);
 }
 
 /// Appends the record of a row to a sink.
@@ -95,12 +117,36 @@ pub fn write_row<T: Sink>(
     requires message { length head.now.message.now ≤ 4 }
     requires table { IsTable layout.now.rows.now layout.now.columns.now }
     requires ready { AreReady layout.now.columns.now fields.now }
-    ensures { (k : RowKind) → head.now.class ≡ k.class → head.now.message.now ≡ k.message → layout.now.columns.now ≡ joined_rows k.rows
-        → layout.now.rows.now ≡ map length k.rows
+    ensures { (k : RowKind) → head.now.class ≡ k.class → head.now.message.now ≡ k.message
+        → layout.now.columns.now ≡ joined_rows k.rows → layout.now.rows.now ≡ map length k.rows
         → Writes (T.written out.old) (T.written out.new) (T.faults out.old) (T.faults out.new) result
         (text_of (row_record k head.now.letter head.now.number moment fields.now)) }
 {
     let mut text = Record::new();
     append_row_record(&mut text, head, moment, layout, fields);
+    out.write(&text)
+}
+
+/// Appends the record of a row without its title line to a sink, as in RINEX 3.
+///
+/// # Errors
+///
+/// As [`write_row`].
+pub fn write_row_body<T: Sink>(
+    head: &RowHead,
+    moment: Moment,
+    layout: &RecordLayout,
+    fields: &[i64],
+    out: &mut T,
+) -> Result<(), Failed>
+    requires table { IsTable layout.now.rows.now layout.now.columns.now }
+    requires ready { AreReady layout.now.columns.now fields.now }
+    ensures { (rows : List (List Column)) → layout.now.columns.now ≡ joined_rows rows
+        → layout.now.rows.now ≡ map length rows
+        → Writes (T.written out.old) (T.written out.new) (T.faults out.old) (T.faults out.new) result
+        (text_of (row_body rows head.now.letter head.now.number moment fields.now)) }
+{
+    let mut text = Record::new();
+    append_row_body(&mut text, head, moment, layout, fields);
     out.write(&text)
 }

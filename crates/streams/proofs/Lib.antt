@@ -17,3 +17,6 @@ mod Holding
 mod Numbers
 mod SoFar
 mod ListTexts
+mod TakenLemmas
+mod TakenEnds
+pub mod Surface

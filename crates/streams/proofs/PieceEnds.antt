@@ -28,15 +28,6 @@ moves_last r prefix text a b w w1 u u1 g g1 c c1 moves = record {
   goes = moves.goes;
 }
 
-stops_last : (r : ℕ) (prefix : List ℕ) (text : NavItem → List ℕ) (a : List ℕ) (w w1 u u1 : Option (List ℕ)) (g : GivenState) (c : StreamCounts)
-    → StreamStops r prefix text true a w w1 u u1 g c → StreamStops r prefix text false a w w1 u u1 g c
-stops_last r prefix text a w w1 u u1 g c stops = record {
-  done = stops.done;
-  frames_are = stops.frames_are;
-  stream = λ following last. stops.stream following (λ never. cc);
-  breaks = stops.breaks;
-}
-
 -- what is left is the same
 moves_to : (r : ℕ) (prefix : List ℕ) (text : NavItem → List ℕ) (more : Bool) (a b d : List ℕ) (w w1 u u1 : Option (List ℕ)) (g g1 : GivenState) (c c1 : StreamCounts)
     → b ≡ d → StreamMoves r prefix text more a b w w1 u u1 g g1 c c1 → StreamMoves r prefix text more a d w w1 u u1 g g1 c c1
@@ -82,7 +73,7 @@ pub before_last : (bytes piece : List ℕ) → length piece ≤ 16384 → take (
 before_last bytes piece few = take-append-le (length (bytes ++ piece) - 16384) bytes piece (omega (arith, length-append bytes piece, few))
 
 -- frames that begin with those that were decided before the last piece
-begins_flushed : (bytes piece : List ℕ) (them more : List (List ℕ)) → length piece ≤ 16384 → them ≡ decided bytes ++ more → BeginsFlushed them (bytes ++ piece)
+pub begins_flushed : (bytes piece : List ℕ) (them more : List (List ℕ)) → length piece ≤ 16384 → them ≡ decided bytes ++ more → BeginsFlushed them (bytes ++ piece)
 begins_flushed bytes piece them more few is =
     let n = length (bytes ++ piece) - 16384 in
     let first = decided_prefix n bytes in (
@@ -91,7 +82,7 @@ begins_flushed bytes piece them more few is =
           ∙ ap (λ (l : List ℕ). decided l ++ (first.0 ++ more)) (sym (before_last bytes piece few)),
     )
 
-begins_all : (bytes : List ℕ) (them more : List (List ℕ)) → them ≡ decided bytes ++ more → BeginsFlushed them bytes
+pub begins_all : (bytes : List ℕ) (them more : List (List ℕ)) → them ≡ decided bytes ++ more → BeginsFlushed them bytes
 begins_all bytes them more is = subst (BeginsFlushed them) (append-nil bytes) (begins_flushed bytes [] them more (omega arith) is)
 
 -- the frames that were taken before the last piece are those that were decided
@@ -100,7 +91,7 @@ far_flushed : (r : ℕ) (prefix : List ℕ) (text : NavItem → List ℕ) (left 
 far_flushed r prefix text left l1 w w1 u u1 g g1 c c1 state taken far = flushed_frames far.bytes state.rest far.moves.frames_are (far.moves.decides [] refl) far.may_feed.1
 
 -- a read that gave no byte
-takes_none : (left l1 l2 : Option (List ℕ)) (bytes : List ℕ) (n : ℕ) (buffer : List ℕ) → Consumes left l1 bytes → n ≡ 0 → Consumes l1 l2 (take n buffer) → Consumes left l2 bytes
+pub takes_none : (left l1 l2 : Option (List ℕ)) (bytes : List ℕ) (n : ℕ) (buffer : List ℕ) → Consumes left l1 bytes → n ≡ 0 → Consumes l1 l2 (take n buffer) → Consumes left l2 bytes
 takes_none left l1 l2 bytes n buffer before zero read =
     let none : Consumes l1 l2 [] = subst (λ (k : ℕ). Consumes l1 l2 (take k buffer)) zero read in
     subst (Consumes left l2) (append-nil bytes) (Consumes-trans left l1 l2 bytes [] before none)
@@ -130,13 +121,15 @@ pieces_all r prefix text left l1 l2 w w1 w2 u u1 u2 g g1 g2 c c1 c2 old last aft
 -- a read failed: exactly the decided frames were taken
 pub part_of_read : (r : ℕ) (prefix : List ℕ) (text : NavItem → List ℕ) (left l1 l2 w w1 u u1 : Option (List ℕ)) (g g1 : GivenState) (c c1 : StreamCounts) (state : DeframerState) (taken : ℕ)
     → PiecesSoFar r prefix text left l1 w w1 u u1 g g1 c c1 state taken → Keeps l1 l2 → StreamPart r prefix text left l2 w w1 u u1 g g1 c c1 ReadFault
-unfolding stops_last stops_of_moves
+unfolding stops_of_moves
 part_of_read r prefix text left l1 l2 w w1 u u1 g g1 c c1 state taken far kept =
     let flushed = far_flushed r prefix text left l1 w w1 u u1 g g1 c c1 state taken far in
     record {
       taken = far.bytes;
       consumes = Consumes-kept left l1 l2 far.bytes far.consumes kept;
-      stops = stops_last r prefix text far.bytes w w1 u u1 g c (stops_of_moves r prefix text true far.bytes state.rest w w1 u u1 g g1 c c1 far.moves);
+      more = true;
+      end = λ never. cc;
+      stops = stops_of_moves r prefix text true far.bytes state.rest w w1 u u1 g g1 c c1 far.moves;
       flushes = begins_all far.bytes far.moves.frames_are [] (flushed ∙ sym (append-nil (decided far.bytes)));
       too_long = λ never. cc;
       form = λ never. cc;
@@ -146,11 +139,13 @@ part_of_read r prefix text left l1 l2 w w1 u u1 g g1 c c1 state taken far kept =
 -- too many bytes were there
 pub part_of_long : (r : ℕ) (prefix : List ℕ) (text : NavItem → List ℕ) (left l1 w w1 u u1 : Option (List ℕ)) (g g1 : GivenState) (c c1 : StreamCounts) (state : DeframerState) (taken : ℕ)
     → PiecesSoFar r prefix text left l1 w w1 u u1 g g1 c c1 state taken → taken ≡ 2 ^ 32 → StreamPart r prefix text left l1 w w1 u u1 g g1 c c1 TooLong
-unfolding stops_last stops_of_moves
+unfolding stops_of_moves
 part_of_long r prefix text left l1 w w1 u u1 g g1 c c1 state taken far long = record {
   taken = far.bytes;
   consumes = far.consumes;
-  stops = stops_last r prefix text far.bytes w w1 u u1 g c (stops_of_moves r prefix text true far.bytes state.rest w w1 u u1 g g1 c c1 far.moves);
+  more = true;
+  end = λ never. cc;
+  stops = stops_of_moves r prefix text true far.bytes state.rest w w1 u u1 g g1 c c1 far.moves;
   flushes = begins_all far.bytes far.moves.frames_are [] (far_flushed r prefix text left l1 w w1 u u1 g g1 c c1 state taken far ∙ sym (append-nil (decided far.bytes)));
   too_long = λ same. far.size ∙ long;
   form = λ never. cc;
@@ -162,13 +157,14 @@ pub part_of_piece : (r : ℕ) (prefix : List ℕ) (text : NavItem → List ℕ) 
     → PiecesSoFar r prefix text left l1 w w1 u u1 g g1 c c1 old taken → Consumes l1 l2 piece → length piece ≤ 16384
     → StreamStops r prefix text true (old.rest ++ piece) w1 w2 u1 u2 g1 c1 → IsStreamFault fault
     → StreamPart r prefix text left l2 w w2 u u2 g g2 c c2 fault
-unfolding stops_last stops_on moves_fed
+unfolding stops_on moves_fed
 part_of_piece r prefix text left l1 l2 w w1 w2 u u1 u2 g g1 g2 c c1 c2 old taken piece fault far read few stops kind = record {
   taken = far.bytes ++ piece;
   consumes = Consumes-trans left l1 l2 far.bytes piece far.consumes read;
-  stops = stops_last r prefix text (far.bytes ++ piece) w w2 u u2 g c
-      (stops_on r prefix text true (far.bytes ++ piece) (old.rest ++ piece) w w1 w2 u u1 u2 g g1 c c1
-      (moves_fed r prefix text far.bytes old.rest piece w w1 u u1 g g1 c c1 far.moves) stops);
+  more = true;
+  end = λ never. cc;
+  stops = stops_on r prefix text true (far.bytes ++ piece) (old.rest ++ piece) w w1 w2 u u1 u2 g g1 c c1
+      (moves_fed r prefix text far.bytes old.rest piece w w1 u u1 g g1 c c1 far.moves) stops;
   flushes = begins_flushed far.bytes piece (far.moves.frames_are ++ stops.done) stops.done few
       (ap (λ (l : List (List ℕ)). l ++ stops.done) (far_flushed r prefix text left l1 w w1 u u1 g g1 c c1 old taken far));
   too_long = λ is. absurd (subst IsStreamFault is kind);
@@ -178,17 +174,19 @@ part_of_piece r prefix text left l1 l2 w w1 w2 u u1 u2 g g1 g2 c c1 c2 old taken
 
 -- a frame that the end decides is not taken to its end
 pub part_of_last : (r : ℕ) (prefix : List ℕ) (text : NavItem → List ℕ) (left l1 l2 w w1 w2 u u1 u2 : Option (List ℕ)) (g g1 g2 : GivenState) (c c1 c2 : StreamCounts) (old last : DeframerState) (taken n : ℕ) (buffer : List ℕ) (fault : BridgeFault)
-    → PiecesSoFar r prefix text left l1 w w1 u u1 g g1 c c1 old taken → n ≡ 0 → Consumes l1 l2 (take n buffer)
+    → PiecesSoFar r prefix text left l1 w w1 u u1 g g1 c c1 old taken → n ≡ 0 → Consumes l1 l2 (take n buffer) → IsAtEnd l2
     → last.rest ≡ old.rest → last.finished ≡ true
     → StreamStops r prefix text (not last.finished) last.rest w1 w2 u1 u2 g1 c1 → IsStreamFault fault
     → StreamPart r prefix text left l2 w w2 u u2 g g2 c c2 fault
 unfolding stops_on moves_last
-part_of_last r prefix text left l1 l2 w w1 w2 u u1 u2 g g1 g2 c c1 c2 old last taken n buffer fault far zero read same finished stops kind =
+part_of_last r prefix text left l1 l2 w w1 w2 u u1 u2 g g1 g2 c c1 c2 old last taken n buffer fault far zero read end same finished stops kind =
     let ends = subst (λ (b : Bool). StreamStops r prefix text (not b) last.rest w1 w2 u1 u2 g1 c1) finished stops in
     let from = subst (λ (l : List ℕ). StreamStops r prefix text false l w1 w2 u1 u2 g1 c1) same ends in
     record {
       taken = far.bytes;
       consumes = takes_none left l1 l2 far.bytes n buffer far.consumes zero read;
+      more = false;
+      end = λ last. end;
       stops = stops_on r prefix text false far.bytes old.rest w w1 w2 u u1 u2 g g1 c c1 (moves_last r prefix text far.bytes old.rest w w1 u u1 g g1 c c1 far.moves) from;
       flushes = begins_all far.bytes (far.moves.frames_are ++ from.done) from.done
           (ap (λ (l : List (List ℕ)). l ++ from.done) (far_flushed r prefix text left l1 w w1 u u1 g g1 c c1 old taken far));

@@ -1,6 +1,6 @@
 -- What a run has taken and written so far, and how it ends.
 use Rattle.std.proofs.Common.{◌≡◌, ◌+◌, ◌-◌, ◌<◌, ◌≤◌, ◌^◌, ℕ, Bool, true, false, not, List, [], ◌++◌, length, take, refl, sym, ap, ◌∙◌, subst, inl, arith, append_assoc, append-nil, length-append}
-use Rattle.std.specs.Prelude.{Option, None, Some, IfSome, IsSome, IsTrue}
+use Rattle.std.specs.Prelude.{Option, None, Some, Err, IfSome, IsSome, IsTrue}
 use Rattle.std.specs.List.{flat_map}
 use Rattle.std.specs.Io.KnownBytes.{Appends, Consumes, IsAtEnd, Keeps}
 use Rattle.std.proofs.KnownBytes.{Appends-trans, Consumes-nil, Consumes-trans, Consumes-kept}
@@ -11,8 +11,9 @@ use Rattle.rtcm_frame.specs.Frames.{decided, frames}
 use Rattle.rtcm_frame.specs.State.{DeframerState, MayFeed}
 use Rattle.one_run.specs.declared.fault.BridgeFault.TheVariants.{ReadFault, WriteFault, TooLong}
 use Rattle.one_run.specs.declared.fault.BridgeFault.{BridgeFault}
-use Rattle.one_run.specs.Runs.{AppendsBetween, Broke, Done, Leaves, Says, World}
-use Rattle.one_run.proofs.Surface.{prefix_trans, no_prefix, whole_prefix}
+use Rattle.one_run.specs.Causes.{HasItsCause}
+use Rattle.one_run.specs.Runs.{AppendsBetween, Broke, Done, IsAheadOf, Leaves, Says, World, faults_in}
+use Rattle.one_run.proofs.Surface.{ahead_at_end, ahead_by, no_prefix, none_failed, prefix_behind, prefix_of, prefix_trans, read_failed, whole_prefix, with_rest, write_failed}
 use Rattle.streams.specs.declared.frame_run.FrameCounts.{FrameCounts}
 use Rattle.streams.specs.FrameLines.{frames_meaning, line_of}
 use Rattle.streams.specs.FrameRuns.{Goes, Breaks, least_of, output_of, flushed_of}
@@ -122,12 +123,16 @@ written_between line bytes w w1 w2 least done more low text (prefix, (rest, with
 
 -- the run broke off
 broke : {S T U : Type 0} (b a : World S T U) (fault : BridgeFault) (taken : List ℕ) → IsSilent b a → Consumes b.left a.left taken
-    → AppendsBetween b.written a.written (least_of line_of taken) (output_of line_of taken) → Says frames_meaning taken b a fault → Broke frames_meaning b a fault
-broke b a fault taken silent consumes text says = record {
+    → AppendsBetween b.written a.written (least_of line_of taken) (output_of line_of taken) → IsAheadOf frames_meaning.whole b.left b.written a.written b.reported a.reported
+    → HasItsCause {T = Unit {0}} (faults_in b) (faults_in a) (Err fault) → Says frames_meaning taken b a fault → Broke frames_meaning b a fault
+broke b a fault taken silent consumes text ahead cause says = record {
   taken = taken;
   consumes = consumes;
   text = text;
   told = whole_prefix b.reported a.reported [] silent.told;
+  ahead = ahead;
+  no_counts = λ other. with_rest b.left a.left taken _ consumes (λ rest is. whole_prefix b.reported a.reported [] silent.told);
+  cause = cause;
   leaves = leaves b a silent;
   says = says;
 }
@@ -183,39 +188,68 @@ far_between left l1 w w1 state taken count far =
     written_between line_of far.bytes w w1 w1 (least_of line_of far.bytes) (flushed_of line_of far.bytes) (output_of line_of (state.rest ++ [])) (least_all far.bytes)
     (far_text left l1 w w1 state taken count far) (no_prefix w1 _) (last_lines left l1 w w1 state taken count far)
 
+-- what follows a prefix of the lines of the rest is no matter
+lines_before : (left l1 w w1 w2 : Option (List ℕ)) (state : DeframerState) (taken count : ℕ) → (far : RunsSoFar line_of left l1 w w1 state taken count) → (following : List ℕ)
+    → AppendsPrefix w1 w2 (output_of line_of (state.rest ++ following)) → AppendsPrefix w w2 (output_of line_of (far.bytes ++ following))
+lines_before left l1 w w1 w2 state taken count far following part =
+    subst (AppendsPrefix w w2) (sym (more_lines left l1 w w1 state taken count far following))
+    (prefix_behind w w1 w2 (flushed_of line_of far.bytes) (output_of line_of (state.rest ++ following)) (far_text left l1 w w1 state taken count far) part)
+
+-- nothing was written after the decided frames, whatever follows
+far_ahead : {S T U : Type 0} (b a : World S T U) (l1 : Option (List ℕ)) (state : DeframerState) (taken count : ℕ)
+    → IsSilent b a → (far : RunsSoFar line_of b.left l1 b.written a.written state taken count) → Consumes b.left a.left far.bytes
+    → IsAheadOf frames_meaning.whole b.left b.written a.written b.reported a.reported
+far_ahead b a l1 state taken count silent far consumes =
+    ahead_by frames_meaning.whole b.left a.left b.written a.written b.reported a.reported far.bytes consumes
+    (λ rest is. (lines_before b.left l1 b.written a.written a.written state taken count far rest (no_prefix a.written _), whole_prefix b.reported a.reported [] silent.told))
+
 -- a read failed
 pub broke_read : {S T U : Type 0} (b a : World S T U) (l1 : Option (List ℕ)) (state : DeframerState) (taken count : ℕ)
     → IsSilent b a → RunsSoFar line_of b.left l1 b.written a.written state taken count → Keeps l1 a.left
-    → Rose b.reads_failed a.reads_failed → (IsTrue b.never_fails → ⊥) → Broke frames_meaning b a ReadFault
-broke_read b a l1 state taken count silent far kept rose never =
-    broke b a ReadFault far.bytes silent (Consumes-kept b.left l1 a.left far.bytes far.consumes kept) (far_between b.left l1 b.written a.written state taken count far)
+    → Rose b.reads_failed a.reads_failed → a.writes_failed ≡ b.writes_failed → (IsTrue b.never_fails → ⊥) → Broke frames_meaning b a ReadFault
+broke_read b a l1 state taken count silent far kept rose writes never =
+    let consumes = Consumes-kept b.left l1 a.left far.bytes far.consumes kept in
+    broke b a ReadFault far.bytes silent consumes (far_between b.left l1 b.written a.written state taken count far)
+    (far_ahead b a l1 state taken count silent far consumes) (read_failed b a rose writes silent.failed)
     (refl, rose, never, (far_text b.left l1 b.written a.written state taken count far, silent.told))
 
 -- a write failed in a piece
 pub broke_piece : {S T U : Type 0} (b a : World S T U) (l1 w1 : Option (List ℕ)) (old : DeframerState) (taken count : ℕ) (piece : List ℕ)
     → IsSilent b a → RunsSoFar line_of b.left l1 b.written w1 old taken count → Consumes l1 a.left piece → length piece ≤ 16384 → Breaks line_of true (old.rest ++ piece) w1 a.written
-    → Rose b.writes_failed a.writes_failed → Broke frames_meaning b a WriteFault
-broke_piece b a l1 w1 old taken count piece silent far read few breaks rose =
+    → Rose b.writes_failed a.writes_failed → a.reads_failed ≡ b.reads_failed → Broke frames_meaning b a WriteFault
+broke_piece b a l1 w1 old taken count piece silent far read few breaks rose reads =
     let prefix = subst (λ (l : List ℕ). AppendsPrefix w1 a.written (output_of line_of l)) (append-nil (old.rest ++ piece)) (breaks.text [] (λ never. refl)) in
-    broke b a WriteFault (far.bytes ++ piece) silent (Consumes-trans b.left l1 a.left far.bytes piece far.consumes read)
+    let consumes = Consumes-trans b.left l1 a.left far.bytes piece far.consumes read in
+    let ahead = ahead_by frames_meaning.whole b.left a.left b.written a.written b.reported a.reported (far.bytes ++ piece) consumes
+    (λ rest is. (
+      subst (λ (l : List ℕ). AppendsPrefix b.written a.written (output_of line_of l)) (sym (append_assoc far.bytes piece rest))
+          (lines_before b.left l1 b.written w1 a.written old taken count far (piece ++ rest)
+          (subst (λ (l : List ℕ). AppendsPrefix w1 a.written (output_of line_of l)) (append_assoc old.rest piece rest) (breaks.text rest (λ never. cc)))),
+      whole_prefix b.reported a.reported [] silent.told,
+    )) in
+    broke b a WriteFault (far.bytes ++ piece) silent consumes
     (written_between line_of (far.bytes ++ piece) b.written w1 a.written (least_of line_of (far.bytes ++ piece)) (flushed_of line_of far.bytes) (output_of line_of (old.rest ++ piece))
     (least_before far.bytes piece few) (far_text b.left l1 b.written w1 old taken count far) prefix (more_lines b.left l1 b.written w1 old taken count far piece))
-    (rose, accepts b.left)
+    ahead (write_failed b a rose reads silent.failed) (rose, accepts b.left)
 
 -- a write failed after the last byte
 pub broke_last : {S T U : Type 0} (b a : World S T U) (l1 w1 : Option (List ℕ)) (old last : DeframerState) (taken count : ℕ) (n : ℕ) (buffer : List ℕ)
-    → IsSilent b a → RunsSoFar line_of b.left l1 b.written w1 old taken count → n ≡ 0 → Consumes l1 a.left (take n buffer) → last.rest ≡ old.rest → last.finished ≡ true
-    → Breaks line_of (not last.finished) last.rest w1 a.written → Rose b.writes_failed a.writes_failed → Broke frames_meaning b a WriteFault
-broke_last b a l1 w1 old last taken count n buffer silent far zero read same finished breaks rose =
+    → IsSilent b a → RunsSoFar line_of b.left l1 b.written w1 old taken count → n ≡ 0 → Consumes l1 a.left (take n buffer) → IsAtEnd a.left → last.rest ≡ old.rest → last.finished ≡ true
+    → Breaks line_of (not last.finished) last.rest w1 a.written → Rose b.writes_failed a.writes_failed → a.reads_failed ≡ b.reads_failed → Broke frames_meaning b a WriteFault
+broke_last b a l1 w1 old last taken count n buffer silent far zero read end same finished breaks rose reads =
     let ends = subst (λ (x : Bool). Breaks line_of (not x) last.rest w1 a.written) finished breaks in
     let from = subst (λ (l : List ℕ). Breaks line_of false l w1 a.written) same ends in
-    broke b a WriteFault far.bytes silent (takes_none b.left l1 a.left far.bytes n buffer far.consumes zero read)
-    (written_between line_of far.bytes b.written w1 a.written (least_of line_of far.bytes) (flushed_of line_of far.bytes) (output_of line_of (old.rest ++ []))
-    (least_all far.bytes) (far_text b.left l1 b.written w1 old taken count far) (from.text [] (λ last. refl)) (last_lines b.left l1 b.written w1 old taken count far))
-    (rose, accepts b.left)
+    let consumes = takes_none b.left l1 a.left far.bytes n buffer far.consumes zero read in
+    let text = written_between line_of far.bytes b.written w1 a.written (least_of line_of far.bytes) (flushed_of line_of far.bytes) (output_of line_of (old.rest ++ []))
+    (least_all far.bytes) (far_text b.left l1 b.written w1 old taken count far) (from.text [] (λ last. refl)) (last_lines b.left l1 b.written w1 old taken count far) in
+    broke b a WriteFault far.bytes silent consumes text
+    (ahead_at_end frames_meaning.whole b.left a.left b.written a.written b.reported a.reported far.bytes consumes end (prefix_of b.written a.written _ _ text)
+    (whole_prefix b.reported a.reported [] silent.told)) (write_failed b a rose reads silent.failed) (rose, accepts b.left)
 
 -- too many bytes were there
 pub broke_long : {S T U : Type 0} (b a : World S T U) (state : DeframerState) (taken count : ℕ)
-    → IsSilent b a → RunsSoFar line_of b.left a.left b.written a.written state taken count → 2 ^ 32 ≤ taken → Broke frames_meaning b a TooLong
-broke_long b a state taken count silent far long =
-    broke b a TooLong far.bytes silent far.consumes (far_between b.left a.left b.written a.written state taken count far) (omega (arith, far.size, far.limit, long))
+    → IsSilent b a → RunsSoFar line_of b.left a.left b.written a.written state taken count → 2 ^ 32 ≤ taken → a.reads_failed ≡ b.reads_failed → a.writes_failed ≡ b.writes_failed
+    → Broke frames_meaning b a TooLong
+broke_long b a state taken count silent far long reads writes =
+    broke b a TooLong far.bytes silent far.consumes (far_between b.left a.left b.written a.written state taken count far) (far_ahead b a a.left state taken count silent far far.consumes)
+    (none_failed b a reads writes silent.failed) (omega (arith, far.size, far.limit, long))

@@ -1,7 +1,7 @@
 -- A stream from its first byte to its end: what was taken of it is what its frames give.
-use Rattle.std.proofs.Common.{◌≡◌, ◌+◌, ◌-◌, ℕ, false, List, [], ◌∷◌, ◌++◌, length, take, refl, sym, ap, ◌∙◌, subst, append_assoc, append-nil}
+use Rattle.std.proofs.Common.{◌≡◌, ◌+◌, ◌-◌, ℕ, Bool, false, List, [], ◌∷◌, ◌++◌, length, take, refl, sym, ap, ◌∙◌, subst, append_assoc, append-nil}
 use Rattle.std.specs.Prelude.{Option, None, Some, IfSome, IsErrOf, IsSome, IsTrue, Ok, Err}
-use Rattle.std.specs.Io.KnownBytes.{Appends, Consumes}
+use Rattle.std.specs.Io.KnownBytes.{Appends, Consumes, IsAtEnd}
 use Rattle.std.proofs.KnownBytes.{Appends-nil, Appends-trans, Consumes-nil}
 use Rattle.nav_io.specs.Causes.{Rose}
 use Rattle.nav_io.specs.Prefix.{AppendsPrefix, IsPrefix}
@@ -12,11 +12,11 @@ use Rattle.rtcm_eph.specs.Reading.{item_in}
 use Rattle.one_run.specs.declared.fault.BridgeFault.{BridgeFault}
 use Rattle.one_run.specs.declared.fault.BridgeFault.TheVariants.{ReadFault, WriteFault, ReportFault, NotThisForm, TooLong, NoMemory}
 use Rattle.one_run.specs.Causes.{HasItsCause, faults_of}
-use Rattle.one_run.specs.Runs.{AppendsBetween, Broke, Done, Leaves, Says, World}
+use Rattle.one_run.specs.Runs.{AppendsBetween, Broke, Done, Leaves, Says, World, faults_in}
 use Rattle.streams.specs.declared.counts.StreamCounts.{StreamCounts}
-use Rattle.streams.specs.Streams.{Reading, counts_of_readings, has, items_of_readings, least_output_by, reading_report, readings, readings_output, readings_report, stream_counts, stream_counts_text, stream_meaning_by, stream_output_by, stream_report}
-use Rattle.streams.specs.Mirrors.{BeginsFlushed, GivenState, NothingKept, StreamAll, StreamPart, StreamSoFar, is_given, once_text}
-use Rattle.one_run.proofs.Surface.{between, prefix_behind, prefix_longer, prefix_same, prefix_trans, prefix_within, no_prefix}
+use Rattle.streams.specs.Streams.{Reading, counts_of_readings, has, items_of_readings, least_output_by, reading_report, readings, readings_output, readings_report, stream_counts, stream_counts_text, stream_meaning_by, stream_output_by, stream_readings, stream_report}
+use Rattle.streams.specs.Mirrors.{BeginsFlushed, GivenState, NothingKept, StreamAll, StreamPart, StreamSoFar, StreamStops, is_given, once_text}
+use Rattle.one_run.proofs.Surface.{ahead_at_end, ahead_by, between, no_prefix, prefix_behind, prefix_longer, prefix_of, prefix_same, prefix_trans, prefix_within, report_failed, whole_prefix, with_rest, write_failed}
 use Rattle.streams.proofs.KnownLemmas.{none_known}
 use Rattle.streams.proofs.StreamLemmas.{between_whole, output_fault, output_item}
 
@@ -84,7 +84,7 @@ begins r prefix text w w1 u g c grew none nothing same = record {
 -- ---- and ends
 
 -- the frames that were taken are all
-all_frames : (taken : List ℕ) (them : List (List ℕ)) → frames (taken ++ []) ≡ them ++ frames [] → frames taken ≡ them
+pub all_frames : (taken : List ℕ) (them : List (List ℕ)) → frames (taken ++ []) ≡ them ++ frames [] → frames taken ≡ them
 all_frames taken them is = ap frames (sym (append-nil taken)) ∙ is ∙ append-nil them
 
 all_so_far : (r : ℕ) (prefix : List ℕ) (text : NavItem → List ℕ) (left l1 w w1 w2 u u1 : Option (List ℕ)) (g g1 : GivenState) (c c1 : StreamCounts)
@@ -109,15 +109,40 @@ leaves prefix text r before after = record { unread = λ never. cc; silent = λ 
 -- the leading text is not written to its end
 pub broke_begin : {S T U : Type 0} (r : ℕ) (prefix : List ℕ) (text : NavItem → List ℕ) (b a : World S T U)
     → AppendsPrefix b.written a.written prefix → Rose b.writes_failed a.writes_failed → a.left ≡ b.left → a.reported ≡ b.reported
+    → a.reads_failed ≡ b.reads_failed → a.reports_failed ≡ b.reports_failed
     → Broke (stream_meaning_by prefix text r) b a WriteFault
-broke_begin r prefix text b a grew rose left reported = record {
-  taken = [];
-  consumes = subst (λ (l : Option (List ℕ)). Consumes b.left l []) (sym left) (Consumes-nil b.left);
-  text = between b.written a.written (stream_output_by prefix text r []) (prefix_longer b.written a.written prefix [] grew);
-  told = subst (λ (l : Option (List ℕ)). AppendsPrefix b.reported l (stream_report r [])) (sym reported) (no_prefix b.reported (stream_report r []));
-  leaves = leaves prefix text r b a;
-  says = (rose, accepts r b.left);
-}
+broke_begin r prefix text b a grew rose left reported reads reports =
+    let consumes = subst (λ (l : Option (List ℕ)). Consumes b.left l []) (sym left) (Consumes-nil b.left) in
+    record {
+      taken = [];
+      consumes = consumes;
+      text = between b.written a.written (stream_output_by prefix text r []) (prefix_longer b.written a.written prefix [] grew);
+      told = untold (stream_report r []);
+      ahead = ahead_by (stream_meaning_by prefix text r).whole b.left a.left b.written a.written b.reported a.reported [] consumes
+          (λ rest is. (prefix_longer b.written a.written prefix _ grew, untold (stream_report r rest)));
+      no_counts = λ other. with_rest b.left a.left [] _ consumes (λ rest is. untold (readings_report 1 (stream_readings r rest)));
+      cause = write_failed b a rose reads reports;
+      leaves = leaves prefix text r b a;
+      says = (rose, accepts r b.left);
+    }
+  where
+    untold : (told : List ℕ) → AppendsPrefix b.reported a.reported told
+    untold told = subst (λ (l : Option (List ℕ)). AppendsPrefix b.reported l told) (sym reported) (no_prefix b.reported told)
+
+-- a prefix was written and reported of what the frames of all bytes give
+stops_ahead : (r : ℕ) (prefix : List ℕ) (text : NavItem → List ℕ) (more : Bool) (taken : List ℕ) (w w1 w2 u u2 : Option (List ℕ)) (g : GivenState) (c : StreamCounts)
+    → StreamSoFar r prefix text [] w w1 u u g c → StreamStops r prefix text more taken w1 w2 u u2 g c → (following : List ℕ) → (more ≡ false → following ≡ [])
+    → AppendsPrefix w w2 (stream_output_by prefix text r (taken ++ following)) × AppendsPrefix u u2 (readings_report 1 (stream_readings r (taken ++ following)))
+stops_ahead r prefix text more taken w w1 w2 u u2 g c begun stops following last =
+    let some = stops.frames_are in
+    let rest = stops.stream following last in
+    let read : readings r (frames (taken ++ following)) ≡ readings r some ++ readings r rest.0 = ap (readings r) rest.1 ∙ readings_append r some rest.0 in
+    let broke = stops.breaks [] w u begun in (
+      subst (λ (l : List Reading). AppendsPrefix w w2 (readings_output prefix text l)) (sym read)
+          (prefix_within w w2 (readings_output prefix text (readings r some)) _ (output_longer prefix text (readings r rest.0) (readings r some)) (prefix_of w w2 _ _ broke.output)),
+      subst (λ (l : List Reading). AppendsPrefix u u2 (readings_report 1 l)) (sym read)
+          (prefix_within u u2 (readings_report 1 (readings r some)) _ (report_longer 1 (readings r some) (readings r rest.0)) broke.report),
+    )
 
 -- what the frames say where they break off, by the fault
 says_by : {S T U : Type 0} (r : ℕ) (prefix : List ℕ) (text : NavItem → List ℕ) (b a : World S T U) (w1 : Option (List ℕ)) (writes : ℕ) (g g1 : GivenState) (c c1 : StreamCounts) (fault : BridgeFault)
@@ -128,10 +153,10 @@ says_by : {S T U : Type 0} (r : ℕ) (prefix : List ℕ) (text : NavItem → Lis
     → Says (stream_meaning_by prefix text r) part.taken b a fault
 says_by r prefix text b a w1 writes g g1 c c1 ReadFault grew same none nothing part cause never =
     let far = part.exact refl [] b.written b.reported (begins r prefix text b.written w1 b.reported g c grew none nothing (Appends-nil b.reported)) in
-    (refl, cause, λ quiet. never quiet refl, (far.output, far.report))
+    (refl, cause.0, λ quiet. never quiet refl, (far.output, far.report))
 says_by r prefix text b a w1 writes g g1 c c1 WriteFault grew same none nothing part cause never =
-    (subst (λ (n : ℕ). Rose n a.writes_failed) same cause, accepts r b.left)
-says_by r prefix text b a w1 writes g g1 c c1 ReportFault grew same none nothing part cause never = (refl, cause, accepts r b.left)
+    (subst (λ (n : ℕ). Rose n a.writes_failed) same cause.0, accepts r b.left)
+says_by r prefix text b a w1 writes g g1 c c1 ReportFault grew same none nothing part cause never = (refl, cause.0, accepts r b.left)
 says_by r prefix text b a w1 writes g g1 c c1 NotThisForm grew same none nothing part cause never = absurd (part.form refl)
 says_by r prefix text b a w1 writes g g1 c c1 TooLong grew same none nothing part cause never = part.too_long refl
 says_by r prefix text b a w1 writes g g1 c c1 NoMemory grew same none nothing part cause never = (refl, accepts r b.left)
@@ -154,11 +179,18 @@ broke_stream r prefix text b a w1 writes g g1 c c1 fault grew same none nothing 
     (least_prefix r prefix text part.taken part.stops.done part.flushes) (output_longer prefix text (readings r more.0) (readings r some)) broke.output in
     let told : AppendsPrefix b.reported a.reported (readings_report 1 (readings r some ++ readings r more.0)) =
     prefix_within b.reported a.reported (readings_report 1 (readings r some)) _ (report_longer 1 (readings r some) (readings r more.0)) broke.report in
+    let begun = begins r prefix text b.written w1 b.reported g c grew none nothing (Appends-nil b.reported) in
+    let all = stops_ahead r prefix text part.more part.taken b.written w1 a.written b.reported a.reported g c begun part.stops in
+    let ahead = ahead_by (stream_meaning_by prefix text r).whole b.left a.left b.written a.written b.reported a.reported part.taken part.consumes
+    (λ rest is. let both = all rest (λ last. subst IsAtEnd is (part.end last)) in (both.0, prefix_longer b.reported a.reported (readings_report 1 (stream_readings r (part.taken ++ rest))) _ both.1)) in
     record {
       taken = part.taken;
       consumes = part.consumes;
       text = subst (λ (l : List Reading). AppendsBetween b.written a.written (least_output_by prefix text r part.taken) (readings_output prefix text l)) (sym read) out;
       told = prefix_longer b.reported a.reported (readings_report 1 (readings r (frames part.taken))) _ (subst (λ (l : List Reading). AppendsPrefix b.reported a.reported (readings_report 1 l)) (sym read) told);
+      ahead = ahead;
+      no_counts = λ other. with_rest b.left a.left part.taken _ part.consumes (λ rest is. (all rest (λ last. subst IsAtEnd is (part.end last))).1);
+      cause = subst (λ (n : ℕ). HasItsCause {T = Unit {0}} (faults_of b.reads_failed n b.reports_failed) (faults_in a) (Err fault)) same cause;
       leaves = leaves prefix text r b a;
       says = says_by r prefix text b a w1 writes g g1 c c1 fault grew same none nothing part cause never;
     }
@@ -167,18 +199,23 @@ broke_stream r prefix text b a w1 writes g g1 c c1 fault grew same none nothing 
 pub broke_counts : {S T U : Type 0} (r : ℕ) (prefix : List ℕ) (text : NavItem → List ℕ) (b a : World S T U) (w1 u1 : Option (List ℕ)) (g g1 : GivenState) (c c1 : StreamCounts)
     → Appends b.written w1 prefix → NoneGiven g → c ≡ counts_of_readings []
     → StreamAll r prefix text b.left a.left w1 a.written b.reported u1 g g1 c c1
-    → AppendsPrefix u1 a.reported (stream_counts_text c1) → Rose b.reports_failed a.reports_failed
+    → AppendsPrefix u1 a.reported (stream_counts_text c1) → Rose b.reports_failed a.reports_failed → a.reads_failed ≡ b.reads_failed → a.writes_failed ≡ b.writes_failed
     → Broke (stream_meaning_by prefix text r) b a ReportFault
-broke_counts r prefix text b a w1 u1 g g1 c c1 grew none nothing all counts rose =
+broke_counts r prefix text b a w1 u1 g g1 c c1 grew none nothing all counts rose reads writes =
     let far = all_so_far r prefix text b.left a.left b.written w1 a.written b.reported u1 g g1 c c1 grew none nothing (Appends-nil b.reported) all in
     let least = subst (λ (l : List (List ℕ)). IsPrefix (least_output_by prefix text r all.taken) (readings_output prefix text (readings r l)))
     (sym (all_frames all.taken all.moves.frames_are (all.moves.stream [] (λ last. refl)))) (least_prefix r prefix text all.taken all.moves.frames_are all.flushes) in
+    let told = prefix_behind b.reported u1 a.reported _ _ far.report (subst (λ (x : StreamCounts). AppendsPrefix u1 a.reported (stream_counts_text x)) far.counts_are counts) in
     record {
       taken = all.taken;
       consumes = all.consumes;
       text = between_within b.written a.written (least_output_by prefix text r all.taken) _ _ _ least (prefix_same (stream_output_by prefix text r all.taken))
           (between_whole b.written a.written (stream_output_by prefix text r all.taken) far.output);
-      told = prefix_behind b.reported u1 a.reported _ _ far.report (subst (λ (x : StreamCounts). AppendsPrefix u1 a.reported (stream_counts_text x)) far.counts_are counts);
+      told = told;
+      ahead = ahead_at_end (stream_meaning_by prefix text r).whole b.left a.left b.written a.written b.reported a.reported all.taken all.consumes all.end
+          (whole_prefix b.written a.written (stream_output_by prefix text r all.taken) far.output) told;
+      no_counts = λ other. absurd (other refl);
+      cause = report_failed b a rose reads writes;
       leaves = leaves prefix text r b a;
       says = (refl, rose, accepts r b.left);
     }

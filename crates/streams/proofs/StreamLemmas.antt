@@ -25,7 +25,7 @@ use Rattle.streams.proofs.KnownLemmas.{adds_nothing, is_known, known_more}
 use Rattle.one_run.proofs.Surface.{prefix_behind, whole_prefix}
 
 -- what grew by a text and a prefix of another one
-between_behind : (w w1 w2 : Option (List ℕ)) (some more : List ℕ) → Appends w w1 some → AppendsPrefix w1 w2 more → AppendsBetween w w2 some (some ++ more)
+pub between_behind : (w w1 w2 : Option (List ℕ)) (some more : List ℕ) → Appends w w1 some → AppendsPrefix w1 w2 more → AppendsBetween w w2 some (some ++ more)
 between_behind w w1 w2 some more whole (prefix, (rest, is), grew) = record {
   prefix = some ++ prefix;
   within = (rest, ap (λ (l : List ℕ). some ++ l) is ∙ sym (append_assoc some prefix rest));
@@ -76,12 +76,12 @@ first_places_more is item = places_more [] is item
 
 -- ---- readings
 
-items_more : (rs : List Reading) (item : NavItem) → items_of_readings (rs ++ Ok item ∷ []) ≡ items_of_readings rs ++ item ∷ []
+pub items_more : (rs : List Reading) (item : NavItem) → items_of_readings (rs ++ Ok item ∷ []) ≡ items_of_readings rs ++ item ∷ []
 items_more [] item = refl
 items_more (Ok i ∷ rs) item = ap (λ (l : List NavItem). i ∷ l) (items_more rs item)
 items_more (Err fault ∷ rs) item = items_more rs item
 
-items_same : (rs : List Reading) (fault : MessageFault) → items_of_readings (rs ++ Err fault ∷ []) ≡ items_of_readings rs
+pub items_same : (rs : List Reading) (fault : MessageFault) → items_of_readings (rs ++ Err fault ∷ []) ≡ items_of_readings rs
 items_same [] fault = refl
 items_same (Ok i ∷ rs) fault = ap (λ (l : List NavItem). i ∷ l) (items_same rs fault)
 items_same (Err other ∷ rs) fault = items_same rs fault
@@ -100,7 +100,7 @@ count-append : (kind : Reading → ℕ) (xs ys : List Reading) → sum (map kind
 count-append kind xs ys =
     sum-map kind (xs ++ ys) ∙ sum_by-append kind xs ys ∙ sym (ap (λ m. m + sum (map kind ys)) (sum-map kind xs) ∙ ap (λ m. sum_by kind xs + m) (sum-map kind ys))
 
-any_more : (is : List NavItem) (item other : NavItem) → any_alike (is ++ item ∷ []) other ≡ (sent_alike item other || any_alike is other)
+pub any_more : (is : List NavItem) (item other : NavItem) → any_alike (is ++ item ∷ []) other ≡ (sent_alike item other || any_alike is other)
 any_more [] item other = refl
 any_more (i ∷ is) item other =
     ap (λ (b : Bool). sent_alike i other || b) (any_more is item other) ∙ turn (sent_alike i other) (sent_alike item other) (any_alike is other) where
@@ -112,7 +112,7 @@ any_more (i ∷ is) item other =
 
 -- ---- one frame more
 
-counts_are : (c : StreamCounts) (frames refused unused items : ℕ) (times : Option Times) → c.frames ≡ frames → c.refused ≡ refused → c.unused ≡ unused
+pub counts_are : (c : StreamCounts) (frames refused unused items : ℕ) (times : Option Times) → c.frames ≡ frames → c.refused ≡ refused → c.unused ≡ unused
     → c.items ≡ items → c.times ≡ times → c ≡ record { frames = frames; refused = refused; unused = unused; items = items; times = times }
 counts_are c frames refused unused items times a b d e f = rw (sym a, sym b, sym d, sym e, sym f) refl
 
@@ -181,7 +181,7 @@ pub output_fault : (prefix : List ℕ) (text : NavItem → List ℕ) (rs : List 
     → readings_output prefix text (rs ++ Err fault ∷ []) ≡ readings_output prefix text rs
 output_fault prefix text rs fault = ap (λ (l : List NavItem). prefix ++ flat_map text (first_places l)) (items_same rs fault)
 
-readings_more : (r : ℕ) (past : List (List ℕ)) (frame : List ℕ) (x : Reading) → item_in r (payload_of frame) ≡ x
+pub readings_more : (r : ℕ) (past : List (List ℕ)) (frame : List ℕ) (x : Reading) → item_in r (payload_of frame) ≡ x
     → readings r (past ++ frame ∷ []) ≡ readings r past ++ x ∷ []
 readings_more r [] frame x is = ap (λ (y : Reading). y ∷ []) is
 readings_more r (p ∷ past) frame x is = ap (λ (l : List Reading). item_in r (payload_of p) ∷ l) (readings_more r past frame x is)

@@ -24,6 +24,7 @@ frames_meaning = record {
   limit = 2 ^ 32;
   counts = λ bytes. Some (record { frames = length (frames bytes) });
   whole = record { output = output_of line_of; report = λ bytes. [] };
+  rejections = λ bytes. [];
   least = least_of line_of;
   flushed = Some (record { output = flushed_of line_of; report = λ bytes. [] });
 }

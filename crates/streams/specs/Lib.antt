@@ -4,3 +4,4 @@ pub mod Mirrors
 pub mod Pushed
 pub mod FrameLines
 pub mod FrameRuns
+pub mod Taken

@@ -217,12 +217,14 @@ pub record StreamAll (r : ℕ) (prefix : List ℕ) (text : NavItem → List ℕ)
   pub moves : StreamMoves r prefix text false taken [] written written_new reported reported_new given given_new counts counts_new
   pub flushes : BeginsFlushed moves.frames_are taken
 
--- These bytes were read, and a prefix of what their frames give was written and reported; after a failed read exactly what the
--- decided frames give.
+-- These bytes were read, and a prefix of what their frames give was written and reported, whatever bytes follow unless they were
+-- read to their end; after a failed read exactly what the decided frames give.
 pub record StreamPart (r : ℕ) (prefix : List ℕ) (text : NavItem → List ℕ) (left left_new written written_new reported reported_new : Option (List ℕ)) (given given_new : GivenState) (counts counts_new : StreamCounts) (fault : BridgeFault) : Type 0 where
   pub taken : List ℕ
   pub consumes : Consumes left left_new taken
-  pub stops : StreamStops r prefix text false taken written written_new reported reported_new given counts
+  pub more : Bool
+  pub end : more ≡ false → IsAtEnd left_new
+  pub stops : StreamStops r prefix text more taken written written_new reported reported_new given counts
   pub flushes : BeginsFlushed stops.done taken
   pub too_long : fault ≡ TooLong → length taken ≡ 2 ^ 32
   pub form : fault ≡ NotThisForm → ⊥

@@ -144,6 +144,7 @@ stream_meaning_by prefix text r = record {
   limit = 2 ^ 32;
   counts = λ bytes. Some (stream_counts r bytes);
   whole = record { output = stream_output_by prefix text r; report = stream_report r };
+  rejections = λ bytes. readings_report 1 (stream_readings r bytes);
   least = least_output_by prefix text r;
   flushed = Some (record { output = flushed_output_by prefix text r; report = λ bytes. readings_report 1 (flushed_readings r bytes) });
 }

@@ -22,8 +22,8 @@ pub struct StreamCounts {
 }
 
 impl StreamCounts {
-    // Nothing was counted.
-    pub(crate) fn new() -> StreamCounts
+    /// Nothing was counted.
+    pub fn new() -> StreamCounts
         ensures { result ≡ counts_of_readings [] }
     {
         StreamCounts {
@@ -39,7 +39,7 @@ impl StreamCounts {
 /// The text of the counts of a stream: a line for each, its name, a space and the number, in the
 /// order of the fields; the times are not written.
 #[tactic(auto, unfolding(crate::specs::Streams::stream_counts_text))]
-pub(crate) fn stream_counts_text(counts: &StreamCounts) -> Text
+pub fn stream_counts_text(counts: &StreamCounts) -> Text
     ensures { result.items ≡ stream_counts_text counts.now }
 {
     let mut text = Text::new();

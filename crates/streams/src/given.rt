@@ -14,11 +14,11 @@ use nav_eph::NavItem;
 use std::alloc::{AllocError, Global};
 use std::marker::Model;
 
-// The RTCM messages of the ephemerides that were given, each once: two ephemerides of a stream are
-// equal where the same message encodes them. A cache of payloads as they came saves the decoding of
-// most repeats.
+/// The RTCM messages of the ephemerides that were given, each once: two ephemerides of a stream are
+/// equal where the same message encodes them. A cache of payloads as they came saves the decoding of
+/// most repeats.
 #[derive(Drop)]
-pub(crate) struct ItemsGiven {
+pub struct ItemsGiven {
     gps: Messages<61>,
     gal: Messages<63>,
     gps_seen: RecentMessages<61>,
@@ -39,8 +39,8 @@ impl Model for ItemsGiven {
 }
 
 impl ItemsGiven {
-    // Nothing was given.
-    pub(crate) fn new(alloc: Global) -> ItemsGiven
+    /// Nothing was given.
+    pub fn new(alloc: Global) -> ItemsGiven
         ensures none { (other : NavItem) → is_given result other ≡ false }
         ensures kept { NothingKept result }
     {
@@ -52,8 +52,8 @@ impl ItemsGiven {
         }
     }
 
-    // Whether this payload is in the cache; its item was given then.
-    pub(crate) fn knows(&self, payload: &[u8]) -> bool
+    /// Whether this payload is in the cache; its item was given then.
+    pub fn knows(&self, payload: &[u8]) -> bool
         ensures { IsTrue result → StandsIn self.now payload.now }
     {
         if payload.len() == 61 {
@@ -90,8 +90,12 @@ impl ItemsGiven {
         }
     }
 
-    // Adds the item that was read from a payload, and caches the payload; whether the item is new.
-    pub(crate) fn add(&mut self, item: &NavItem, payload: &[u8]) -> Result<bool, AllocError>
+    /// Adds the item that was read from a payload, and caches the payload; whether the item is new.
+    ///
+    /// # Errors
+    ///
+    /// `AllocError` if out of memory.
+    pub fn add(&mut self, item: &NavItem, payload: &[u8]) -> Result<bool, AllocError>
         requires read { IsReadOf payload.now item.now }
         ensures added { IfOk result (λ added. added ≡ not (is_given self.old item.now)) }
         ensures adds { OnOk result ((other : NavItem)

@@ -31,13 +31,16 @@ mod seen;
 mod sent;
 mod stream;
 mod streams;
+mod taker;
 mod target;
 
-pub use crate::counts::StreamCounts;
+pub use crate::counts::{StreamCounts, stream_counts_text};
 pub use crate::frame_run::{FrameCounts, run_frames};
+pub use crate::given::ItemsGiven;
 pub use crate::laws::{
     what_is_written_of_a_stream_is_the_text_of_its_list, what_is_written_of_a_stream_stays,
 };
 pub use crate::push::StreamRun;
 pub use crate::streams::run_stream;
+pub use crate::taker::{FrameTaker, run_taker};
 pub use crate::target::StreamTo;

@@ -6,7 +6,7 @@ use Rattle.bridge_engine.specs.declared.done.Done.{Done}
 use Rattle.bridge_engine.proofs.statuses.bridge.Goals as goal
 
 pub returns-in-Err-clause-also : goal.returns-in-Err-clause-also
-returns-in-Err-clause-also g c = λ capture is broke. nothing_ahead _ _ _ _ _
+returns-in-Err-clause-also g c = λ job is broke. nothing_ahead job _ _ _
 
 pub returns-in-Ok-Some : goal.returns-in-Ok-Some
 returns-in-Ok-Some g c =

@@ -1,8 +1,8 @@
-use Rattle.std.proofs.Common.{ℕ, [], refl, ap, ◌∙◌, Err, arith}
+use Rattle.std.proofs.Common.{◌≡◌, ℕ, [], refl, ap, ◌∙◌, Err, arith}
 use Rattle.one_run.specs.Causes.{Faults}
-use Rattle.one_run.specs.declared.fault.BridgeFault.TheVariants.{WriteFault}
+use Rattle.one_run.specs.declared.fault.BridgeFault.TheVariants.{ReadFault, WriteFault}
 use Rattle.captures.specs.Flushed.{with_counts}
-use Rattle.captures.proofs.CaptureEnds.{IsFresh, ahead_of, all_done, all_taken, end_cause, end_form, end_quiet, end_read, end_stopped, one_line, convert_cause, convert_stops, converted_form, head_cause, head_part, head_stops, stopped_by, write_form, write_read}
+use Rattle.captures.proofs.CaptureEnds.{IsFresh, ahead_of, all_done, all_taken, begin_cause, end_cause, end_form, end_quiet, end_read, end_stopped, one_line, convert_cause, convert_stops, converted_form, head_cause, head_part, head_stops, stopped_by, write_form, write_read}
 use Rattle.captures.proofs.Converting.{stands_start}
 use Rattle.captures.proofs.Prefixes.{LogLaws}
 use Rattle.captures.proofs.capture.run_capture.Goals as goal
@@ -12,7 +12,8 @@ returns-in-Err-clause-ended g c =
     let fresh : IsFresh c.new-lines.result = record { rest = c.new-lines.ensures.rest; ended = c.new-lines.ensures.ended; taken = c.new-lines.ensures.taken; number = c.new-lines.ensures.number } in
     stopped_by c.args.to.now c.target-target.result c.args.week _ _ c.in-Err.fault c.target-target.ensures
     (head_stops c.target-target.result c.args.week _ _ _ _ c.new-lines.result c.first_line.new.lines c.in-Err.fault fresh c.in-Err.ensures.broken)
-    (head_cause c.args.week _ _ c.new-lines.result c.first_line.new.lines _ _ _ _ c.in-Err.fault c.in-Err.ensures.broken (λ e. c.in-Err.ensures.read (ap Err e)))
+    (head_cause c.args.week _ _ c.new-lines.result c.first_line.new.lines _ _ _ _ c.in-Err.fault c.in-Err.ensures.broken (λ e. c.in-Err.ensures.read (ap Err e))
+    (λ other. c.in-Err.ensures.still (λ e. other (let same : c.in-Err.fault ≡ ReadFault = cc in same))))
     (λ e quiet. (c.in-Err.ensures.never quiet).0 (ap Err e)) (λ e. (refl, refl))
 
 pub returns-in-Err-clause-ahead : goal.returns-in-Err-clause-ahead
@@ -26,7 +27,7 @@ returns-in-Err-begin-clause-ended g c =
     let fresh : IsFresh c.new-lines.result = record { rest = c.new-lines.ensures.rest; ended = c.new-lines.ensures.ended; taken = c.new-lines.ensures.taken; number = c.new-lines.ensures.number } in
     stopped_by c.args.to.now c.target-target.result c.args.week _ _ WriteFault c.target-target.ensures
     (head_part c.target-target.result c.args.week _ _ _ _ _ c.new-lines.result c.first_line.new.lines c.in-Ok.head fresh c.in-Ok.ensures.accepted c.in-Err-begin.ensures.bytes)
-    c.in-Err-begin.ensures.cause.failed (λ e quiet. write_read e) (λ e. absurd (write_form e))
+    (begin_cause _ _ _ _ _ c.in-Err-begin.ensures.cause.failed c.in-Ok.ensures.quiet) (λ e quiet. write_read e) (λ e. absurd (write_form e))
 
 pub returns-in-Err-begin-clause-ahead : goal.returns-in-Err-begin-clause-ahead
 returns-in-Err-begin-clause-ahead g c =
@@ -88,9 +89,10 @@ returns-clause-ended g c =
     converted (c.counts_with-counts.ensures ∙ ap (λ (n : ℕ). with_counts n c.convert.new.hearing.ear.tally c.convert.new.hearing.said) c.number.ensures) in
     let kind = c.in-Err-end_run.ensures.kind in
     stopped_by c.args.to.now c.target-target.result c.args.week _ _ c.in-Err-end_run.fault c.target-target.ensures
-    (end_stopped laws c.target-target.result c.args.week _ _ _ _ _ _ _ _ c.in-Ok.head c.counts_with-counts.result c.in-Err-end_run.fault taken c.in-Err-end_run.ensures.part c.in-Err-end_run.ensures.report_part kind)
+    (end_stopped laws c.target-target.result c.args.week _ _ _ _ _ _ _ _ c.in-Ok.head c.counts_with-counts.result c.in-Err-end_run.fault taken c.in-Err-end_run.ensures.part c.in-Err-end_run.ensures.report_part
+    (λ e. c.in-Err-end_run.ensures.untold (ap Err e)) kind)
     (end_cause _ _ _ _ _ _ _ _ c.in-Err-end_run.fault kind c.in-Err-end_run.ensures.cause (ap (λ (f : Faults). f.output) c.in-Ok-convert.ensures.cause ∙ c.in-Ok-begin.ensures.cause.stays)
-    (ap (λ (f : Faults). f.report) c.in-Ok-convert.ensures.cause))
+    (ap (λ (f : Faults). f.report) c.in-Ok-convert.ensures.cause) (ap (λ (f : Faults). f.input) c.in-Ok-convert.ensures.cause ∙ c.in-Ok.ensures.quiet))
     (λ e quiet. end_read c.in-Err-end_run.fault kind e) (λ e. absurd (end_form c.in-Err-end_run.fault kind e))
 
 pub returns-clause-ahead : goal.returns-clause-ahead
@@ -103,4 +105,4 @@ returns-clause-ahead g c =
     converted (c.counts_with-counts.ensures ∙ ap (λ (n : ℕ). with_counts n c.convert.new.hearing.ear.tally c.convert.new.hearing.said) c.number.ensures) in
     ahead_of c.args.to.now c.target-target.result c.args.week _ _ _ _ _ _ c.in-Err-end_run.fault c.target-target.ensures
     (end_stopped laws c.target-target.result c.args.week _ _ _ _ _ _ _ _ c.in-Ok.head c.counts_with-counts.result c.in-Err-end_run.fault taken c.in-Err-end_run.ensures.part c.in-Err-end_run.ensures.report_part
-    c.in-Err-end_run.ensures.kind)
+    (λ e. c.in-Err-end_run.ensures.untold (ap Err e)) c.in-Err-end_run.ensures.kind)

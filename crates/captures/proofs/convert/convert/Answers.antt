@@ -96,7 +96,7 @@ returns-in-Err-step-clause-cause g c =
     let b = c.lines.invariant.between c.requires.past.head c.requires.past.past c.requires.past.start c.requires.past.told c.requires.past.number_is c.requires.past.stands in
     let number = between_number _ _ _ _ _ _ _ _ _ _ _ _ _ _ _ c.number.result b gives c.number.ensures in
     step_cause _ _ _ _ _ _ _ _ c.in-Err-step.fault (c.in-Err-step.ensures c.requires.past.head (c.requires.past.past ++ b.given) gives.line _ _ number gives.item_is b.stands).cause
-    c.lines.invariant.output c.lines.invariant.report
+    c.lines.invariant.output c.lines.invariant.report (c.in-Ok-true.ensures.quiet ∙ c.lines.invariant.input)
 
 pub returns-in-Ok-false-clause-still : goal.returns-in-Ok-false-clause-still
 returns-in-Ok-false-clause-still g c failed =

@@ -1,7 +1,9 @@
-use Rattle.std.proofs.Common.{None, subst}
+use Rattle.std.proofs.Common.{◌≡◌, None, Err, ap, subst}
 use Rattle.std.specs.Prelude.{Option}
 use Rattle.captures.specs.declared.hearing.Hearing.{Hearing}
 use Rattle.captures.specs.Pushed.{IsBehind}
+use Rattle.one_run.specs.declared.fault.BridgeFault.TheVariants.{ReadFault}
+use Rattle.captures.proofs.CaptureEnds.{head_cause}
 use Rattle.captures.proofs.Prefixes.{LogLaws}
 use Rattle.captures.proofs.Pushing.{began_ends, began_new, began_some, begin_follows, behind_ready, convert_no_form, head_follows, holds_began}
 use Rattle.captures.proofs.push.follow.Goals as goal
@@ -31,6 +33,11 @@ returns-in-Some-clause-form g c failed =
 pub returns-in-Err-clause-follows : goal.returns-in-Err-clause-follows
 returns-in-Err-clause-follows g c bytes start begun waits b =
     head_follows _ _ _ _ _ _ _ bytes start _ begun _ c.in-Err.fault c.in_default.is waits b c.in-Err.ensures.broken
+
+pub returns-in-Err-clause-cause : goal.returns-in-Err-clause-cause
+returns-in-Err-clause-cause g c =
+    head_cause c.args.week _ _ _ _ _ _ _ _ c.in-Err.fault c.in-Err.ensures.broken (λ e. c.in-Err.ensures.read (ap Err e))
+    (λ other. c.in-Err.ensures.still (λ e. other (let same : c.in-Err.fault ≡ ReadFault = cc in same)))
 
 pub returns-in-Err-begin-clause-follows : goal.returns-in-Err-begin-clause-follows
 returns-in-Err-begin-clause-follows g c bytes start begun waits b =

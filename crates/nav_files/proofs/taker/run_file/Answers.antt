@@ -8,7 +8,7 @@ use Rattle.nav_io.specs.Prefix.{AppendsPrefix, IsPrefix}
 use Rattle.rinex_read.specs.declared.judged.ItemRead.{ItemRead}
 use Rattle.one_run.proofs.Surface.{prefix_behind, prefix_same, whole_prefix}
 use Rattle.nav_files.proofs.ConvertLemmas.{between_all}
-use Rattle.nav_files.proofs.FileEnds.{broke_begin, broke_end, broke_header, broke_taken, done_file, fails_of, fails_report, fails_write, header_rose}
+use Rattle.nav_files.proofs.FileEnds.{broke_begin, broke_end, broke_header, broke_taken, done_file, fails_of, fails_report, fails_write}
 use Rattle.nav_files.proofs.taker.run_file.Goals as goal
 
 pub returns-in_err-pass_header : goal.returns-in_err-pass_header
@@ -16,12 +16,13 @@ returns-in_err-pass_header g c =
     let p = err_from_is_err_and c.from_residual.result c.from_residual.ensures.1 in
     let header = c.in_err-pass_header.ensures in
     rw (p.1, p.2) (broke_header g.F.FileForm.form g.K.Taker.memory _ _ _ _ _ _ _ _ _ _ c.readers_begin_with_the_file.ensures c.whole_records_are_given.ensures.header c.early_records_are_given.ensures.header c.new-records.ensures header.broken
-    (header_rose _ _ _ header.cause) (λ quiet is. (header.never quiet).0 (ap Err is)) refl refl refl refl)
+    header.cause refl refl (λ quiet is. (header.never quiet).0 (ap Err is)) refl refl refl refl)
 
 pub returns-in-Err : goal.returns-in-Err
 returns-in-Err g c =
     broke_begin g.F.FileForm.form g.K.Taker.memory _ _ _ _ _ _ _ _ _ (g.K.Taker.text c.args.taker.now []) c.readers_begin_with_the_file.ensures c.early_records_are_given.ensures.records c.steps_compose.ensures.early_near c.new-records.ensures
-    c.in_ok-pass_header.ensures.header (c.steps_compose.ensures.near_none _ _) c.in-Err.ensures.bytes (c.begins.ensures.text [] _) refl (fails_write _ _ c.in-Err.ensures.cause.failed)
+    c.in_ok-pass_header.ensures.header (c.steps_compose.ensures.near_none _ _) c.in-Err.ensures.bytes (c.begins.ensures.text []) refl
+    (fails_write _ _ c.in-Err.ensures.cause.failed (ap (λ f. f.input) c.in_ok-pass_header.ensures.cause) refl)
 
 pub returns-in_err-process_records : goal.returns-in_err-process_records
 returns-in_err-process_records g c =
@@ -31,8 +32,8 @@ returns-in_err-process_records g c =
     let part = records.broken in
     rw (p.1, p.2) (broke_taken g.F.FileForm.form g.K.Taker.memory _ _ _ _ _ _ _ _ _ _ _ part.given (g.K.Taker.text c.args.taker.now part.given) (g.K.Taker.told c.args.taker.now part.given) _
     c.readers_begin_with_the_file.ensures c.whole_records_are_given.ensures.records c.early_records_are_given.ensures.records c.begins.ensures.grows c.new-records.ensures header.header part.steps part.early
-    (part.output _ c.in-Ok.ensures.bytes) (c.begins.ensures.text part.given _)
-    (part.report _ (subst (Appends (g.U.Sink.written c.args.report.now) (g.U.Sink.written c.args.report.now)) (sym c.begins.ensures.silent) (Appends-nil _))) (c.begins.ensures.told part.given _)
+    (part.output _ c.in-Ok.ensures.bytes) (c.begins.ensures.text part.given)
+    (part.report _ (subst (Appends (g.U.Sink.written c.args.report.now) (g.U.Sink.written c.args.report.now)) (sym c.begins.ensures.silent) (Appends-nil _))) (c.begins.ensures.told part.given) (c.begins.ensures.more part.given)
     (fails_of _ _ _ _ _ _ (ap (λ f. f.input) header.cause) c.in-Ok.ensures.cause.stays refl records.cause (λ quiet. records.never (header.never quiet).1) part.form) part.too_long part.wants
     (λ is. let all = part.exact is in (all.0, all.1 _ c.in-Ok.ensures.bytes, all.2 _ (subst (Appends (g.U.Sink.written c.args.report.now) (g.U.Sink.written c.args.report.now)) (sym c.begins.ensures.silent) (Appends-nil _)))))
 
@@ -47,7 +48,9 @@ returns-in-Err-finish g c =
     header.header (record { steps = all.steps; near = all.near }) all.end
     (c.in-Err-finish.ensures.output all.given _ all.held (all.output _ c.in-Ok.ensures.bytes)) (prefix_same _)
     (whole_prefix _ _ _ told) (subst (λ (l : List ItemRead). IsPrefix (g.K.Taker.told c.args.taker.now all.given) (g.K.Taker.reported c.args.taker.now l)) (append-nil all.given) (c.begins.ensures.told all.given []))
-    (fails_write _ _ (subst (λ n. Rose n (g.T.Sink.faults c.finish.new.output)) (ap (λ f. f.output) records.cause ∙ c.in-Ok.ensures.cause.stays) c.in-Err-finish.ensures.cause.failed)) (λ long. cc) (λ wants. absurd (cc)) (λ over. cc)
+    (λ other. prefix_same _)
+    (fails_write _ _ (subst (λ n. Rose n (g.T.Sink.faults c.finish.new.output)) (ap (λ f. f.output) records.cause ∙ c.in-Ok.ensures.cause.stays) c.in-Err-finish.ensures.cause.failed)
+    (ap (λ f. f.input) records.cause ∙ ap (λ f. f.input) header.cause) (ap (λ f. f.report) records.cause)) (λ long. cc) (λ wants. absurd (cc)) (λ over. cc)
 
 pub returns-in-Ok-write : goal.returns-in-Ok-write
 returns-in-Ok-write g c =
@@ -79,4 +82,6 @@ returns-in-Err-write g c =
     (subst (λ (l : List ItemRead). IsPrefix (g.K.Taker.text c.args.taker.now all.given) (g.K.Taker.whole c.args.taker.now l)) (append-nil all.given) (c.begins.ensures.text all.given []))
     (c.in-Ok-finish.ensures.output all.given _ all.held (all.output _ c.in-Ok.ensures.bytes))) (prefix_same _)
     (subst (AppendsPrefix (g.U.Sink.written c.args.report.now) (g.U.Sink.written c.write.new.self)) (sym (c.counts_text.ensures all.given counted)) (prefix_behind _ _ _ _ _ told text)) (prefix_same _)
-    (fails_report _ _ (subst (λ n. Rose n (g.U.Sink.faults c.write.new.self)) (ap (λ f. f.report) records.cause) c.in-Err-write.ensures.cause.failed)) (λ long. cc) (λ wants. absurd (cc)) (λ over. cc)
+    (λ other. absurd (other refl))
+    (fails_report _ _ (subst (λ n. Rose n (g.U.Sink.faults c.write.new.self)) (ap (λ f. f.report) records.cause) c.in-Err-write.ensures.cause.failed)
+    (ap (λ f. f.input) records.cause ∙ ap (λ f. f.input) header.cause) (c.in-Ok-finish.ensures.cause.stays ∙ (ap (λ f. f.output) records.cause ∙ c.in-Ok.ensures.cause.stays))) (λ long. cc) (λ wants. absurd (cc)) (λ over. cc)

@@ -12,5 +12,5 @@ write_row-requires-clause-ready g c =
 pub returns : goal.returns
 returns g c =
     let rows = rows_are c.args.kind.now c.requires.kind in
-    rw (← c.as_slice.ensures.value)
-    (c.write_row.ensures (record_kind c.args.kind.now) refl refl rows.columns rows.rows)
+    rw (← c.as_slice.ensures.value, ← c.head_of.ensures.letter, ← c.head_of.ensures.number)
+    (c.write_row.ensures (record_kind c.args.kind.now) c.head_of.ensures.class c.head_of.ensures.message rows.columns rows.rows)

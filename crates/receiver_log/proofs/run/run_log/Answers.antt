@@ -22,7 +22,7 @@ returns-in_err-next_lines g c =
     rw (p.1, p.2) (stopped g.J.Judge.heading g.J.Receiver.said _ _ _ _ _ _ _ _ _
     so_far.far so_far.none next.stopped
     (stops_from g.J.Judge.heading g.J.Receiver.said _ _ _ _ _ _ _ _ _ _ _
-    so_far.read so_far.told so_far.never next.why))
+    so_far.read so_far.told so_far.never next.why) so_far.write)
 
 pub loop-log-preserved : goal.loop-log-preserved
 loop-log-preserved g c =
@@ -44,7 +44,8 @@ returns-in-Err g c =
     let next = c.in_ok-next_lines.ensures in
     unwritten g.J.Judge.heading g.J.Receiver.said _ _ _ _ _ _ _ _ _ _ so_far.far so_far.none
     next.reads c.waiting.ensures c.in-Err.ensures.bytes
-    (rw so_far.write at c.in-Err.ensures.cause.failed)
+    (rw so_far.write at c.in-Err.ensures.cause.failed) (next.faults.0 ∙ so_far.read)
+    (next.faults.1 ∙ so_far.told)
 
 pub returns-in-Ok-write : goal.returns-in-Ok-write
 returns-in-Ok-write g c =
@@ -69,3 +70,4 @@ returns g c =
     (c.as_slice.ensures.value ∙ c.counts_text.ensures) end.1 end.2 c.counts-counts.ensures.log
     c.counts-counts.ensures.capture c.in-Err-write.ensures.bytes
     (rw (next.faults.1 ∙ so_far.told) at c.in-Err-write.ensures.cause.failed)
+    (next.faults.0 ∙ so_far.read) so_far.write

@@ -1,15 +1,7 @@
-use Rattle.std.proofs.Common.{◌≡◌, ◌<◌, ◌++◌, ◌∷◌, [], subst, ap, ◌∙◌, length, map}
-use Rattle.gnss_week.specs.Functions.{civil_to}
-use Rattle.rinex_write.specs.RowTexts.{row_satellite, row_title}
-use Rattle.rinex_write.specs.Texts.{date_text}
-use Rattle.rinex_write.proofs.RowsLeft.{record_joined}
+use Rattle.rinex_write.specs.RowTexts.{row_title}
+use Rattle.rinex_write.proofs.RowsLeft.{title_joined}
 use Rattle.rinex_write.proofs.row.append_row_record.Goals as goal
 
 pub returns : goal.returns
 returns c k class message g h =
-    let date : c.date_columns.result ≡ date_text (civil_to c.args.moment) = c.date_columns.ensures ∙ ap date_text c.civil.ensures.value in
-    let some : 0 < length (map length k.rows) = subst (λ a. 0 < length a) h c.requires.table.some in
-    record_joined (row_title k c.args.head.now.letter c.args.head.now.number) (row_satellite c.args.head.now.letter c.args.head.now.number ++ 32 ∷ []) _ _ _ _ _ k.rows c.args.fields.now some
-    (c.append_row_title.ensures.items k class message)
-    (c.append.ensures.items ∙ ap (λ a. c.append_row_title.new.text.items ++ a) c.row_start.ensures)
-    (c.append-2.ensures.items ∙ ap (λ a. c.append.new.text.items ++ a) date) (c.append_table.ensures k.rows g h)
+    title_joined (row_title k c.args.head.now.letter c.args.head.now.number) _ _ _ (c.append_row_title.ensures.items k class message) (c.append_row_body.ensures k.rows g h)

@@ -20,7 +20,7 @@ returns-in-Ok-eq0-clause-part g c =
     if_err2 c.process_frames.result c.process_frames.ensures.breaks c.process_frames.ensures.kinds
     (λ fault breaks kind.
     part_of_last c.args.r _ _ _ _ _ _ _ _ _ _ _ _ _ _ _ _ _ _ _ _ _ _ fault c.loop-taken.invariant.so_far c.in-Ok-eq0.field-0-test c.in-Ok-eq0.ensures.bytes.0
-    c.finish.ensures.rest c.finish.ensures.finished breaks kind)
+    (c.in-Ok-eq0.ensures.bytes.1 c.in-Ok-eq0.field-0-test) c.finish.ensures.rest c.finish.ensures.finished breaks kind)
 
 pub loop-taken-init : goal.loop-taken-init
 loop-taken-init g c = record {

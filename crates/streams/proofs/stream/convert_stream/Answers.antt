@@ -9,7 +9,7 @@ use Rattle.streams.proofs.stream.convert_stream.Goals as goal
 pub returns-in-Err : goal.returns-in-Err
 returns-in-Err g c = record {
   ended =
-      broke_begin c.args.r _ _ _ _ c.in-Err.ensures.bytes c.in-Err.ensures.cause.failed refl refl;
+      broke_begin c.args.r _ _ _ _ c.in-Err.ensures.bytes c.in-Err.ensures.cause.failed refl refl refl refl;
 }
 
 pub returns-in_err-process_pieces : goal.returns-in_err-process_pieces
@@ -33,7 +33,9 @@ returns-in-Ok-write g c = record {
 pub returns : goal.returns
 returns g c = record {
   ended =
+      let cause = c.in_ok-process_pieces.ensures.cause in
       let text = subst (λ (l : List ℕ). AppendsPrefix (g.U.Sink.written c.process_pieces.new.report) (g.U.Sink.written c.write.new.self) l) (c.as_slice.ensures.value ∙ c.stream_counts_text.ensures) c.in-Err-write.ensures.bytes in
       broke_counts c.args.r _ _ _ _ _ _ _ _ _ _ c.in-Ok.ensures.bytes (c.new-given.ensures.none, c.new-given.ensures.kept) c.new-counts.ensures c.in_ok-process_pieces.ensures.all text
-      (subst (λ (n : ℕ). Rose n (g.U.Sink.faults c.write.new.self)) (ap (λ f. f.report) c.in_ok-process_pieces.ensures.cause) c.in-Err-write.ensures.cause.failed);
+      (subst (λ (n : ℕ). Rose n (g.U.Sink.faults c.write.new.self)) (ap (λ f. f.report) cause) c.in-Err-write.ensures.cause.failed)
+      (ap (λ f. f.input) cause) (ap (λ f. f.output) cause ∙ c.in-Ok.ensures.cause.stays);
 }

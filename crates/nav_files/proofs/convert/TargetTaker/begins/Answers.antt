@@ -12,5 +12,8 @@ returns-clause-text c = λ some more. prefix_after (prefix_text c.args.self.now)
 pub returns-clause-told : goal.returns-clause-told
 returns-clause-told c = λ some more. prefix_trans _ _ _ (texts_prefix read_report some more) (prefix_more (flat_map read_report (some ++ more)) _)
 
+pub returns-clause-more : goal.returns-clause-more
+returns-clause-more c = λ some more. texts_prefix read_report some more
+
 pub returns-clause-grows : goal.returns-clause-grows
 returns-clause-grows c = λ some more. prefix_after (prefix_text c.args.self.now) _ _ (texts_prefix (read_text (item_text c.args.self.now)) some more)

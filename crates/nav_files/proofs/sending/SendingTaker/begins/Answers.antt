@@ -13,5 +13,8 @@ pub returns-clause-told : goal.returns-clause-told
 returns-clause-told c = λ some more.
     prefix_trans _ _ _ (text_prefix c.args.self.now.r told_report some more) (prefix_more (flat_map told_report (tolds c.args.self.now.r 0 (some ++ more))) _)
 
+pub returns-clause-more : goal.returns-clause-more
+returns-clause-more c = λ some more. text_prefix c.args.self.now.r told_report some more
+
 pub returns-clause-grows : goal.returns-clause-grows
 returns-clause-grows c = λ some more. prefix_after sent_head _ _ (text_prefix c.args.self.now.r told_text some more)

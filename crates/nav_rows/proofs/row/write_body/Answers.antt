@@ -1,0 +1,16 @@
+use Rattle.std.proofs.Common.{sym, subst}
+use Rattle.rinex_write.specs.Mirrors.{AreReady}
+use Rattle.nav_rows.specs.Rows.{record_kind}
+use Rattle.nav_rows.proofs.RowLemmas.{ready, rows_are}
+use Rattle.nav_rows.proofs.row.write_body.Goals as goal
+
+pub write_row_body-requires-clause-ready : goal.write_row_body-requires-clause-ready
+write_row_body-requires-clause-ready g c =
+    subst (AreReady c.args.kind.now.layout.columns.now) (sym c.as_slice.ensures.value)
+    (ready c.args.kind.now c.args.row.now.columns.items c.requires.kind c.requires.fields)
+
+pub returns : goal.returns
+returns g c =
+    let rows = rows_are c.args.kind.now c.requires.kind in
+    rw (← c.as_slice.ensures.value, ← c.head_of.ensures.letter, ← c.head_of.ensures.number)
+    (c.write_row_body.ensures (record_kind c.args.kind.now).rows rows.columns rows.rows)

@@ -1,0 +1,4 @@
+mod Lemmas
+mod Ranks
+mod Taking
+mod Parts

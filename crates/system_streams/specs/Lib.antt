@@ -1,0 +1,4 @@
+pub mod Kinds
+pub mod Readings
+pub mod Streams
+pub mod Mirrors
