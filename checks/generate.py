@@ -14,9 +14,10 @@ A generated part is between <!-- generated: NAME --> and <!-- end -->; a word af
     definitions  each file of definitions, and its first comment line
     contracts    public functions of the crates in the heading: the first sentence of their comment, if it has four words, and their
                  clauses
-    conversions  formats that navbridge reads and writes, from the table in its man page
+    conversions  formats that are read and written, from the table in the man page of navbridge
     runs         the runs of examples/runs.txt
     messages     the fields of RTCM messages 1019 and 1046; words, subframes: those of I/NAV and LNAV (specs/ of their crates)
+    systems, records  the fields of the messages of further systems, the columns of their records (tables of nav_rows, rinex_write)
     parity, ura  the parity equations of LNAV; the values of URA
     fields       the fields of ephemerides and ionosphere parameters, their widths and scales (crates/nav_eph/src)
     statuses     the exit statuses in the man pages; the numbers are those of the sources
@@ -179,6 +180,8 @@ def conversions(_):
         of.setdefault(it[1], set()).update(it[2].split(", "))
     names = [("RTCM 3 stream", "stream"), ("RINEX 4", "rinex"), ("RINEX 3.02 to 3.05", "rinex3"), ("capture", "capture")]
     columns = ["rinex", "rinex3", "rtcm", "list", "merged", "cover", "capture", "count", "frames"]
+    # navconvert converts streams of all systems, also to these
+    of["stream"] |= {"list", "count"}
     # a log is read as its capture
     rows = [("u-blox or Septentrio log", of["capture"] | {"capture"})] + [(name, of[it]) for name, it in names]
     made = table(["From, to", *(f"`{it}`" for it in columns)], [[name, *("x" if it in targets else "" for it in columns)] for name, targets in rows])
@@ -214,6 +217,61 @@ def layouts(path, word, number):
 
 def messages(_):
     return layouts(holder(r"^fields_1019 \w"), "", "message number")
+
+
+def table_of(path, name):
+    """The entries of a constant array, each a macro, its arguments, and the name in the comment; those of with_orbit are its own."""
+    found = found_in(path, rf"^pub const {name}: \[\w+; \d+\] = (.*?\n[\])];)").replace("TOE_WEEK,", "steps!(1, 0),")
+    entry = r"(\w+)!\(((?:[^()]|\([^()]*(?:\([^()]*\)[^()]*)*\))*)\),?(?: // (\w+))?"
+    orbit = "" if "with_orbit!" not in found else found_in(path, r"^macro_rules! with_orbit \{(.*?)^\}")
+    if orbit:
+        before, toe, after = re.search(r"with_orbit!\(\s*\[(.*?)\],\s*([^/\n]*) // toe\s*\[(.*?)\]\s*\);", found, re.S).groups()
+        found = before + "\n" + re.search(r"\$\(\$before,\)\*(.*?)\$\(\$after,\)\*", orbit, re.S)[1].replace("$toe,", toe) + after
+    return re.findall(entry, found)
+
+
+def systems(_):
+    codings = {"unsigned": "u", "signed": "s", "magnitude": "m", "constant": "u"}
+    path, rows = holder(r"^pub const FIELDS_1020: "), []
+    for number, count in re.findall(r"^pub const FIELDS_(\d+): \[Field; (\d+)\]", read(path), re.M):
+        fields, bits = [], 0
+        found = table_of(path, f"FIELDS_{number}")
+        for macro, words, name in found:
+            if name == "filler":
+                continue
+            width, *limits = [it.strip().replace("_", "") for it in words.split(",")]
+            bits += int(width)
+            shown = f" ({limits[0]} to {limits[1]})" if macro == "unsigned" and limits else ""
+            fields.append(f"{name if macro != 'reserved' else 'reserved'} {width}{codings.get(macro, '')}{shown}")
+        if len(found) != int(count):
+            sys.exit(f"generate: {len(found)} fields of {number}, not {count}: change checks/generate.py with {path}")
+        if number not in ("1019", "1046"):
+            rows.append([number, str(bits), ", ".join(fields)])
+    return table(["Message number", "Bits", "Fields in order, with their widths"], rows)
+
+
+def records(_):
+    path, rows = holder(r"^pub const FDMA: "), []
+    names = {"FDMA": "R FDMA", "D1": "C D1, D2", "FNAV": "E FNAV", "QZSS": "J LNAV", "NAVIC": "I LNAV"}
+    for name, title in names.items():
+        lengths = [int(it) for it in found_in(path, rf"^pub const {name}_ROWS: \[usize; \d+\] = \[(.*?)\];").split(",")]
+        columns = []
+        for macro, words, field in table_of(path, name):
+            first = words.split(",")[0].strip().replace("_", "")
+            if macro == "decimal":
+                factor, ten = (it.strip() for it in words.split(",")[:2])
+                unit = " ".join([factor] * (factor != "1") + [f"10^{ten}"])
+            else:
+                unit = {"power": f"2^{first}", "semicircles": f"pi 2^{first}", "steps": first if first != "1" else ""}[macro]
+            columns.append(f"{field} {unit}".strip() if field else "0")
+        if len(columns) != sum(lengths):
+            sys.exit(f"generate: {len(columns)} columns of {name}, not {sum(lengths)}: change checks/generate.py with {path}")
+        lines = []
+        for length in lengths:
+            lines.append(", ".join(columns[:length]))
+            columns = columns[length:]
+        rows.append([title, " / ".join(lines)])
+    return table(["Title", "Lines, with the unit of each number"], rows)
 
 
 def words(_):
@@ -421,7 +479,7 @@ def options_agree():
 
 MAKERS = {
     "toolchain": toolchain, "layers": layers, "crates": crate_rows, "definitions": definitions, "contracts": contracts,
-    "conversions": conversions, "runs": runs, "messages": messages, "words": words, "subframes": subframes, "parity": parity, "ura": ura, "fields": fields,
+    "conversions": conversions, "runs": runs, "messages": messages, "systems": systems, "records": records, "words": words, "subframes": subframes, "parity": parity, "ura": ura, "fields": fields,
     "statuses": statuses, "reasons": reasons, "counts": counts, "codes": codes, "calls": calls, "outcomes": outcomes, "results": results,
 }
 for page in sorted(glob.glob("*.md") + glob.glob("docs/*.md") + glob.glob("examples/*.md") + glob.glob("bench/*.md")):

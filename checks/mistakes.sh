@@ -99,7 +99,7 @@ all() {
   try "RINEX 4 as RINEX 3" -f rinex3 -o r.rnx orbits.rnx
   try "a log of the other receiver" -f sbf log.ubx
   try "frames of a capture" -t frames station.navcap
-  try "a list of a stream" -t list ephemerides.rtcm3
+  try "a capture of a stream" -t capture ephemerides.rtcm3
   try "counts of RINEX" -t count orbits.rnx
   try "RINEX 4 and 3 in one file" -t list joined.rnx
   try "the cover of a capture" -t cover station.navcap

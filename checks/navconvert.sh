@@ -42,7 +42,7 @@ is_same() { cmp -s "$2" "$3" || differs "$1" "$2 is not $3"; }
 is_gone() { [ ! -e "$2" ] || differs "$1" "$2 is there"; }
 
 date=(--date "20240101 000000 UTC")
-cp "$examples"/{station.navcap,station.rtcm3,ephemerides.rtcm3,station.rnx,version3.nav,log.ubx} .
+cp "$examples"/{station.navcap,station.rtcm3,ephemerides.rtcm3,systems.rtcm3,station.rnx,version3.nav,log.ubx} .
 mkdir in out.d
 
 # ---- what is made
@@ -114,6 +114,7 @@ grep -qF "navlog --from ubx < 'log.ubx' | navbridge '--from=capture' '--to=rinex
 is_gone "what would be done" d.rnx
 mkdir path
 ln -s "$program" path/navbridge
+ln -s "$navconvert" path/navconvert
 cp station.navcap "it's.navcap"
 run "the command for a name with a quote" 0 - -n "${date[@]}" -o "it's.rnx" "it's.navcap"
 PATH=$PWD/path:$PATH sh ./out 2> said || differs "the command for a name with a quote" "it fails"
@@ -121,6 +122,13 @@ is_same "the command for a name with a quote" "it's.rnx" "$examples/station.rnx"
 input=station.navcap run "the command for standard input" 0 - -n "${date[@]}" -
 PATH=$PWD/path:$PATH sh ./out < station.navcap > made 2> said || differs "the command for standard input" "it fails"
 is_same "the command for standard input" made "$examples/station.rnx"
+run "the command for a stream" 0 - -n --week 2295 "${date[@]}" -o shown.rnx systems.rtcm3
+PATH=$PWD/path:$PATH sh ./out 2> said || differs "the command for a stream" "it fails"
+sed '1,/END OF HEADER/d' shown.rnx > shown.records
+is_same "the command for a stream" shown.records "$examples/expected/systems4.records"
+run "the command for the frames of a stream" 0 - -n -t frames -o shown.frames station.rtcm3
+PATH=$PWD/path:$PATH sh ./out 2> said || differs "the command for the frames of a stream" "it fails"
+is_same "the command for the frames of a stream" shown.frames "$examples/expected/station.frames"
 cp one.rnx ./-one.rnx
 run "the command for a name with a dash in front" 0 - -n "${date[@]}" -t merged -o dash.rnx -- -one.rnx two.rnx
 PATH=$PWD/path:$PATH sh ./out 2> said || differs "the command for a name with a dash in front" "it fails"
@@ -220,6 +228,36 @@ has "objects of conversions" out file,status,format,output,ephemerides,ionospher
 run "an object beside an output" 0 '"format":"capture","output":null,' --json -t list -o - station.navcap
 is_same "an object beside an output" out "$examples/station.list"
 
+# ---- a stream of all systems
+for version in 4 3; do
+  all="all systems to RINEX $version"
+  run "$all" 0 "all$version.rnx: " --week 2295 "${date[@]}" -t "rinex${version#4}" --report "all$version.report" -o "all$version.rnx" systems.rtcm3
+  sed '1,/END OF HEADER/d' "all$version.rnx" > records
+  is_same "$all" records "$examples/expected/systems$version.records"
+  is_same "$all, its report" "all$version.report" "$examples/expected/systems.report"
+done
+run "all systems counted" 0 "all.rnx: 22 ephemerides; 7 frames rejected; skipped: 7 messages" --week 2295 "${date[@]}" -o all.rnx systems.rtcm3
+is_same "all systems counted" all.rnx all4.rnx
+run "all systems to a list" 0 "all.list: made of 22 ephemerides and ionosphere records; 7 frames rejected; skipped: 7 messages" --week 2295 -t list -o all.list systems.rtcm3
+is_same "all systems to a list" all.list "$examples/expected/systems.list"
+run "all systems to counts" 0 "all.count" --week 2295 -t count -o all.count systems.rtcm3
+is_same "all systems to counts" all.count "$examples/expected/systems.count"
+run "all systems to RTCM" 0 "all.rtcm3" --week 2295 -t rtcm -o all.rtcm3 systems.rtcm3
+run "all systems to RTCM and to RINEX" 0 "again.rnx: 22 ephemerides; nothing rejected, nothing skipped" --week 2295 "${date[@]}" -o again.rnx all.rtcm3
+is_same "all systems to RTCM and to RINEX" again.rnx all.rnx
+run "all systems, a long name" 0 "STAT00CCC_R_20240020000_01D_MN.rnx: 22 ephemerides" --week 2295 "${date[@]}" --long-name STAT00CCC -o in systems.rtcm3
+is_same "all systems, a long name" in/STAT00CCC_R_20240020000_01D_MN.rnx all.rnx
+sed -n 's/^\(frame [0-9]*\) \([0-9].*\)/systems.rtcm3: \1: \2/p' "$examples/expected/systems.report" > check.expected
+run "all systems, a check" 1 "systems.rtcm3: 22 ephemerides; 7 frames rejected" --week 2295 --check systems.rtcm3
+is_same "all systems, a check" out check.expected
+run "all systems as an object" 0 - --json --week 2295 "${date[@]}" -o json.all.rnx systems.rtcm3
+has "all systems as an object" out format,made,ephemerides,ionospheres,rejected,skipped,skipped_systems,clock_week '[["stream", 22, 22, 0, 7, 7, {"GLONASS": 0, "BeiDou": 0, "QZSS": 0, "NavIC": 0, "SBAS": 0, "GPS CNAV": 0, "Galileo F/NAV": 0}, null]]'
+# what navbridge makes of it is the part of GPS and Galileo I/NAV, in the same order
+"$program" --from stream --to rinex --week 2295 "${date[@]}" --leap 18 < systems.rtcm3 2> said | sed '1,/END OF HEADER/d' > bridged
+awk '/^>/ { ours = /^> EPH (G.. LNAV|E.. INAV)/ } ours' "$examples/expected/systems4.records" > part
+tried=$((tried + 1))
+is_same "the part of navbridge in all systems" bridged part
+
 # ---- what is skipped
 cp "$examples/rtklib_style.nav" .
 run "other systems in RINEX 4" 0 "skipped: 1 GLONASS, 1 BeiDou, 1 Galileo F/NAV records" "${date[@]}" -o skip.rnx rtklib_style.nav
@@ -244,7 +282,7 @@ def ubx(system, signal, words):
 out = sys.stdout.buffer
 if sys.argv[1] == "rtcm":
     out.write(open("ephemerides.rtcm3", "rb").read())
-    for number, size in [(1020, 45)] * 3 + [(1042, 64), (1045, 62), (1077, 200), (1077, 300), (1044, 61)]:
+    for number, size in [(1020, 45)] * 3 + [(1042, 64), (1045, 62), (1077, 200), (63, 64), (1077, 300), (1043, 29), (1044, 61)]:
         out.write(rtcm(number, size))
 else:
     out.write(open("log.ubx", "rb").read())
@@ -254,7 +292,9 @@ else:
 END
 python3 other.py rtcm > other.rtcm3
 python3 other.py ubx > other.ubx
-run "other systems in a stream" 0 "skipped: 3 GLONASS, 1 BeiDou, 1 QZSS, 1 Galileo F/NAV, 2 other messages" -t rtcm --week 2295 -o skip.rtcm3 other.rtcm3
+run "other messages in a stream" 0 "skip.rtcm3: made of 2 ephemerides and ionosphere records; 6 frames rejected; skipped: 1 BeiDou, 1 SBAS, 2 other messages" -t rtcm --week 2295 --report skip.report -o skip.rtcm3 other.rtcm3
+printf '%s\n' frame\ {3,4,5}\ 1020\ satellite "frame 6 1042 satellite" "frame 7 1045 satellite" "frame 12 1044 satellite" "frames 12" "refused 6" "unused 4" "items 2" > expected
+is_same "other messages in a stream" skip.report expected
 run "other systems in a log" 0 "skipped: 4 GLONASS, 1 BeiDou, 1 QZSS, 1 NavIC, 1 SBAS, 1 GPS CNAV, 1 Galileo F/NAV, 1 other messages" "${date[@]}" -o skip.rnx --overwrite other.ubx
 
 # ---- RINEX 3 that is merged, and joined files

@@ -1,25 +1,28 @@
 #!/usr/bin/env bash
 # Converts real streams and logs, which are not in the repository: those of the Debian source packages of gpsd and RTKLIB.
 #
-#   checks/real.sh [--program FILE] [--navlog FILE] [DIRECTORY]
+#   checks/real.sh [--program FILE] [--navlog FILE] [--navconvert FILE] [DIRECTORY]
 #
-#   --program FILE  navbridge (PROGRAM, or crates/navbridge/out/navbridge)
-#   --navlog FILE   navlog (NAVLOG, or crates/navlog/out/navlog)
-#   DIRECTORY       with the unpacked packages. Without it they are fetched once, 35 MB, by apt-get, if it knows sources (a line
-#                   `Types: deb-src` in /etc/apt/sources.list.d), into ~/.cache/navbridge/real
+#   --program FILE     navbridge (PROGRAM, or crates/navbridge/out/navbridge)
+#   --navlog FILE      navlog (NAVLOG, or crates/navlog/out/navlog)
+#   --navconvert FILE  navconvert (NAVCONVERT, or crates/navconvert/out/navconvert)
+#   DIRECTORY          with the unpacked packages. Without it they are fetched once, 35 MB, by apt-get, if it knows sources (a line
+#                      `Types: deb-src` in /etc/apt/sources.list.d), into ~/.cache/navbridge/real
 #
 # It counts the GPS and Galileo ephemerides of three RTCM 3 streams and, if convbin is installed (Debian's package rtklib), compares
 # them with its own, number by number: all are equal but the transmission time, which no message has and convbin takes from its
 # clock. Of the log of a ZED-F9P it counts the subframes and pages that navlog writes: 5 and 27, each page in two lines. Two more
-# pages come after the last time message of the log, and have no time.
+# pages come after the last time message of the log, and have no time. Of the stream with messages of all systems it counts the
+# ephemerides that navconvert writes.
 #
 # Exit status: 0 all correct, or skipped with a reason; 1 something differs; 2 the arguments are wrong, or a program is missing.
 set -u
 . "$(dirname "$(readlink -f "$0")")/lib.sh"
-program='' navlog=''
-options '--program: --navlog: ..' "$@"
+program='' navlog='' navconvert=''
+options '--program: --navlog: --navconvert: ..' "$@"
 built program navbridge
 built navlog navlog
+built navconvert navconvert
 command -v python3 > /dev/null || skip "python3 is not installed"
 work_folder
 names=(rtcm3.2.log GMSD7_20121014.rtcm3 testglo.rtcm3 ublox-zed-f9p-sfrbx.log)
@@ -71,6 +74,11 @@ stream rtcm3.2.log 2005 2016/4/6 41
 stream GMSD7_20121014.rtcm3 1710 2012/10/14 15
 stream testglo.rtcm3 1500 2009/12/17 15
 command -v convbin > /dev/null || echo "convbin is not installed: not compared"
+
+tried=$((tried + 1)) got=0
+"$navconvert" -q -f stream --week 2005 -o - "$(find "$folder" -name rtcm3.2.log | head -n 1)" > "$work/all.rnx" 2> "$work/report" < /dev/null || got=$?
+count=$(grep -c '^> EPH ' "$work/all.rnx")
+[ "$got,$count" = "0,88" ] || differs "rtcm3.2.log, all systems: status $got, and $count ephemerides, not 88"
 
 tried=$((tried + 1)) got=0
 "$navlog" --from ubx < "$(find "$folder" -name ublox-zed-f9p-sfrbx.log | head -n 1)" > "$work/navcap" 2> "$work/report" || got=$?

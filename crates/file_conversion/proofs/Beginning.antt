@@ -4,7 +4,6 @@ use Rattle.std.specs.Option.{option_map}
 use Rattle.std.specs.Prelude.{IfErr, IfSome, OnOk}
 use Rattle.std.specs.Io.KnownBytes.{Keeps}
 use Rattle.nav_io.specs.Causes.{Rose}
-use Rattle.bridge_engine.specs.declared.job.Job.{Job}
 use Rattle.bridge_engine.specs.declared.job.Job.TheVariants as jobs
 use Rattle.whole_file.specs.declared.kinds.Kind.{Kind}
 use Rattle.whole_file.specs.declared.kinds.Kind.TheVariants as kinds
@@ -27,14 +26,13 @@ use Rattle.file_conversion.specs.declared.targets.Target.TheVariants as targets
 abbrev Reads : Option Task → Type 0
 Reads task = IfSome task (λ task. reads_input task ≡ true)
 
-mapped : {A : Type 0} (found : Option A) (job : A → Job) → ((x : A) → reads_input (Does (job x)) ≡ true)
-    → Reads (option_map (λ x. Does (job x)) found)
-mapped None job reads = tt
-mapped (Some x) job reads = reads x
+mapped : {A : Type 0} (found : Option A) (task : A → Task) → ((x : A) → reads_input (task x) ≡ true) → Reads (option_map task found)
+mapped None task reads = tt
+mapped (Some x) task reads = reads x
 
 capture_reads : (plan : Plan) (week : Option ℕ) → Reads (capture_task plan week)
 capture_reads plan week =
-    mapped (capture_to plan.target plan.header) (λ to. jobs.Capture (record { week = week; to = to })) (λ to. refl)
+    mapped (capture_to plan.target plan.header) (λ to. Does (jobs.Capture (record { week = week; to = to }))) (λ to. refl)
 
 log_reads : (plan : Plan) (target : Target) → Reads (log_task plan target)
 log_reads plan targets.Rinex = capture_reads plan plan.week
@@ -51,8 +49,8 @@ stream_reads : (plan : Plan) (target : Target) → Reads (stream_task plan targe
 stream_reads plan targets.Rinex = refl
 stream_reads plan targets.Rinex3 = refl
 stream_reads plan targets.Rtcm = refl
-stream_reads plan targets.List = tt
-stream_reads plan targets.Count = tt
+stream_reads plan targets.List = refl
+stream_reads plan targets.Count = refl
 stream_reads plan targets.Frames = refl
 stream_reads plan targets.Merged = tt
 stream_reads plan targets.Cover = tt

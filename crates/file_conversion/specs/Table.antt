@@ -3,8 +3,8 @@ use Rattle.std.specs.Prelude.{ℕ, Option, None, Some, option_map, unwrap_or}
 use Rattle.rinex_write.specs.declared.words.HeaderWords.{HeaderWords}
 use Rattle.captures.specs.declared.target.CaptureTo.{CaptureTo}
 use Rattle.captures.specs.declared.target.CaptureTo.TheVariants as captures
-use Rattle.streams.specs.declared.target.StreamTo.{StreamTo}
-use Rattle.streams.specs.declared.target.StreamTo.TheVariants as streams
+use Rattle.outlets.specs.declared.target.Target.{Target as Outlet}
+use Rattle.outlets.specs.declared.target.Target.TheVariants as outlets
 use Rattle.nav_files.specs.declared.target.RinexTo.{RinexTo}
 use Rattle.nav_files.specs.declared.target.RinexTo.TheVariants as files
 use Rattle.bridge_engine.specs.declared.job.Job.TheVariants as jobs
@@ -12,12 +12,12 @@ use Rattle.whole_file.specs.declared.kinds.Kind.{Kind}
 use Rattle.whole_file.specs.declared.kinds.Kind.TheVariants as kinds
 use Rattle.file_conversion.specs.declared.table.Plan.{Plan}
 use Rattle.file_conversion.specs.declared.table.Task.{Task}
-use Rattle.file_conversion.specs.declared.table.Task.TheVariants.{Copied, Does}
+use Rattle.file_conversion.specs.declared.table.Task.TheVariants.{Copied, Does, Systems}
 use Rattle.file_conversion.specs.declared.targets.Target.{Target}
 use Rattle.file_conversion.specs.declared.targets.Target.TheVariants.{Rinex, Rinex3, Rtcm, List as ToList, Count, Frames, Merged, Cover, Capture}
 
--- the targets of a capture, of the ephemerides of a stream, and of a navigation file, with this
--- header if they have one
+-- the targets of a capture, of the ephemerides of all systems in a stream, and of a navigation file,
+-- with this header if they have one
 abbrev pub capture_to : Target → HeaderWords → Option CaptureTo
 capture_to Rinex header = Some (captures.Rinex header)
 capture_to Rinex3 header = Some (captures.Rinex3 header)
@@ -26,10 +26,12 @@ capture_to ToList header = Some captures.ToList
 capture_to Count header = Some captures.Count
 capture_to _ header = None
 
-abbrev pub stream_to : Target → HeaderWords → Option StreamTo
-stream_to Rinex header = Some (streams.Rinex header)
-stream_to Rinex3 header = Some (streams.Rinex3 header)
-stream_to Rtcm header = Some streams.Rtcm
+abbrev pub stream_to : Target → HeaderWords → Option Outlet
+stream_to Rinex header = Some (outlets.Rinex header)
+stream_to Rinex3 header = Some (outlets.Rinex3 header)
+stream_to Rtcm header = Some outlets.Rtcm
+stream_to ToList header = Some outlets.ToList
+stream_to Count header = Some outlets.Count
 stream_to _ header = None
 
 abbrev pub file_to : Target → HeaderWords → Option RinexTo
@@ -52,10 +54,11 @@ abbrev pub log_task : Plan → Target → Option Task
 log_task plan Capture = Some Copied
 log_task plan _ = capture_task plan plan.week
 
--- a stream
+-- a stream: its frames, or its ephemerides of all systems
 abbrev pub stream_task : Plan → Target → Option Task
 stream_task plan Frames = Some (Does jobs.StreamToFrames)
-stream_task plan target = option_map (λ to. Does (jobs.Stream (record { week = week_of plan; to = to }))) (stream_to target plan.header)
+stream_task plan target =
+    option_map (λ to. Systems (record { kinds = plan.kinds; week = week_of plan; to = to })) (stream_to target plan.header)
 
 -- a navigation file of RINEX 4
 abbrev pub file4_task : Plan → Target → Option Task

@@ -1,28 +1,39 @@
 -- What a task makes of the bytes that it reads, and what it counts of them.
 use Rattle.std.specs.Prelude.{◌≡◌, ℕ, List, Bool, true, Option, None, Some, IsSome}
-use Rattle.whole_file.specs.declared.kinds.Kind.{Kind}
+use Rattle.one_run.specs.Ends.{giving}
+use Rattle.one_run.specs.Runs.{Meaning}
+use Rattle.system_streams.specs.Streams.{systems_meaning}
 use Rattle.bridge_engine.specs.Meanings.{done_of, meaning_of}
 use Rattle.bridge_engine.specs.declared.done.Done.{Done}
-use Rattle.bridge_engine.specs.declared.job.Job.{Job}
+use Rattle.bridge_engine.specs.declared.done.Done.TheVariants as dones
+use Rattle.file_conversion.specs.declared.table.SystemsJob.{SystemsJob}
 use Rattle.file_conversion.specs.declared.table.Task.{Task}
-use Rattle.file_conversion.specs.declared.table.Task.TheVariants.{Copied, Does}
+use Rattle.file_conversion.specs.declared.table.Task.TheVariants.{Copied, Does, Systems}
+
+-- what the conversion of a stream of all systems makes of its bytes, and what it counts in them
+abbrev pub systems_of : SystemsJob → Meaning Done
+systems_of job = giving dones.Stream (systems_meaning job.kinds job.to job.week)
 
 -- it reads the bytes of a file
 abbrev pub reads_input : Task → Bool
 reads_input Copied = true
 reads_input (Does job) = (meaning_of job).reads
+reads_input (Systems job) = true
 
 -- the bytes themselves, or the output of the conversion
 abbrev pub makes_by : Task → List ℕ → List ℕ
 makes_by Copied bytes = bytes
 makes_by (Does job) bytes = (meaning_of job).whole.output bytes
+makes_by (Systems job) bytes = (systems_of job).whole.output bytes
 
 -- nothing, or what the conversion counts
 abbrev pub counts_by : Task → List ℕ → Option Done
 counts_by Copied bytes = None
 counts_by (Does job) bytes = (done_of job).counts bytes
+counts_by (Systems job) bytes = (systems_of job).counts bytes
 
 -- the task takes these bytes: the conversion counts them
 abbrev pub accepts : Task → List ℕ → Type 0
 accepts Copied bytes = Unit {0}
 accepts (Does job) bytes = IsSome ((done_of job).counts bytes)
+accepts (Systems job) bytes = IsSome ((systems_of job).counts bytes)

@@ -10,7 +10,7 @@ ghost use Rattle.file_conversion.specs.Makes.{kind_under, task_under};
 ghost use Rattle.file_conversion.specs.Steps.{IsLack, IsMissing, IsNotOpened, IsUnconverted};
 ghost use Rattle.file_conversion.specs.Steps.{TellsForm};
 
-use crate::begun::begin;
+use crate::begun::{Begun, begin};
 use crate::ends::{Observers, Outcome, Sourced, ended};
 use crate::stops::Stop;
 use crate::table::Plan;
@@ -125,9 +125,14 @@ pub fn convert_source<
         → IfErr result.outcome.done IsLack) }
 {
     match begin(alloc, plan, source, observers) {
-        Ok(mut begun) => {
-            let done = put_output(folder, &mut begun.run, &mut begun.input, names, part);
-            ended(begun, done)
+        Ok(begun) => {
+            let Begun {
+                kind,
+                mut run,
+                mut input,
+            } = begun;
+            let done = put_output(folder, &mut run, &mut input, names, part);
+            ended(Begun { kind, run, input }, done)
         }
         Err(stopped) => stopped,
     }

@@ -14,7 +14,8 @@
 //!   navigation file by the convention of RINEX 3 and 4 (RINEX 4.02, 5.2).
 //!
 //! A log of a receiver is converted as its capture, and to a capture it is that capture
-//! itself.
+//! itself. Of a stream the ephemerides of all systems are converted; every other file as `navbridge`
+//! converts it.
 //!
 //! ```rust
 //! let mut folder = HostFolder::new(rt.alloc(), &rt);
@@ -54,6 +55,7 @@ pub use crate::refusals::refusal_of;
 pub use crate::says::{Refusal, STANDARD_OUTPUT, kind_text};
 pub use crate::shown::Shown;
 pub use crate::stops::{Made, Stop};
-pub use crate::table::{Plan, Task, is_converted, task_for};
+pub use crate::table::{Plan, SystemsJob, Task, is_converted, task_for};
 pub use crate::targets::{Target, ending_of, kind_named, target_named, to_word};
 pub use crate::telling::{Teller, finish};
+pub use system_streams::Kinds;

@@ -7,9 +7,10 @@ ghost use Rattle.file_conversion.specs.Table.{log_task, week_of};
 ghost use Rattle.file_conversion.specs.Tasks.{reads_input};
 
 use crate::targets::Target;
-use bridge_engine::{CaptureJob, CaptureTo, Job, RinexTo, StreamJob, StreamTo};
+use bridge_engine::{CaptureJob, CaptureTo, Job, RinexTo};
 use gnss_week::RefWeek;
 use rinex_write::HeaderWords;
+use system_streams::Kinds;
 use whole_file::Kind;
 
 /// What is asked of each file.
@@ -25,6 +26,19 @@ pub struct Plan {
     pub clock_week: RefWeek,
     /// The date and the leap seconds of a header.
     pub header: HeaderWords,
+    /// The kinds of ephemerides that are read of a stream.
+    pub kinds: Kinds,
+}
+
+/// A conversion of the ephemerides of all systems in a stream.
+#[derive(Clone, Copy)]
+pub struct SystemsJob {
+    /// The kinds of ephemerides.
+    pub kinds: Kinds,
+    /// The reference week.
+    pub week: RefWeek,
+    /// What is made of them.
+    pub to: outlets::Target,
 }
 
 /// What is done with a file.
@@ -34,6 +48,8 @@ pub enum Task {
     Copied,
     /// A conversion of `navbridge`.
     Does(Job),
+    /// The ephemerides of all systems in a stream are converted.
+    Systems(SystemsJob),
 }
 
 /// What is done with a file that is read under this format, if there is a conversion of it.
@@ -81,6 +97,7 @@ pub fn is_converted(kind: Kind, target: Target) -> bool {
                     date: *b"19800106 000000 UTC",
                     leap: 0,
                 },
+                kinds: Kinds::all(),
             };
             task_for(&plan, kind).is_some()
         }
@@ -125,10 +142,11 @@ fn stream_task(plan: &Plan) -> Option<Task>
         Target::Frames => Some(Task::Does(Job::StreamToFrames)),
         target => match stream_to(target, plan.header) {
             None => None,
-            Some(to) => {
-                let week = week_of(plan);
-                Some(Task::Does(Job::Stream(StreamJob { week, to })))
-            }
+            Some(to) => Some(Task::Systems(SystemsJob {
+                kinds: plan.kinds,
+                week: week_of(plan),
+                to,
+            })),
         },
     }
 }
@@ -176,13 +194,15 @@ fn capture_to(target: Target, header: HeaderWords) -> Option<CaptureTo>
 }
 
 // The target of the ephemerides of a stream.
-fn stream_to(target: Target, header: HeaderWords) -> Option<StreamTo>
+fn stream_to(target: Target, header: HeaderWords) -> Option<outlets::Target>
     ensures { result ≡ stream_to target header }
 {
     match target {
-        Target::Rinex => Some(StreamTo::Rinex(header)),
-        Target::Rinex3 => Some(StreamTo::Rinex3(header)),
-        Target::Rtcm => Some(StreamTo::Rtcm),
+        Target::Rinex => Some(outlets::Target::Rinex(header)),
+        Target::Rinex3 => Some(outlets::Target::Rinex3(header)),
+        Target::Rtcm => Some(outlets::Target::Rtcm),
+        Target::List => Some(outlets::Target::ToList),
+        Target::Count => Some(outlets::Target::Count),
         _ => None,
     }
 }

@@ -5,13 +5,14 @@ ghost use Rattle.std.specs.Prelude.{length, true};
 ghost use Rattle.std.specs.Io.KnownBytes.{Appends};
 ghost use Rattle.nav_io.specs.Causes.{Rose};
 ghost use Rattle.bridge_engine.specs.Meanings.{done_of, meaning_of};
-ghost use Rattle.file_conversion.specs.Tasks.{reads_input};
+ghost use Rattle.file_conversion.specs.Tasks.{reads_input, systems_of};
 
 use crate::copies::copy;
-use crate::table::Task;
+use crate::table::{SystemsJob, Task};
 use bridge_engine::{BridgeFault, Done, Job, run_job};
 use nav_io::{Sink, Source};
 use std::alloc::Global;
+use system_streams::run_systems;
 use whole_file::Conversion;
 
 /// A task that is done with a report.
@@ -49,6 +50,7 @@ impl<U: Sink> Conversion for TaskRun<U> {
     ) -> Result<Option<Done>, BridgeFault> {
         match &self.task {
             Task::Does(job) => do_job(self.alloc, job, input, output, &mut self.report),
+            Task::Systems(job) => do_systems(self.alloc, job, input, output, &mut self.report),
             Task::Copied => copy(input, output),
         }
     }
@@ -77,6 +79,32 @@ fn do_job<S: Source, T: Sink, U: Sink>(
 {
     match run_job(alloc, job, input, output, report) {
         Ok(done) => Ok(Some(done)),
+        Err(fault) => Err(fault),
+    }
+}
+
+// Converts the ephemerides of all systems in a stream.
+fn do_systems<S: Source, T: Sink, U: Sink>(
+    alloc: Global,
+    job: &SystemsJob,
+    input: &mut S,
+    output: &mut T,
+    report: &mut U,
+) -> Result<Option<Done>, BridgeFault>
+    ensures text { OnOk result (IfSome (S.left input.old) (λ bytes.
+        Appends (T.written output.old) (T.written output.new)
+        ((systems_of job.now).whole.output bytes))) }
+    ensures counts { IfOk result (λ done. IfSome (S.left input.old) (λ bytes.
+        done ≡ (systems_of job.now).counts bytes)) }
+    ensures complete { IfSome (S.left input.old) (λ bytes.
+        IsSome ((systems_of job.now).counts bytes) × (length bytes < 2 ^ 32)
+        → ¬ Rose (S.faults input.old) (S.faults input.new)
+        → ¬ Rose (T.faults output.old) (T.faults output.new)
+        → ¬ Rose (U.faults report.old) (U.faults report.new)
+        → IfErr result (λ fault. fault ≡ BridgeFault.NoMemory)) }
+{
+    match run_systems(alloc, &job.kinds, job.week, &job.to, input, output, report) {
+        Ok(counts) => Ok(Some(Done::Stream(counts))),
         Err(fault) => Err(fault),
     }
 }

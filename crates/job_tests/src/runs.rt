@@ -4,7 +4,7 @@ ghost use Rattle.std.specs.Prelude.{◌≡◌};
 
 use bridge_engine::BridgeFault;
 use file_conversion::{
-    Made, Observers, Outcome, Plan, Refusal, Sourced, Stop, Target, Teller, convert_one,
+    Kinds, Made, Observers, Outcome, Plan, Refusal, Sourced, Stop, Target, Teller, convert_one,
     convert_source, finish, kind_text,
 };
 use gnss_week::RefWeek;
@@ -211,6 +211,7 @@ fn ends_so(alloc: Global, case: &Case) -> Result<bool, Fail> {
         week,
         clock_week,
         header,
+        kinds: Kinds::all(),
     };
     let mut folder = folder_of(alloc, case)?;
     let observers = observers(alloc)?;
@@ -272,6 +273,7 @@ fn source_ends_so(
         week,
         clock_week,
         header,
+        kinds: Kinds::all(),
     };
     let observers = observers(alloc)?;
     let source = source_of(alloc, fails)?;

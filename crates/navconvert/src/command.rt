@@ -203,7 +203,7 @@ static OPTIONS: [Row; 15] = [
     Row {
         name: "dry-run",
         short: Some('n'),
-        help: "Print the command of navbridge that does the same, and do nothing",
+        help: "Print the command that does the same, of navbridge where it can, and do nothing",
         ..FLAG
     },
     Row {

@@ -1,4 +1,4 @@
-//! The commands of `navbridge` that do the same.
+//! The commands that do the same: of `navbridge`, and of a stream of all systems `navconvert`'s own.
 
 use crate::files::Settings;
 use crate::forms::{format_word, input_kind};
@@ -53,7 +53,7 @@ fn show_before(settings: &Settings, files: &[&str], name: Option<&str>) -> u8 {
     line.end(name)
 }
 
-// Prints the command for files of this form.
+// Prints the command for files of this form: for a stream of all systems that of this program.
 fn show_kind(
     settings: &Settings,
     first: &str,
@@ -61,23 +61,21 @@ fn show_kind(
     name: Option<&str>,
     kind: Kind,
 ) -> u8 {
-    let is_copied = match task_for(&settings.plan, kind) {
-        None => return tell_file(settings, first, &Refusal::NoSuchConversion(kind)),
-        Some(Task::Copied) => true,
-        Some(Task::Does(_)) => false,
+    let Some(task) = task_for(&settings.plan, kind) else {
+        return tell_file(settings, first, &Refusal::NoSuchConversion(kind));
     };
     let mut line = Line::new(settings.rt);
     match reader_of(kind, files.len()) {
         Some((program, mark)) => {
             line.text(program);
             line.files(mark, files);
-            if !is_copied {
+            if !matches!(task, Task::Copied) {
                 line.text(" | navbridge");
                 line.job(&settings.plan, kind);
             }
         }
         None => {
-            line.text("navbridge");
+            line.text(program_of(&task));
             line.job(&settings.plan, kind);
             line.files(" < ", files);
         }
@@ -85,13 +83,23 @@ fn show_kind(
     line.end(name)
 }
 
-/// The reference week of a conversion.
-pub(crate) fn week_in(job: &Job) -> Option<RefWeek> {
-    match job {
-        Job::Capture(job) => job.week,
-        Job::Stream(job) => Some(job.week),
-        Job::SendRinex(week) | Job::SendRinex3(week) => Some(*week),
-        _ => None,
+// The program that does a task from its input to its output.
+fn program_of(task: &Task) -> &'static str {
+    match task {
+        Task::Systems(_) => "navconvert -o - -",
+        Task::Does(_) | Task::Copied => "navbridge",
+    }
+}
+
+/// The reference week of a task.
+pub(crate) fn week_in(task: &Task) -> Option<RefWeek> {
+    match task {
+        Task::Copied => None,
+        Task::Systems(job) => Some(job.week),
+        Task::Does(Job::Capture(job)) => job.week,
+        Task::Does(Job::Stream(job)) => Some(job.week),
+        Task::Does(Job::SendRinex(week) | Job::SendRinex3(week)) => Some(*week),
+        Task::Does(_) => None,
     }
 }
 
@@ -147,12 +155,12 @@ impl<'a> Line<'a> {
         }
     }
 
-    // Prints the options of navbridge for a file of this form.
+    // Prints the options for a file of this form.
     fn job(&mut self, plan: &Plan, kind: Kind) {
         self.option("--from=", from_word(kind));
         self.option("--to=", to_word(plan.target));
-        if let Some(Task::Does(job)) = task_for(plan, kind) {
-            if let Some(week) = week_in(&job) {
+        if let Some(task) = task_for(plan, kind) {
+            if let Some(week) = week_in(&task) {
                 let week = week.value();
                 self.whole = self.whole && print!(self.rt; " '--week={week}'").is_ok();
             }

@@ -7,7 +7,7 @@ use crate::json::Quoted;
 use crate::place::Seen;
 use crate::systems::{COUNT, SYSTEMS, Skips};
 use bridge_engine::{CaptureCounts, Done};
-use file_conversion::{Shown, Target, Task, task_for};
+use file_conversion::{Shown, Target, task_for};
 use receiver_log::LogCounts;
 use std::fmt;
 use whole_file::Kind;
@@ -139,14 +139,14 @@ impl Summary<'_, '_> {
         (all, skips)
     }
 
-    // The week of the clock, if the file was read by it: its job has a week, and none is named.
+    // The week of the clock, if the file was read by it: its task has a week, and none is named.
     fn clock_week(&self) -> Option<u32> {
         let plan = &self.settings.plan;
         let Some(kind) = self.kind else {
             return None;
         };
         match task_for(plan, kind) {
-            Some(Task::Does(job)) if plan.week.is_none() => match week_in(&job) {
+            Some(task) if plan.week.is_none() => match week_in(&task) {
                 None => None,
                 Some(_) => Some(plan.clock_week.value()),
             },

@@ -1,4 +1,4 @@
-//! What a file has of other systems and messages, which are skipped.
+//! What a file has of systems and messages that are skipped.
 
 /// The systems and messages that are distinguished.
 pub(crate) const SYSTEMS: [&str; COUNT] = [
@@ -34,16 +34,9 @@ static LETTERS: [Numbers; 5] = [
     (0x53, 0x53, 4),
 ];
 
-/// Those of RTCM messages (RTCM 10403.3, table 3.5-1); 63 was BeiDou's before it had one.
-pub(crate) static RTCM: [Numbers; 7] = [
-    (1020, 1020, 0),
-    (63, 63, 1),
-    (1042, 1042, 1),
-    (1044, 1044, 2),
-    (1041, 1041, 3),
-    (1043, 1043, 4),
-    (1045, 1045, FNAV),
-];
+/// Those of RTCM messages with ephemerides that are not converted: 63 was BeiDou's in a draft, and
+/// 1043 is that of SBAS (RTCM 10403.3, table 3.5-1).
+pub(crate) static RTCM: [Numbers; 2] = [(63, 63, 1), (1043, 1043, 4)];
 
 /// Those of UBX-RXM-SFRBX: its gnssId, and its sigId in the low byte.
 pub(crate) static UBX: [Numbers; 8] = [

@@ -5,7 +5,7 @@ ghost use Rattle.std.specs.Prelude.{◌<◌, IfOk};
 use crate::clock::{date_of, now, week_of};
 use crate::command::Asked;
 use bridge_engine::is_date;
-use file_conversion::{Plan, Refusal, is_site};
+use file_conversion::{Kinds, Plan, Refusal, is_site};
 use gnss_week::{Moment, RefWeek};
 use rinex_write::HeaderWords;
 use std::alloc::{AllocError, Global};
@@ -36,6 +36,7 @@ pub(crate) fn plan_of<'a>(rt: &HostRuntime, asked: &Asked<'a>) -> Result<Plan, R
             week,
             clock_week,
             header: HeaderWords { date, leap },
+            kinds: Kinds::all(),
         }),
     }
 }

@@ -1,0 +1,16 @@
+use Rattle.std.proofs.Common.{Err, Ok, refl}
+use Rattle.bridge_engine.specs.declared.done.Done.TheVariants as dones
+use Rattle.file_conversion.proofs.Running.{complete_by, counts_read, ended_well, text_by}
+use Rattle.file_conversion.proofs.tasks.do_systems.Goals as goal
+
+pub returns-in-Ok-clause-text : goal.returns-in-Ok-clause-text
+returns-in-Ok-clause-text g c = text_by _ _ _ (Ok c.in-Ok.counts) refl c.in-Ok.ensures.ended
+
+pub returns-in-Ok-clause-counts : goal.returns-in-Ok-clause-counts
+returns-in-Ok-clause-counts g c = counts_read dones.Stream _ _ _ c.in-Ok.counts refl c.in-Ok.ensures.ended
+
+pub returns-in-Ok-clause-complete : goal.returns-in-Ok-clause-complete
+returns-in-Ok-clause-complete g c = ended_well _ _ _ _ _ _ tt
+
+pub returns-in-Err-clause-complete : goal.returns-in-Err-clause-complete
+returns-in-Err-clause-complete g c = complete_by _ _ _ (Err c.in-Err.fault) refl refl c.in-Err.ensures.ended
