@@ -1,12 +1,18 @@
 -- What a job that ended well has written and counted, and that it ends well where nothing fails.
-use Rattle.std.proofs.Common.{◌≡◌, ◌⊎◌, inl, inr, ◌^◌, ◌<◌, ℕ, Bool, true, false, List, [], length, Option, None, Some, Result, Ok, Err, refl, sym, ap, subst, ◌∙◌}
-use Rattle.std.specs.Prelude.{IfErr, IfOk, IfSome, IsErrOf, IsOk, IsSome, OnOk, if◌then◌else◌}
+use Rattle.std.proofs.Common.{◌≡◌, ◌⊎◌, inl, inr, ◌^◌, ◌<◌, ◌≤◌, ℕ, Bool, true, false, List, [], ◌++◌, length, Option, None, Some, Result, Ok, Err, refl, sym, ap, subst, ◌∙◌, arith, length-append}
+use Rattle.std.proofs.lemmas.Bool.{cases_lt}
+use Rattle.std.specs.Prelude.{IfErr, IfOk, IfSome, IsErr, IsErrOf, IsOk, IsSome, OnOk, if◌then◌else◌}
 use Rattle.std.specs.Io.KnownBytes.{Appends}
 use Rattle.nav_io.specs.Causes.{Rose}
-use Rattle.one_run.specs.Runs.{Ended, Meaning, World, bytes_for}
-use Rattle.one_run.proofs.Surface.{complete_of, counts_of, text_of}
+use Rattle.one_run.specs.Causes.{Faults, HasItsCause}
+use Rattle.one_run.specs.Runs.{Broke, Ended, Meaning, World, bytes_for, faults_in}
+use Rattle.one_run.proofs.Surface.{complete_of, counts_of, long_of, no_fault, text_of, with_rest}
 use Rattle.one_run.specs.declared.fault.BridgeFault.{BridgeFault}
-use Rattle.one_run.specs.declared.fault.BridgeFault.TheVariants.{NoMemory}
+use Rattle.one_run.specs.declared.fault.BridgeFault.TheVariants.{ReadFault, WriteFault, ReportFault, NotThisForm, TooLong, NoMemory}
+use Rattle.whole_file.specs.Steps.{EndsFor, RoseFor, error_counts}
+use Rattle.file_conversion.specs.Tasks.{accepts, breaks_by, cause_of}
+use Rattle.file_conversion.specs.declared.table.Task.{Task}
+use Rattle.file_conversion.specs.declared.table.Task.TheVariants.{Copied, Does}
 use Rattle.bridge_engine.specs.Meanings.{done_of, meaning_of}
 use Rattle.bridge_engine.specs.declared.done.Done.{Done}
 use Rattle.bridge_engine.specs.declared.job.Job.{Job}
@@ -72,3 +78,90 @@ pub ended_well : (left : Option (List ℕ)) (Can : List ℕ → Type 0) (A B C S
     → IfSome left (λ bytes. Can bytes → A → B → C → Shown)
 ended_well None Can A B C Shown shown = tt
 ended_well (Some bytes) Can A B C Shown shown = λ can a b c. shown
+
+-- ---- what a job ended for
+
+counts_some : (o : Option Done) (done : Done) → o ≡ Some done → IsSome o
+counts_some o done is = subst (λ (x : Option Done). IsSome x) (sym is) refl
+
+none_counts : (o : Option Done) → o ≡ None → IsSome o → ⊥
+none_counts o none some = let no : false ≡ true = subst (λ (x : Option Done). IsSome x) none some in cc
+
+below : (n limit most : ℕ) (done : Done) → limit ≡ most → (limit ≤ n → IsErr {T = Done} {E = BridgeFault} (Ok done)) → n < most
+below n limit most done is long = by_case (cases_lt n most) where
+  by_case : (n < most) ⊎ (most ≤ n) → n < most
+  by_case (inl few) = few
+  by_case (inr many) = absurd (let no : false ≡ true = long (subst (λ (l : ℕ). l ≤ n) (sym is) many) in cc)
+
+-- a job that ended well has accepted its bytes, which were not too many
+pub accepts_by : {S T U : Type 0} (job : Job) (b a : World S T U) (done : Done) → (meaning_of job).reads ≡ true
+    → Ended (done_of job) b a (Ok done) → IfSome b.left (λ bytes. accepts (Does job) bytes × (length bytes < 2 ^ 32))
+accepts_by job b a done reads ended =
+    let m = done_of job in
+    if_some b.left _ (λ bytes there. (
+      counts_some (m.counts bytes) done (at_some (bytes_for m b) (λ l. m.counts l ≡ Some done) bytes (left_of m b reads ∙ there) (counts_of m b a (Ok done) ended)),
+      below (length bytes) m.limit (2 ^ 32) done (limit_of job)
+          (at_some (bytes_for m b) (λ l. m.limit ≤ length l → IsErr {T = Done} {E = BridgeFault} (Ok done)) bytes (left_of m b reads ∙ there) (long_of m b a (Ok done) ended)),
+    ))
+
+-- and nothing failed
+pub ended_for : {S T U : Type 0} (job : Job) (b a : World S T U) (done : Done) → Ended (done_of job) b a (Ok done)
+    → (a.reads_failed ≡ b.reads_failed) × (a.reports_failed ≡ b.reports_failed) × (a.writes_failed ≡ b.writes_failed)
+ended_for job b a done ended = let same = no_fault (done_of job) b a (Ok done) ended in (same.0, same.2, same.1)
+
+-- one that broke off did so for the object that failed
+pub broke_for : {S T U : Type 0} (b a : World S T U) (fault : BridgeFault) → HasItsCause {T = Unit {0}} (faults_in b) (faults_in a) (Err fault)
+    → RoseFor (cause_of fault) (error_counts b.reads_failed b.writes_failed b.reports_failed) (error_counts a.reads_failed a.writes_failed a.reports_failed)
+broke_for b a ReadFault (rose, same) = (rose, ap (λ (f : Faults). f.report) same)
+broke_for b a WriteFault (rose, same) = (ap (λ (f : Faults). f.input) same, ap (λ (f : Faults). f.report) same, rose)
+broke_for b a ReportFault (rose, same) = (ap (λ (f : Faults). f.input) same, rose)
+broke_for b a NotThisForm same = (ap (λ (f : Faults). f.input) same, ap (λ (f : Faults). f.report) same)
+broke_for b a TooLong same = (ap (λ (f : Faults). f.input) same, ap (λ (f : Faults). f.report) same)
+broke_for b a NoMemory same = (ap (λ (f : Faults). f.input) same, ap (λ (f : Faults). f.report) same)
+
+nothing_said : (left : Option (List ℕ)) → IfSome left (λ bytes. Unit {0})
+nothing_said None = tt
+nothing_said (Some bytes) = tt
+
+-- or for its bytes
+pub breaks_of : {S T U : Type 0} (job : Job) (b a : World S T U) (fault : BridgeFault) → (meaning_of job).reads ≡ true
+    → Broke (done_of job) b a fault → IfSome b.left (λ bytes. breaks_by (Does job) bytes fault)
+breaks_of job b a ReadFault reads broke = nothing_said b.left
+breaks_of job b a WriteFault reads broke = nothing_said b.left
+breaks_of job b a ReportFault reads broke = nothing_said b.left
+breaks_of job b a NotThisForm reads broke =
+    let m = done_of job in
+    if_some b.left _ (λ bytes there.
+    none_counts (m.counts bytes) (at_some (bytes_for m b) (λ l. m.counts l ≡ None) bytes (left_of m b reads ∙ there) broke.says.1))
+breaks_of job b a TooLong reads broke =
+    let m = done_of job in
+    subst (λ (left : Option (List ℕ)). IfSome left (λ bytes. 2 ^ 32 ≤ length bytes)) (left_of m b reads)
+    (with_rest (bytes_for m b) (bytes_for m a) broke.taken (λ bytes. 2 ^ 32 ≤ length bytes) broke.consumes
+    (λ rest there. omega (arith, broke.says, limit_of job, length-append broke.taken rest)))
+breaks_of job b a NoMemory reads broke = nothing_said b.left
+
+-- ---- a copy
+
+copied_bytes : (left : Option (List ℕ)) → IfSome left (λ bytes. length bytes < 2 ^ 32) → IfSome left (λ bytes. accepts Copied bytes × (length bytes < 2 ^ 32))
+copied_bytes None few = tt
+copied_bytes (Some bytes) few = (tt, few)
+
+pub copy_accepts : (left : Option (List ℕ)) (r : Result (Option Done) BridgeFault) → OnOk r (IfSome left (λ bytes. length bytes < 2 ^ 32))
+    → OnOk r (IfSome left (λ bytes. accepts Copied bytes × (length bytes < 2 ^ 32)))
+copy_accepts left (Ok done) few = copied_bytes left few
+copy_accepts left (Err fault) few = tt
+
+none_rises : {A : Type 0} → Rose 0 0 → A
+none_rises rose = absurd (omega (arith, rose))
+
+-- its report stays
+pub copy_ends : (input input_new output output_new report : ℕ) (r : Result (Option Done) BridgeFault)
+    → EndsFor cause_of (error_counts input output 0) (error_counts input_new output_new 0) r
+    → EndsFor cause_of (error_counts input output report) (error_counts input_new output_new report) r
+copy_ends input input_new output output_new report (Ok done) ends = (ends.0, refl, ends.2)
+copy_ends input input_new output output_new report (Err ReadFault) ends = (ends.0, refl)
+copy_ends input input_new output output_new report (Err WriteFault) ends = (ends.0, refl, ends.2)
+copy_ends input input_new output output_new report (Err ReportFault) ends = none_rises ends.1
+copy_ends input input_new output output_new report (Err NotThisForm) ends = (ends.0, refl)
+copy_ends input input_new output output_new report (Err TooLong) ends = (ends.0, refl)
+copy_ends input input_new output output_new report (Err NoMemory) ends = (ends.0, refl)

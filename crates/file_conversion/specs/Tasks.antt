@@ -1,5 +1,9 @@
 -- What a task makes of the bytes that it reads, and what it counts of them.
-use Rattle.std.specs.Prelude.{◌≡◌, ℕ, List, Bool, true, Option, None, Some, IsSome}
+use Rattle.std.specs.Prelude.{◌≡◌, ◌≤◌, ◌^◌, ℕ, List, length, Bool, true, Option, None, Some, IsSome}
+use Rattle.one_run.specs.declared.fault.BridgeFault.{BridgeFault}
+use Rattle.one_run.specs.declared.fault.BridgeFault.TheVariants.{ReadFault, WriteFault, ReportFault, NotThisForm, TooLong, NoMemory}
+use Rattle.whole_file.specs.Steps.{Cause}
+use Rattle.whole_file.specs.Steps.Cause.{Read, Write, Other, NoCall}
 use Rattle.whole_file.specs.declared.kinds.Kind.{Kind}
 use Rattle.bridge_engine.specs.Meanings.{done_of, meaning_of}
 use Rattle.bridge_engine.specs.declared.done.Done.{Done}
@@ -26,3 +30,21 @@ counts_by (Does job) bytes = (done_of job).counts bytes
 abbrev pub accepts : Task → List ℕ → Type 0
 accepts Copied bytes = Unit {0}
 accepts (Does job) bytes = IsSome ((done_of job).counts bytes)
+
+-- what failed in a run that ended with this error: the bytes and the memory are no call
+abbrev pub cause_of : BridgeFault → Cause
+cause_of ReadFault = Read
+cause_of WriteFault = Write
+cause_of ReportFault = Other
+cause_of NotThisForm = NoCall
+cause_of TooLong = NoCall
+cause_of NoMemory = NoCall
+
+-- the bytes of such a run: they are not accepted, or too many
+abbrev pub breaks_by : Task → List ℕ → BridgeFault → Type 0
+breaks_by task bytes ReadFault = Unit {0}
+breaks_by task bytes WriteFault = Unit {0}
+breaks_by task bytes ReportFault = Unit {0}
+breaks_by task bytes NotThisForm = ¬ accepts task bytes
+breaks_by task bytes TooLong = 2 ^ 32 ≤ length bytes
+breaks_by task bytes NoMemory = Unit {0}

@@ -1,11 +1,13 @@
 //! The run of a task.
 
 ghost use Rattle.std.specs.Prelude.{◌≡◌, ◌<◌, ◌^◌, IfErr, IfOk, IfSome, IsSome, OnOk, Some};
+ghost use Rattle.whole_file.specs.Steps.{EndsFor, error_counts};
 ghost use Rattle.std.specs.Prelude.{length, true};
 ghost use Rattle.std.specs.Io.KnownBytes.{Appends};
 ghost use Rattle.nav_io.specs.Causes.{Rose};
 ghost use Rattle.bridge_engine.specs.Meanings.{done_of, meaning_of};
-ghost use Rattle.file_conversion.specs.Tasks.{reads_input};
+ghost use Rattle.file_conversion.specs.Tasks.{accepts, breaks_by, cause_of, reads_input};
+ghost use Rattle.file_conversion.specs.declared.table.Task.TheVariants.{Does};
 
 use crate::copies::copy;
 use crate::table::Task;
@@ -26,6 +28,7 @@ impl<U: Sink> Conversion for TaskRun<U> {
     ghost use Rattle.std.specs.Prelude.{◌≡◌, ◌^◌, ◌<◌, length};
     ghost use Rattle.one_run.specs.declared.fault.BridgeFault.TheVariants.{NoMemory};
     ghost use Rattle.file_conversion.specs.Tasks.{accepts, counts_by, makes_by};
+    ghost use Rattle.file_conversion.specs.Tasks.{breaks_by, cause_of};
 
     type Done = Option<Done>;
 
@@ -40,6 +43,10 @@ impl<U: Sink> Conversion for TaskRun<U> {
     ghost lacks = { λ fault. fault ≡ NoMemory };
 
     ghost faults = { λ s. U.faults s.report };
+
+    ghost cause_of = { λ fault. cause_of fault };
+
+    ghost breaks = { λ s. breaks_by s.task };
 
     /// Does the task.
     fn run<S: Source, T: Sink>(
@@ -74,6 +81,13 @@ fn do_job<S: Source, T: Sink, U: Sink>(
         → ¬ Rose (T.faults output.old) (T.faults output.new)
         → ¬ Rose (U.faults report.old) (U.faults report.new)
         → IfErr result (λ fault. fault ≡ BridgeFault.NoMemory)) }
+    ensures accepts { OnOk result (IfSome (S.left input.old) (λ bytes.
+        accepts (Does job.now) bytes × (length bytes < 2 ^ 32))) }
+    ensures causes { EndsFor cause_of
+        (error_counts (S.faults input.old) (T.faults output.old) (U.faults report.old))
+        (error_counts (S.faults input.new) (T.faults output.new) (U.faults report.new)) result }
+    ensures breaks { IfErr result (λ fault. IfSome (S.left input.old) (λ bytes.
+        breaks_by (Does job.now) bytes fault)) }
 {
     match run_job(alloc, job, input, output, report) {
         Ok(done) => Ok(Some(done)),

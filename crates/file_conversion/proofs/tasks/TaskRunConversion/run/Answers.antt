@@ -1,4 +1,23 @@
+use Rattle.file_conversion.proofs.Running.{copy_accepts, copy_ends}
 use Rattle.file_conversion.proofs.tasks.TaskRunConversion.run.Goals as goal
 
 pub returns-in-Does-clause-complete : goal.returns-in-Does-clause-complete
 returns-in-Does-clause-complete g c = rw c.in-Does.is c.do_job.ensures.complete
+
+pub returns-in-Does-clause-accepts : goal.returns-in-Does-clause-accepts
+returns-in-Does-clause-accepts g c = rw c.in-Does.is c.do_job.ensures.accepts
+
+pub returns-in-Does-clause-causes : goal.returns-in-Does-clause-causes
+returns-in-Does-clause-causes g c = c.do_job.ensures.causes
+
+pub returns-in-Does-clause-breaks : goal.returns-in-Does-clause-breaks
+returns-in-Does-clause-breaks g c = rw c.in-Does.is c.do_job.ensures.breaks
+
+pub returns-in-Copied-clause-accepts : goal.returns-in-Copied-clause-accepts
+returns-in-Copied-clause-accepts g c = rw c.in-Copied.is (copy_accepts _ _ c.copy.ensures.accepts)
+
+pub returns-in-Copied-clause-causes : goal.returns-in-Copied-clause-causes
+returns-in-Copied-clause-causes g c = copy_ends _ _ _ _ _ _ c.copy.ensures.causes
+
+pub returns-in-Copied-clause-breaks : goal.returns-in-Copied-clause-breaks
+returns-in-Copied-clause-breaks g c = rw c.in-Copied.is c.copy.ensures.breaks
