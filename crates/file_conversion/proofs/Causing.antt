@@ -17,7 +17,7 @@ use Rattle.file_conversion.specs.Makes.{AcceptsBy, CanConvert, RejectsBy, kind_u
 use Rattle.file_conversion.specs.Says.{status_for}
 use Rattle.file_conversion.specs.Steps.{EndsSo, IsBegun, IsLack, Made, StopsAhead, told_by}
 use Rattle.file_conversion.specs.Stops.{stopped_by}
-use Rattle.file_conversion.specs.Tasks.{accepts, breaks_by, cause_of}
+use Rattle.file_conversion.specs.Tasks.{accepts, breaks_by, cause_in}
 use Rattle.file_conversion.specs.declared.stops.Stop.{Stop}
 use Rattle.file_conversion.specs.declared.stops.Stop.TheVariants as stops
 use Rattle.file_conversion.specs.declared.table.Plan.{Plan}
@@ -83,7 +83,7 @@ none_rejects task read none not = subst (λ (t : Option Task). RejectsBy t read)
 run_from : (plan : Plan) (source left : Option (List ℕ)) (task : Task) (inner inner_new told told_new count : ℕ) (before now : FileErrors)
     (fault : BridgeFault) → IsBegun plan source left task
     → (Rose inner inner_new → Rose before.source now.source ⊎ (too_many ≤ count)) → (Rose told told_new → Rose before.report now.report)
-    → RoseFor (cause_of fault) (error_counts inner before.folder told) (error_counts inner_new now.folder told_new)
+    → RoseFor (cause_in fault) (error_counts inner before.folder told) (error_counts inner_new now.folder told_new)
     → IfSome left (λ read. breaks_by task read fault) → RunComesFrom plan source before now count fault
 run_from plan source left task inner inner_new told told_new count before now runs.ReadFault is read tell rose breaks = read rose.0
 run_from plan source left task inner inner_new told told_new count before now runs.WriteFault is read tell rose breaks = rose.2
@@ -105,7 +105,7 @@ pub comes_of : (plan : Plan) (source left : Option (List ℕ)) (task : Task) (ki
     (done : Result Made (StepFault BridgeFault)) (result : Result Made Stop)
     → IsBegun plan source left task → result ≡ stopped_by kind done count
     → inner ≡ reads → (count < too_many → inner_new ≡ reads_new) → told ≡ reports → reports_new ≡ told_new
-    → StepEndsFor cause_of (error_counts inner folder told) (error_counts inner_new folder_new told_new) names names_new done
+    → StepEndsFor cause_in (error_counts inner folder told) (error_counts inner_new folder_new told_new) names names_new done
     → IfErr done (λ fault. IfSome left (λ read. IfBrokeOff (breaks_by task read) fault))
     → IfErr result (ComesFrom plan source (file_errors reads folder reports names) (file_errors reads_new folder_new reports_new names_new))
 comes_of plan source left task kind count reads reads_new inner inner_new folder folder_new told told_new reports reports_new names names_new done result
@@ -113,7 +113,7 @@ comes_of plan source left task kind count reads reads_new inner inner_new folder
     subst (λ (r : Result Made Stop). IfErr r (ComesFrom plan source (file_errors reads folder reports names) (file_errors reads_new folder_new reports_new names_new)))
     (sym so) (by_end done ends breaks) where
       by_end : (done : Result Made (StepFault BridgeFault))
-          → StepEndsFor cause_of (error_counts inner folder told) (error_counts inner_new folder_new told_new) names names_new done
+          → StepEndsFor cause_in (error_counts inner folder told) (error_counts inner_new folder_new told_new) names names_new done
           → IfErr done (λ fault. IfSome left (λ read. IfBrokeOff (breaks_by task read) fault))
           → IfErr (stopped_by kind done count)
           (ComesFrom plan source (file_errors reads folder reports names) (file_errors reads_new folder_new reports_new names_new))
@@ -133,7 +133,7 @@ comes_of plan source left task kind count reads reads_new inner inner_new folder
 pub unread_of : (kind : Kind) (count reads reads_new inner inner_new folder folder_new told told_new names names_new : ℕ)
     (done : Result Made (StepFault BridgeFault)) (result : Result Made Stop) → result ≡ stopped_by kind done count
     → inner ≡ reads → reads_new ≤ inner_new
-    → StepEndsFor cause_of (error_counts inner folder told) (error_counts inner_new folder_new told_new) names names_new done
+    → StepEndsFor cause_in (error_counts inner folder told) (error_counts inner_new folder_new told_new) names names_new done
     → reads < reads_new → StopsWith 3 result
 unread_of kind count reads reads_new inner inner_new folder folder_new told told_new names names_new done result so same most ends rise =
     subst (StopsWith 3) (sym so) (by_end done ends) where
@@ -141,7 +141,7 @@ unread_of kind count reads reads_new inner inner_new folder folder_new told told
       never still = absurd (omega (arith, still, same, most, rise))
 
       by_fault : (fault : BridgeFault) (gave_up : Result (Unit {0}) FileFault)
-          → RoseFor (cause_of fault) (error_counts inner folder told) (error_counts inner_new folder_new told_new)
+          → RoseFor (cause_in fault) (error_counts inner folder told) (error_counts inner_new folder_new told_new)
           → StopsWith 3 (stopped_by kind (Err (Run fault gave_up)) count)
       by_fault runs.ReadFault gave_up rose = refl
       by_fault runs.WriteFault gave_up rose = never rose.0
@@ -151,7 +151,7 @@ unread_of kind count reads reads_new inner inner_new folder folder_new told told
       by_fault runs.NoMemory gave_up rose = never rose.0
 
       by_end : (done : Result Made (StepFault BridgeFault))
-          → StepEndsFor cause_of (error_counts inner folder told) (error_counts inner_new folder_new told_new) names names_new done
+          → StepEndsFor cause_in (error_counts inner folder told) (error_counts inner_new folder_new told_new) names names_new done
           → StopsWith 3 (stopped_by kind done count)
       by_end (Ok made) ends = never ends.0
       by_end (Err (Begin file)) ends = never ends.0.0
@@ -163,7 +163,7 @@ unread_of kind count reads reads_new inner inner_new folder folder_new told told
 pub unreported_of : (kind : Kind) (count inner inner_new folder folder_new told told_new reports reports_new names names_new : ℕ)
     (done : Result Made (StepFault BridgeFault)) (result : Result Made Stop) → result ≡ stopped_by kind done count
     → told ≡ reports → reports_new ≡ told_new
-    → StepEndsFor cause_of (error_counts inner folder told) (error_counts inner_new folder_new told_new) names names_new done
+    → StepEndsFor cause_in (error_counts inner folder told) (error_counts inner_new folder_new told_new) names names_new done
     → reports < reports_new → StopsWith 7 result
 unreported_of kind count inner inner_new folder folder_new told told_new reports reports_new names names_new done result so same same_new ends rise =
     subst (StopsWith 7) (sym so) (by_end done ends) where
@@ -171,7 +171,7 @@ unreported_of kind count inner inner_new folder folder_new told told_new reports
       never still = absurd (omega (arith, still, same, same_new, rise))
 
       by_fault : (fault : BridgeFault) (gave_up : Result (Unit {0}) FileFault)
-          → RoseFor (cause_of fault) (error_counts inner folder told) (error_counts inner_new folder_new told_new)
+          → RoseFor (cause_in fault) (error_counts inner folder told) (error_counts inner_new folder_new told_new)
           → StopsWith 7 (stopped_by kind (Err (Run fault gave_up)) count)
       by_fault runs.ReadFault gave_up rose = never rose.1
       by_fault runs.WriteFault gave_up rose = never rose.1
@@ -181,7 +181,7 @@ unreported_of kind count inner inner_new folder folder_new told told_new reports
       by_fault runs.NoMemory gave_up rose = never rose.1
 
       by_end : (done : Result Made (StepFault BridgeFault))
-          → StepEndsFor cause_of (error_counts inner folder told) (error_counts inner_new folder_new told_new) names names_new done
+          → StepEndsFor cause_in (error_counts inner folder told) (error_counts inner_new folder_new told_new) names names_new done
           → StopsWith 7 (stopped_by kind done count)
       by_end (Ok made) ends = never ends.1
       by_end (Err (Begin file)) ends = never ends.0.1
@@ -192,11 +192,11 @@ unreported_of kind count inner inner_new folder folder_new told told_new reports
 -- a name that was not given
 pub unnamed_of : (kind : Kind) (count inner inner_new folder folder_new told told_new names names_new : ℕ)
     (done : Result Made (StepFault BridgeFault)) (result : Result Made Stop) → result ≡ stopped_by kind done count
-    → StepEndsFor cause_of (error_counts inner folder told) (error_counts inner_new folder_new told_new) names names_new done
+    → StepEndsFor cause_in (error_counts inner folder told) (error_counts inner_new folder_new told_new) names names_new done
     → names < names_new → result ≡ Err stops.Unnamed
 unnamed_of kind count inner inner_new folder folder_new told told_new names names_new done result so ends rise = so ∙ by_end done ends where
   by_end : (done : Result Made (StepFault BridgeFault))
-      → StepEndsFor cause_of (error_counts inner folder told) (error_counts inner_new folder_new told_new) names names_new done
+      → StepEndsFor cause_in (error_counts inner folder told) (error_counts inner_new folder_new told_new) names names_new done
       → stopped_by kind done count ≡ Err stops.Unnamed
   by_end (Ok made) ends = no_rise names names_new ends.3 rise
   by_end (Err (Begin file)) ends = no_rise names names_new ends.1 rise
@@ -208,7 +208,7 @@ unnamed_of kind count inner inner_new folder folder_new told told_new names name
 pub unwritten_of : (plan : Plan) (source : Option (List ℕ)) (kind : Kind) (count inner inner_new folder folder_new told told_new names names_new : ℕ)
     (before now : FileErrors) (done : Result Made (StepFault BridgeFault)) (result : Result Made Stop) → result ≡ stopped_by kind done count
     → before.names ≡ names → now.names ≡ names_new
-    → StepEndsFor cause_of (error_counts inner folder told) (error_counts inner_new folder_new told_new) names names_new done
+    → StepEndsFor cause_in (error_counts inner folder told) (error_counts inner_new folder_new told_new) names names_new done
     → IfErr result (ComesFrom plan source before now)
     → IfSome source (λ bytes. CanConvert plan bytes → folder < folder_new → (Rose before.source now.source → ⊥) → (Rose before.report now.report → ⊥)
     → (Rose before.names now.names → ⊥) → StopsOrLacks 4 result)
@@ -228,7 +228,7 @@ unwritten_of plan (Some bytes) kind count inner inner_new folder folder_new told
       by_fault runs.NoMemory gave_up none can no_read no_report = inr (inl refl)
 
       by_end : (done : Result Made (StepFault BridgeFault))
-          → StepEndsFor cause_of (error_counts inner folder told) (error_counts inner_new folder_new told_new) names names_new done
+          → StepEndsFor cause_in (error_counts inner folder told) (error_counts inner_new folder_new told_new) names names_new done
           → IfErr (stopped_by kind done count) (ComesFrom plan (Some bytes) before now)
           → CanConvert plan bytes → folder < folder_new → (Rose before.source now.source → ⊥) → (Rose before.report now.report → ⊥)
           → (Rose before.names now.names → ⊥) → StopsOrLacks 4 (stopped_by kind done count)

@@ -10,7 +10,7 @@ use Rattle.one_run.proofs.Surface.{complete_of, counts_of, long_of, no_fault, te
 use Rattle.one_run.specs.declared.fault.BridgeFault.{BridgeFault}
 use Rattle.one_run.specs.declared.fault.BridgeFault.TheVariants.{ReadFault, WriteFault, ReportFault, NotThisForm, TooLong, NoMemory}
 use Rattle.whole_file.specs.Steps.{EndsFor, RoseFor, error_counts}
-use Rattle.file_conversion.specs.Tasks.{accepts, breaks_by, cause_of}
+use Rattle.file_conversion.specs.Tasks.{accepts, breaks_by, cause_in}
 use Rattle.file_conversion.specs.declared.table.Task.{Task}
 use Rattle.file_conversion.specs.declared.table.Task.TheVariants.{Copied, Does}
 use Rattle.bridge_engine.specs.Meanings.{done_of, meaning_of}
@@ -111,7 +111,7 @@ ended_for job b a done ended = let same = no_fault (done_of job) b a (Ok done) e
 
 -- one that broke off did so for the object that failed
 pub broke_for : {S T U : Type 0} (b a : World S T U) (fault : BridgeFault) → HasItsCause {T = Unit {0}} (faults_in b) (faults_in a) (Err fault)
-    → RoseFor (cause_of fault) (error_counts b.reads_failed b.writes_failed b.reports_failed) (error_counts a.reads_failed a.writes_failed a.reports_failed)
+    → RoseFor (cause_in fault) (error_counts b.reads_failed b.writes_failed b.reports_failed) (error_counts a.reads_failed a.writes_failed a.reports_failed)
 broke_for b a ReadFault (rose, same) = (rose, ap (λ (f : Faults). f.report) same)
 broke_for b a WriteFault (rose, same) = (ap (λ (f : Faults). f.input) same, ap (λ (f : Faults). f.report) same, rose)
 broke_for b a ReportFault (rose, same) = (ap (λ (f : Faults). f.input) same, rose)
@@ -156,8 +156,8 @@ none_rises rose = absurd (omega (arith, rose))
 
 -- its report stays
 pub copy_ends : (input input_new output output_new report : ℕ) (r : Result (Option Done) BridgeFault)
-    → EndsFor cause_of (error_counts input output 0) (error_counts input_new output_new 0) r
-    → EndsFor cause_of (error_counts input output report) (error_counts input_new output_new report) r
+    → EndsFor cause_in (error_counts input output 0) (error_counts input_new output_new 0) r
+    → EndsFor cause_in (error_counts input output report) (error_counts input_new output_new report) r
 copy_ends input input_new output output_new report (Ok done) ends = (ends.0, refl, ends.2)
 copy_ends input input_new output output_new report (Err ReadFault) ends = (ends.0, refl)
 copy_ends input input_new output output_new report (Err WriteFault) ends = (ends.0, refl, ends.2)

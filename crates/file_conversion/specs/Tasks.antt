@@ -32,13 +32,13 @@ accepts Copied bytes = Unit {0}
 accepts (Does job) bytes = IsSome ((done_of job).counts bytes)
 
 -- what failed in a run that ended with this error: the bytes and the memory are no call
-abbrev pub cause_of : BridgeFault → Cause
-cause_of ReadFault = Read
-cause_of WriteFault = Write
-cause_of ReportFault = Other
-cause_of NotThisForm = NoCall
-cause_of TooLong = NoCall
-cause_of NoMemory = NoCall
+abbrev pub cause_in : BridgeFault → Cause
+cause_in ReadFault = Read
+cause_in WriteFault = Write
+cause_in ReportFault = Other
+cause_in NotThisForm = NoCall
+cause_in TooLong = NoCall
+cause_in NoMemory = NoCall
 
 -- the bytes of such a run: they are not accepted, or too many
 abbrev pub breaks_by : Task → List ℕ → BridgeFault → Type 0

@@ -30,7 +30,9 @@ use whole_file::{Folder, Namer, Progress, put_output};
 /// # Errors
 ///
 /// Every name but that of the part is as it was, and the part is removed if the directory can
-/// remove it.
+/// remove it. Each [`Stop`] has its cause, and each cause its exit status: 2 no such conversion, 3
+/// the input, 4 the output, 5 bytes that are not accepted or an output without a name, 6 memory, 7
+/// the report, 8 too many bytes.
 pub fn convert_one<F: Folder, U: Sink, N: Refused + Drop, P: Progress, A: Namer<Option<Done>>>(
     alloc: Global,
     plan: &Plan,

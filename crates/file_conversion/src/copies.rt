@@ -4,7 +4,7 @@ ghost use Rattle.std.specs.Prelude.{◌≡◌, ◌<◌, ◌≤◌, ◌^◌, IfEr
 ghost use Rattle.std.specs.Io.KnownBytes.{Appends};
 ghost use Rattle.nav_io.specs.Causes.{Rose};
 ghost use Rattle.whole_file.specs.Steps.{EndsFor, error_counts};
-ghost use Rattle.file_conversion.specs.Tasks.{breaks_by, cause_of};
+ghost use Rattle.file_conversion.specs.Tasks.{breaks_by, cause_in};
 ghost use Rattle.file_conversion.specs.declared.table.Task.TheVariants.{Copied};
 
 use bridge_engine::{BridgeFault, Done};
@@ -24,7 +24,7 @@ pub fn copy<S: Source, T: Sink>(input: &mut S, output: &mut T) -> Result<Option<
         → ¬ Rose (T.faults output.old) (T.faults output.new)
         → IsOk result) }
     ensures accepts { OnOk result (IfSome (S.left input.old) (λ bytes. length bytes < 2 ^ 32)) }
-    ensures causes { EndsFor cause_of
+    ensures causes { EndsFor cause_in
         (error_counts (S.faults input.old) (T.faults output.old) 0)
         (error_counts (S.faults input.new) (T.faults output.new) 0) result }
     ensures breaks { IfErr result (λ fault. IfSome (S.left input.old) (λ bytes.

@@ -6,7 +6,7 @@ ghost use Rattle.std.specs.Prelude.{length, true};
 ghost use Rattle.std.specs.Io.KnownBytes.{Appends};
 ghost use Rattle.nav_io.specs.Causes.{Rose};
 ghost use Rattle.bridge_engine.specs.Meanings.{done_of, meaning_of};
-ghost use Rattle.file_conversion.specs.Tasks.{accepts, breaks_by, cause_of, reads_input};
+ghost use Rattle.file_conversion.specs.Tasks.{accepts, breaks_by, cause_in, reads_input};
 ghost use Rattle.file_conversion.specs.declared.table.Task.TheVariants.{Does};
 
 use crate::copies::copy;
@@ -28,7 +28,7 @@ impl<U: Sink> Conversion for TaskRun<U> {
     ghost use Rattle.std.specs.Prelude.{◌≡◌, ◌^◌, ◌<◌, length};
     ghost use Rattle.one_run.specs.declared.fault.BridgeFault.TheVariants.{NoMemory};
     ghost use Rattle.file_conversion.specs.Tasks.{accepts, counts_by, makes_by};
-    ghost use Rattle.file_conversion.specs.Tasks.{breaks_by, cause_of};
+    ghost use Rattle.file_conversion.specs.Tasks.{breaks_by, cause_in};
 
     type Done = Option<Done>;
 
@@ -44,7 +44,7 @@ impl<U: Sink> Conversion for TaskRun<U> {
 
     ghost faults = { λ s. U.faults s.report };
 
-    ghost cause_of = { λ fault. cause_of fault };
+    ghost cause_of = { λ fault. cause_in fault };
 
     ghost breaks = { λ s. breaks_by s.task };
 
@@ -83,7 +83,7 @@ fn do_job<S: Source, T: Sink, U: Sink>(
         → IfErr result (λ fault. fault ≡ BridgeFault.NoMemory)) }
     ensures accepts { OnOk result (IfSome (S.left input.old) (λ bytes.
         accepts (Does job.now) bytes × (length bytes < 2 ^ 32))) }
-    ensures causes { EndsFor cause_of
+    ensures causes { EndsFor cause_in
         (error_counts (S.faults input.old) (T.faults output.old) (U.faults report.old))
         (error_counts (S.faults input.new) (T.faults output.new) (U.faults report.new)) result }
     ensures breaks { IfErr result (λ fault. IfSome (S.left input.old) (λ bytes.
