@@ -108,6 +108,12 @@ none_asked plan (Some bytes) kind task A is found none = λ (can, few). λ a.
     let nothing : task_for plan (kind_under plan bytes) ≡ None = subst (λ (k : Kind). task_for plan k ≡ None) is (sym found ∙ none) in
     absurd (subst (λ (t : Option Task). AcceptsBy t (read_under plan bytes)) nothing can)
 
+-- that is why
+pub none_ahead : (plan : Plan) (source : Option (List ℕ)) (kind : Kind) (task : Option Task) → ReadsUnder plan source kind
+    → task ≡ task_for plan kind → task ≡ None → IfSome source (λ bytes. (task_under plan bytes ≡ None) × (kind ≡ kind_under plan bytes))
+none_ahead plan None kind task is found none = tt
+none_ahead plan (Some bytes) kind task is found none = (subst (λ (k : Kind). task_for plan k ≡ None) is (sym found ∙ none), is)
+
 -- ---- a conversion that is begun, or is not
 
 kept : (bytes : List ℕ) (left : Option (List ℕ)) → Keeps (Some bytes) left → left ≡ Some bytes

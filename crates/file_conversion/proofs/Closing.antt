@@ -24,7 +24,7 @@ use Rattle.file_conversion.specs.declared.table.Task.{Task}
 abbrev pub Folders : Type 0
 Folders = Option (List ℕ → Option (List ℕ))
 
-always : (left : Option (List ℕ)) (P : List ℕ → Type 0) → ((bytes : List ℕ) → P bytes) → IfSome left P
+pub always : (left : Option (List ℕ)) (P : List ℕ → Type 0) → ((bytes : List ℕ) → P bytes) → IfSome left P
 always None P each = tt
 always (Some bytes) P each = each bytes
 
@@ -32,7 +32,7 @@ mapped : (left : Option (List ℕ)) (P Q : List ℕ → Type 0) → ((bytes : Li
 mapped None P Q f all = tt
 mapped (Some bytes) P Q f all = f bytes all
 
-rose_same : (a b c d : ℕ) → a ≡ b → c ≡ d → Rose a c → Rose b d
+pub rose_same : (a b c d : ℕ) → a ≡ b → c ≡ d → Rose a c → Rose b d
 rose_same a b c d e f rose = omega arith
 
 -- ---- how the conversion has ended, by how the step has
@@ -149,7 +149,7 @@ pub none_ok : (done : Result Made Stop) (A : Made → Type 0) → OnOk done ⊥ 
 none_ok (Ok made) A never = absurd never
 none_ok (Err stop) A never = tt
 
-none_told : (done : Result Made Stop) (A : Type 0) → OnOk done ⊥ → OnOk done A
+pub none_told : (done : Result Made Stop) (A : Type 0) → OnOk done ⊥ → OnOk done A
 none_told (Ok made) A never = absurd never
 none_told (Err stop) A never = tt
 
@@ -200,7 +200,7 @@ stays_of old opened put new part same same_new stays =
     subst (λ (f : Folders). Stays f new part) same (subst (λ (f : Folders). Stays opened f part) (sym same_new) stays)
 
 -- what is so of the bytes of the source is so of those of the file
-of_file : (files : Folders) (from : List ℕ) (source : Option (List ℕ)) (P : List ℕ → Type 0) → Opens files from source → IfSome source P
+pub of_file : (files : Folders) (from : List ℕ) (source : Option (List ℕ)) (P : List ℕ → Type 0) → Opens files from source → IfSome source P
     → IfSome (bytes_of files from) P
 of_file None from source P opens all = tt
 of_file (Some files) from source P (bytes, there, has) all = subst (λ (o : Option (List ℕ)). IfSome o P) (has ∙ sym there) all
@@ -227,10 +227,10 @@ pub counts_file : (plan : Plan) (files : Folders) (from : List ℕ) (source : Op
     → IfSome source (λ bytes. CountsAs plan bytes done) → IfSome (bytes_of files from) (λ bytes. CountsAs plan bytes done)
 counts_file plan files from source done opens all = of_file files from source _ opens all
 
-rose_later : (a b c d : ℕ) → a ≡ b → Rose b c → c ≤ d → Rose a d
+pub rose_later : (a b c d : ℕ) → a ≡ b → Rose b c → c ≤ d → Rose a d
 rose_later a b c d same rose later = omega arith
 
-rose_before : (a b c d : ℕ) → a ≡ b → b ≤ c → Rose c d → Rose a d
+pub rose_before : (a b c d : ℕ) → a ≡ b → b ≤ c → Rose c d → Rose a d
 rose_before a b c d same before rose = omega arith
 
 -- a read that failed fails the close

@@ -3,4 +3,5 @@ mod Copying
 mod Running
 mod Beginning
 mod Closing
+mod Causing
 mod Statuses

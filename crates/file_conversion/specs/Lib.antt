@@ -10,3 +10,4 @@ pub mod Names
 pub mod Long
 pub mod KindTexts
 pub mod Says
+pub mod Causes

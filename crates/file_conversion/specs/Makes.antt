@@ -41,6 +41,11 @@ abbrev pub AcceptsBy : Option Task → List ℕ → Type 0
 AcceptsBy None read = ⊥
 AcceptsBy (Some task) read = accepts task read
 
+-- what is read is not accepted by what is done with it
+abbrev pub RejectsBy : Option Task → List ℕ → Type 0
+RejectsBy None read = ⊥
+RejectsBy (Some task) read = ¬ accepts task read
+
 -- What is made of the bytes of a file, under the format that they show or the plan names: the
 -- complete output of the conversion for it. A log is converted as its capture, and to a capture it
 -- is that capture itself.

@@ -76,6 +76,14 @@ abbrev pub IsBegun : Plan → Option (List ℕ) → Option (List ℕ) → Task �
 IsBegun plan source left task =
     IfSome source (λ bytes. (left ≡ Some (read_under plan bytes)) × (task_under plan bytes ≡ Some task))
 
+-- why nothing was begun: a read failed, or there is no conversion of the format or no memory, and then no read failed
+abbrev pub StopsAhead : Plan → Option (List ℕ) → ℕ → ℕ → Stop → Type 0
+StopsAhead plan source reads reads_new (stops.Look told) = Rose reads reads_new
+StopsAhead plan source reads reads_new (stops.NoConversion kind) =
+    (reads_new ≡ reads) × IfSome source (λ bytes. (task_under plan bytes ≡ None) × (kind ≡ kind_under plan bytes))
+StopsAhead plan source reads reads_new stops.NoMemory = reads_new ≡ reads
+StopsAhead plan source reads reads_new stop = ⊥
+
 -- of a source with these bytes nothing is made: they can't be converted, a read failed or memory was wanting
 pub record IsStopped (plan : Plan) (source : Option (List ℕ)) (reads reads_new : ℕ) (done : Result Made Stop) : Type 0 where
   pub never : OnOk done ⊥

@@ -1,5 +1,9 @@
 -- What a task makes of the bytes that it reads, and what it counts of them.
-use Rattle.std.specs.Prelude.{◌≡◌, ℕ, List, Bool, true, Option, None, Some, IsSome}
+use Rattle.std.specs.Prelude.{◌≡◌, ◌≤◌, ◌^◌, ℕ, List, length, Bool, true, Option, None, Some, IsSome}
+use Rattle.one_run.specs.declared.fault.BridgeFault.{BridgeFault}
+use Rattle.one_run.specs.declared.fault.BridgeFault.TheVariants.{ReadFault, WriteFault, ReportFault, NotThisForm, TooLong, NoMemory}
+use Rattle.whole_file.specs.Steps.{Cause}
+use Rattle.whole_file.specs.Steps.Cause.{Read, Write, Other, NoCall}
 use Rattle.one_run.specs.Ends.{giving}
 use Rattle.one_run.specs.Runs.{Meaning}
 use Rattle.system_streams.specs.Streams.{systems_meaning}
@@ -37,3 +41,21 @@ abbrev pub accepts : Task → List ℕ → Type 0
 accepts Copied bytes = Unit {0}
 accepts (Does job) bytes = IsSome ((done_of job).counts bytes)
 accepts (Systems job) bytes = IsSome ((systems_of job).counts bytes)
+
+-- what failed in a run that ended with this error: the bytes and the memory are no call
+abbrev pub cause_in : BridgeFault → Cause
+cause_in ReadFault = Read
+cause_in WriteFault = Write
+cause_in ReportFault = Other
+cause_in NotThisForm = NoCall
+cause_in TooLong = NoCall
+cause_in NoMemory = NoCall
+
+-- the bytes of such a run, which are accepted or not: they are not, or they are too many
+abbrev pub breaks_by : Type 0 → List ℕ → BridgeFault → Type 0
+breaks_by Accepted bytes ReadFault = Unit {0}
+breaks_by Accepted bytes WriteFault = Unit {0}
+breaks_by Accepted bytes ReportFault = Unit {0}
+breaks_by Accepted bytes NotThisForm = ¬ Accepted
+breaks_by Accepted bytes TooLong = 2 ^ 32 ≤ length bytes
+breaks_by Accepted bytes NoMemory = Unit {0}

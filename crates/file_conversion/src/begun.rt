@@ -7,6 +7,7 @@ ghost use Rattle.std.specs.Io.KnownBytes.{Keeps};
 ghost use Rattle.nav_io.specs.Causes.{Rose};
 ghost use Rattle.file_conversion.specs.Makes.{CanConvert, ReadsUnder, kind_under, task_under};
 ghost use Rattle.file_conversion.specs.Steps.{IsBegun, IsLack, IsReady, IsStopped};
+ghost use Rattle.file_conversion.specs.Steps.{StopsAhead};
 
 use crate::ends::{Observers, Outcome, Sourced};
 use crate::reading::{Input, reading_of};
@@ -47,6 +48,9 @@ pub(crate) fn begin<S: Source, U: Sink, N: Refused + Drop, P: Progress>(
         (λ left. left.outcome.kind ≡ None) }
     ensures stopped { IfErr result (λ left. IsStopped plan.now (S.left source)
         (S.faults source) (S.faults left.source) left.outcome.done) }
+    ensures ahead { IfErr result (λ left. IfErr left.outcome.done (StopsAhead plan.now
+        (S.left source) (S.faults source) (S.faults left.source))) }
+    ensures unreported { IfErr result (λ left. left.outcome.report ≡ observers.report) }
 {
     let mut input = Peeked::new(alloc, source);
     let Observers {
@@ -86,6 +90,8 @@ fn prepare<S: Source>(plan: &Plan, input: &mut Peeked<S>) -> Result<Ready, Stop>
         task_under plan.now bytes ≡ None
         → ¬ Rose (S.faults input.old.source) (S.faults input.new.source)
         → (stop ≡ Stop.NoConversion (kind_under plan.now bytes)) ⊎ (stop ≡ Stop.NoMemory))) }
+    ensures ahead { IfErr result (StopsAhead plan.now (S.left input.old.source)
+        (S.faults input.old.source) (S.faults input.new.source)) }
 {
     match look(plan.form, input) {
         Ok(kind) => match task_for(plan, kind) {

@@ -1,12 +1,16 @@
 //! From the file of one name, or a source, to the file of another.
 
-ghost use Rattle.std.specs.Prelude.{◌≡◌, ◌≤◌, IfErr, IfOk, IfSome, None, OnErr};
+ghost use Rattle.std.specs.Prelude.{◌≡◌, ◌⊎◌, ◌<◌, ◌≤◌, Err, IfErr, IfOk, IfSome, None, OnErr};
+ghost use Rattle.std.specs.Prelude.{OnOk};
 ghost use Rattle.std.specs.String.{string_bytes};
 ghost use Rattle.nav_io.specs.Causes.{Rose};
 ghost use Rattle.whole_file.specs.Files.{Stays};
 ghost use Rattle.whole_file.specs.Steps.{bytes_of};
 ghost use Rattle.file_conversion.specs.Makes.{CanConvert, ConvertsAs, CountsAs, PutsAs};
 ghost use Rattle.file_conversion.specs.Makes.{kind_under, task_under};
+ghost use Rattle.file_conversion.specs.Says.{status_for};
+ghost use Rattle.file_conversion.specs.Causes.{ComesFrom, StopsFor, StopsOrLacks, StopsWith};
+ghost use Rattle.file_conversion.specs.Causes.{file_errors};
 ghost use Rattle.file_conversion.specs.Steps.{IsLack, IsMissing, IsNotOpened, IsUnconverted};
 ghost use Rattle.file_conversion.specs.Steps.{TellsForm};
 
@@ -26,7 +30,9 @@ use whole_file::{Folder, Namer, Progress, put_output};
 /// # Errors
 ///
 /// Every name but that of the part is as it was, and the part is removed if the directory can
-/// remove it.
+/// remove it. Each [`Stop`] has its cause, and each cause its exit status: 2 no such conversion, 3
+/// the input, 4 the output, 5 bytes that are not accepted or an output without a name, 6 memory, 7
+/// the report, 8 too many bytes.
 pub fn convert_one<F: Folder, U: Sink, N: Refused + Drop, P: Progress, A: Namer<Option<Done>>>(
     alloc: Global,
     plan: &Plan,
@@ -63,6 +69,34 @@ pub fn convert_one<F: Folder, U: Sink, N: Refused + Drop, P: Progress, A: Namer<
         → ¬ Rose (A.faults names.old) (A.faults names.new)
         → ¬ Rose (F.faults folder.old) (F.faults folder.new)
         → IfErr result.done IsLack) }
+
+    // It is done only with bytes that are accepted, and each reason has its cause. A read that
+    // fails counts as an error of the directory.
+    ensures accepted { OnOk result.done (IfSome (bytes_of (F.files folder.old) from.now)
+        (λ bytes. CanConvert plan.now bytes)) }
+    ensures cause { IfErr result.done (ComesFrom plan.now
+        (bytes_of (F.files folder.old) from.now)
+        (file_errors (F.faults folder.old) (F.faults folder.old) (U.faults observers.report)
+        (A.faults names.old))
+        (file_errors (F.faults folder.new) (F.faults folder.new) (U.faults result.report)
+        (A.faults names.new))) }
+
+    // Each cause has its reason: the report 7, the namer 5; if nothing fails bytes that are not
+    // accepted 5, and too many 8; and where only the directory fails it is done, or 3 or 4.
+    ensures unreported { U.faults observers.report < U.faults result.report
+        → StopsWith 7 result.done }
+    ensures unnamed { A.faults names.old < A.faults names.new → result.done ≡ Err Stop.Unnamed }
+    ensures rejected { IfSome (bytes_of (F.files folder.old) from.now) (λ bytes.
+        ¬ Rose (U.faults observers.report) (U.faults result.report)
+        → ¬ Rose (A.faults names.old) (A.faults names.new)
+        → ¬ Rose (F.faults folder.old) (F.faults folder.new)
+        → StopsFor plan.now bytes result.done) }
+    ensures failed { IfSome (bytes_of (F.files folder.old) from.now) (λ bytes.
+        CanConvert plan.now bytes
+        → ¬ Rose (U.faults observers.report) (U.faults result.report)
+        → ¬ Rose (A.faults names.old) (A.faults names.new)
+        → IfErr result.done (λ stop. (status_for stop ≡ 3)
+        ⊎ ((status_for stop ≡ 4) ⊎ IsLack stop))) }
 {
     match folder.open(from) {
         Ok(input) => {
@@ -123,6 +157,35 @@ pub fn convert_source<
         → ¬ Rose (A.faults names.old) (A.faults names.new)
         → ¬ Rose (F.faults folder.old) (F.faults folder.new)
         → IfErr result.outcome.done IsLack) }
+
+    // It is done only with bytes that are accepted, and each reason has its cause.
+    ensures accepted { OnOk result.outcome.done (IfSome (S.left source) (λ bytes.
+        CanConvert plan.now bytes)) }
+    ensures cause { IfErr result.outcome.done (ComesFrom plan.now (S.left source)
+        (file_errors (S.faults source) (F.faults folder.old) (U.faults observers.report)
+        (A.faults names.old))
+        (file_errors (S.faults result.source) (F.faults folder.new)
+        (U.faults result.outcome.report) (A.faults names.new))) }
+
+    // Each cause has its reason: a read that fails 3, the report 7, the namer 5; the directory, if
+    // nothing else fails, 4; and if nothing fails bytes that are not accepted 5, and too many 8.
+    ensures unread { S.faults source < S.faults result.source → StopsWith 3 result.outcome.done }
+    ensures unreported { U.faults observers.report < U.faults result.outcome.report
+        → StopsWith 7 result.outcome.done }
+    ensures unnamed { A.faults names.old < A.faults names.new
+        → result.outcome.done ≡ Err Stop.Unnamed }
+    ensures unwritten { IfSome (S.left source) (λ bytes. CanConvert plan.now bytes
+        → F.faults folder.old < F.faults folder.new
+        → ¬ Rose (S.faults source) (S.faults result.source)
+        → ¬ Rose (U.faults observers.report) (U.faults result.outcome.report)
+        → ¬ Rose (A.faults names.old) (A.faults names.new)
+        → StopsOrLacks 4 result.outcome.done) }
+    ensures rejected { IfSome (S.left source) (λ bytes.
+        ¬ Rose (S.faults source) (S.faults result.source)
+        → ¬ Rose (U.faults observers.report) (U.faults result.outcome.report)
+        → ¬ Rose (A.faults names.old) (A.faults names.new)
+        → ¬ Rose (F.faults folder.old) (F.faults folder.new)
+        → StopsFor plan.now bytes result.outcome.done) }
 {
     match begin(alloc, plan, source, observers) {
         Ok(begun) => {

@@ -1,8 +1,11 @@
 //! A copy of a source.
 
-ghost use Rattle.std.specs.Prelude.{◌≡◌, ◌<◌, ◌^◌, IfOk, IfSome, IsOk, None, OnOk, length};
+ghost use Rattle.std.specs.Prelude.{◌≡◌, ◌<◌, ◌≤◌, ◌^◌, IfErr, IfOk, IfSome, IsOk, None, OnOk, length};
 ghost use Rattle.std.specs.Io.KnownBytes.{Appends};
 ghost use Rattle.nav_io.specs.Causes.{Rose};
+ghost use Rattle.whole_file.specs.Steps.{EndsFor, error_counts};
+ghost use Rattle.file_conversion.specs.Tasks.{accepts, breaks_by, cause_in};
+ghost use Rattle.file_conversion.specs.declared.table.Task.TheVariants.{Copied};
 
 use bridge_engine::{BridgeFault, Done};
 use nav_io::{Failed, MOST_TAKEN, Sink, Source, read_piece};
@@ -20,6 +23,12 @@ pub fn copy<S: Source, T: Sink>(input: &mut S, output: &mut T) -> Result<Option<
         → ¬ Rose (S.faults input.old) (S.faults input.new)
         → ¬ Rose (T.faults output.old) (T.faults output.new)
         → IsOk result) }
+    ensures accepts { OnOk result (IfSome (S.left input.old) (λ bytes. length bytes < 2 ^ 32)) }
+    ensures causes { EndsFor cause_in
+        (error_counts (S.faults input.old) (T.faults output.old) 0)
+        (error_counts (S.faults input.new) (T.faults output.new) 0) result }
+    ensures breaks { IfErr result (λ fault. IfSome (S.left input.old) (λ bytes.
+        breaks_by (accepts Copied bytes) bytes fault)) }
 {
     let mut piece = [0; 16_384];
     let mut taken: u64 = 0;

@@ -1,8 +1,9 @@
 //! How conversions end.
 
-ghost use Rattle.std.specs.Prelude.{◌≡◌, ◌<◌, Err, None, Some};
+ghost use Rattle.std.specs.Prelude.{◌≡◌, ◌<◌, ◌≤◌, Err, None, Some};
 ghost use Rattle.receiver_log.specs.Capture.{too_many};
 ghost use Rattle.file_conversion.specs.Steps.{EndsSo, IsLack, LacksMore, told_by};
+ghost use Rattle.file_conversion.specs.Stops.{stopped_by};
 
 use crate::begun::Begun;
 use crate::reading::{Input, Taken, taken_of};
@@ -98,6 +99,8 @@ pub(crate) fn ended<S: Source, U: Sink, N: Refused + Drop, P: Progress>(
     ensures kind { result.outcome.kind ≡ Some begun.kind }
     ensures faults { result.outcome.count < too_many
         → ⟦<Input<S, N, P> as Source>⟧.faults begun.input ≡ S.faults result.source }
+    ensures stopped { result.outcome.done ≡ stopped_by begun.kind done result.outcome.count }
+    ensures most { S.faults result.source ≤ ⟦<Input<S, N, P> as Source>⟧.faults begun.input }
 {
     let Begun { kind, run, input } = begun;
     let Taken {

@@ -1,6 +1,6 @@
 //! An input as it is read under a format.
 
-ghost use Rattle.std.specs.Prelude.{◌≡◌, ◌<◌};
+ghost use Rattle.std.specs.Prelude.{◌≡◌, ◌<◌, ◌≤◌};
 ghost use Rattle.std.specs.Option.{option_map};
 ghost use Rattle.receiver_log.specs.Capture.{too_many};
 ghost use Rattle.file_conversion.specs.Logs.{read_as};
@@ -83,8 +83,9 @@ pub(crate) fn reading_of<S: Source, N: Refused + Drop, P: Progress>(
 /// What is left of an input.
 pub(crate) fn taken_of<S: Source, N: Refused + Drop, P: Progress>(input: Input<S, N, P>) -> Taken<S>
     // Where there were not too many bytes, it has failed as often as the source inside.
-    ensures { result.count < too_many
+    ensures few { result.count < too_many
         → ⟦<Input<S, N, P> as Source>⟧.faults input ≡ S.faults result.source }
+    ensures most { S.faults result.source ≤ ⟦<Input<S, N, P> as Source>⟧.faults input }
 {
     match input {
         Reading::Plain(input) => Taken {
@@ -101,8 +102,10 @@ pub(crate) fn taken_of<S: Source, N: Refused + Drop, P: Progress>(input: Input<S
 fn taken_of_log<J: Receiver, S: Source, N: Refused + Drop, P: Progress>(
     log: LogSource<J, Counted<Peeked<S>, P>, N>,
 ) -> Taken<S>
-    ensures { result.count < too_many
+    ensures few { result.count < too_many
         → ⟦<LogSource<J, Counted<Peeked<S>, P>, N> as Source>⟧.faults log ≡ S.faults result.source }
+    ensures most { S.faults result.source
+        ≤ ⟦<LogSource<J, Counted<Peeked<S>, P>, N> as Source>⟧.faults log }
 {
     let LogParts {
         source,

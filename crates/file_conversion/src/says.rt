@@ -189,7 +189,11 @@ fn header_text(kind: Kind) -> &'static str {
         Kind::Capture1 => "its first line names no week; name one with --week",
         Kind::Capture2 => "its first line names another week than --week",
         Kind::Ubx | Kind::Sbf => "no message in it has a time, or its week is another than --week",
-        _ => "its header is not accepted",
+        Kind::Rinex4 => "line 1 does not name RINEX 4 navigation data, or no END OF HEADER follows",
+        Kind::Rinex3 => {
+            "line 1 does not name RINEX 3.02 to 3.05 navigation data, or no END OF HEADER follows"
+        }
+        _ => "line 1 is not that of a capture: NAVCAP 1, or NAVCAP 2, week and window",
     }
 }
 

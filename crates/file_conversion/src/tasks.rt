@@ -4,8 +4,9 @@ ghost use Rattle.std.specs.Prelude.{◌≡◌, ◌<◌, ◌^◌, IfErr, IfOk, If
 ghost use Rattle.std.specs.Prelude.{length, true};
 ghost use Rattle.std.specs.Io.KnownBytes.{Appends};
 ghost use Rattle.nav_io.specs.Causes.{Rose};
+ghost use Rattle.whole_file.specs.Steps.{EndsFor, error_counts};
 ghost use Rattle.bridge_engine.specs.Meanings.{done_of, meaning_of};
-ghost use Rattle.file_conversion.specs.Tasks.{reads_input, systems_of};
+ghost use Rattle.file_conversion.specs.Tasks.{breaks_by, cause_in, reads_input, systems_of};
 
 use crate::copies::copy;
 use crate::table::{SystemsJob, Task};
@@ -27,6 +28,7 @@ impl<U: Sink> Conversion for TaskRun<U> {
     ghost use Rattle.std.specs.Prelude.{◌≡◌, ◌^◌, ◌<◌, length};
     ghost use Rattle.one_run.specs.declared.fault.BridgeFault.TheVariants.{NoMemory};
     ghost use Rattle.file_conversion.specs.Tasks.{accepts, counts_by, makes_by};
+    ghost use Rattle.file_conversion.specs.Tasks.{breaks_by, cause_in};
 
     type Done = Option<Done>;
 
@@ -41,6 +43,10 @@ impl<U: Sink> Conversion for TaskRun<U> {
     ghost lacks = { λ fault. fault ≡ NoMemory };
 
     ghost faults = { λ s. U.faults s.report };
+
+    ghost cause_of = { λ fault. cause_in fault };
+
+    ghost breaks = { λ s bytes. breaks_by (accepts s.task bytes) bytes };
 
     /// Does the task.
     fn run<S: Source, T: Sink>(
@@ -76,6 +82,13 @@ fn do_job<S: Source, T: Sink, U: Sink>(
         → ¬ Rose (T.faults output.old) (T.faults output.new)
         → ¬ Rose (U.faults report.old) (U.faults report.new)
         → IfErr result (λ fault. fault ≡ BridgeFault.NoMemory)) }
+    ensures accepts { OnOk result (IfSome (S.left input.old) (λ bytes.
+        IsSome ((done_of job.now).counts bytes) × (length bytes < 2 ^ 32))) }
+    ensures causes { EndsFor cause_in
+        (error_counts (S.faults input.old) (T.faults output.old) (U.faults report.old))
+        (error_counts (S.faults input.new) (T.faults output.new) (U.faults report.new)) result }
+    ensures breaks { IfErr result (λ fault. IfSome (S.left input.old) (λ bytes.
+        breaks_by (IsSome ((done_of job.now).counts bytes)) bytes fault)) }
 {
     match run_job(alloc, job, input, output, report) {
         Ok(done) => Ok(Some(done)),
@@ -102,6 +115,13 @@ fn do_systems<S: Source, T: Sink, U: Sink>(
         → ¬ Rose (T.faults output.old) (T.faults output.new)
         → ¬ Rose (U.faults report.old) (U.faults report.new)
         → IfErr result (λ fault. fault ≡ BridgeFault.NoMemory)) }
+    ensures accepts { OnOk result (IfSome (S.left input.old) (λ bytes.
+        IsSome ((systems_of job.now).counts bytes) × (length bytes < 2 ^ 32))) }
+    ensures causes { EndsFor cause_in
+        (error_counts (S.faults input.old) (T.faults output.old) (U.faults report.old))
+        (error_counts (S.faults input.new) (T.faults output.new) (U.faults report.new)) result }
+    ensures breaks { IfErr result (λ fault. IfSome (S.left input.old) (λ bytes.
+        breaks_by (IsSome ((systems_of job.now).counts bytes)) bytes fault)) }
 {
     match run_systems(alloc, &job.kinds, job.week, &job.to, input, output, report) {
         Ok(counts) => Ok(Some(Done::Stream(counts))),

@@ -5,7 +5,8 @@ use Rattle.std.specs.String.{string_bytes}
 use Rattle.std.specs.Io.KnownBytes.{Appends}
 use Rattle.nav_io.specs.Causes.{Rose}
 use Rattle.whole_file.specs.Files.{Begins, Publishes, Stays}
-use Rattle.whole_file.specs.Steps.{BrokeOff, Finishes, Lacks}
+use Rattle.whole_file.specs.Steps.{BrokeOff, Cause, EndsFor, FinishCounts, Finishes, IfBrokeOff, Lacks, RoseFor, StepEndsFor, error_counts}
+use Rattle.whole_file.specs.Steps.Cause.{Read, Write, Other, NoCall}
 use Rattle.whole_file.specs.declared.faults.FileFault.{FileFault}
 use Rattle.whole_file.specs.declared.step.Named.{Named}
 use Rattle.whole_file.specs.declared.step.StepFault.{StepFault}
@@ -149,3 +150,63 @@ pub refuted : (left : Option (List ℕ)) (can : List ℕ → Type 0) (A B U R X 
     → IfSome left (λ bytes. can bytes → ¬ A → ¬ B → ¬ U → ¬ R → X)
 refuted None can A B U R X rose = tt
 refuted (Some bytes) can A B U R X rose = λ accepted read told has none. absurd (none rose)
+
+-- ---- what a step ended for
+
+-- it is done only where its conversion is
+pub accepts_by : {D E : Type 0} (puts : List ℕ → Option (List ℕ) → Type 0) (stays : Type 0) (gives : D → List ℕ → Type 0) (unnamed : Type 0)
+    (written : Option (List ℕ)) (wrote a b : ℕ) (A : Type 0) (ran : Result D E) (result : Result (Named D) (StepFault E))
+    → Finishes puts stays gives unnamed written wrote a b ran result → OnOk ran A → OnOk result A
+accepts_by puts stays gives unnamed written wrote a b A ran result ends =
+    by_end puts stays gives unnamed written wrote a b (λ ran result. OnOk ran A → OnOk result A)
+    (λ done named put same given all. all)
+    (λ done still why all. tt) (λ done file still rose all. tt) (λ fault same told is still gave_up all. tt) ran result ends
+
+nothing_asked : (left : Option (List ℕ)) → IfSome left (λ bytes. Unit {0})
+nothing_asked None = tt
+nothing_asked (Some bytes) = tt
+
+-- a fault of its conversion is that with which the conversion broke off
+pub breaks_by : {D E : Type 0} (puts : List ℕ → Option (List ℕ) → Type 0) (stays : Type 0) (gives : D → List ℕ → Type 0) (unnamed : Type 0)
+    (written : Option (List ℕ)) (wrote a b : ℕ) (left : Option (List ℕ)) (breaks : List ℕ → E → Type 0)
+    (ran : Result D E) (result : Result (Named D) (StepFault E)) → Finishes puts stays gives unnamed written wrote a b ran result
+    → IfErr ran (λ fault. IfSome left (λ bytes. breaks bytes fault))
+    → IfErr result (λ fault. IfSome left (λ bytes. IfBrokeOff (breaks bytes) fault))
+breaks_by {E = E} puts stays gives unnamed written wrote a b left breaks ran result ends =
+    by_end puts stays gives unnamed written wrote a b
+    (λ ran result. IfErr ran (λ fault. IfSome left (λ bytes. breaks bytes fault))
+    → IfErr result (λ fault. IfSome left (λ bytes. IfBrokeOff (breaks bytes) fault)))
+    (λ done named put same given all. tt) (λ done still why all. nothing_asked left) (λ done file still rose all. nothing_asked left)
+    (λ fault same told is still gave_up all. subst (λ (f : E). IfSome left (λ bytes. breaks bytes f)) (sym is) all) ran result ends
+
+-- what a conversion broke off for is what its step did; a write that failed fails to give up the output
+gave_up_for : (cause : Cause) (input input_new other other_new fresh wrote first b : ℕ)
+    → RoseFor cause (error_counts input fresh other) (error_counts input_new wrote other_new) → (Rose fresh wrote → Rose first b)
+    → RoseFor cause (error_counts input first other) (error_counts input_new b other_new)
+gave_up_for Read input input_new other other_new fresh wrote first b rose more = rose
+gave_up_for Write input input_new other other_new fresh wrote first b (same, still, rose) more = (same, still, more rose)
+gave_up_for Other input input_new other other_new fresh wrote first b rose more = rose
+gave_up_for NoCall input input_new other other_new fresh wrote first b rose more = rose
+
+pub ends_by : {D E : Type 0} (puts : List ℕ → Option (List ℕ) → Type 0) (stays : Type 0) (gives : D → List ℕ → Type 0)
+    (written : Option (List ℕ)) (cause_of : E → Cause) (names names_new input input_new other other_new fresh wrote first a b : ℕ)
+    (ran : Result D E) (result : Result (Named D) (StepFault E))
+    → Finishes puts stays gives (Rose names names_new) written wrote a b ran result → a ≡ first → fresh ≡ 0
+    → EndsFor cause_of (error_counts input fresh other) (error_counts input_new wrote other_new) ran
+    → FinishCounts names names_new a b result
+    → StepEndsFor cause_of (error_counts input first other) (error_counts input_new b other_new) names names_new result
+ends_by {E = E} puts stays gives written cause_of names names_new input input_new other other_new fresh wrote first a b ran result ends opened zero =
+    by_end puts stays gives (Rose names names_new) written wrote a b
+    (λ ran result. EndsFor cause_of (error_counts input fresh other) (error_counts input_new wrote other_new) ran
+    → FinishCounts names names_new a b result
+    → StepEndsFor cause_of (error_counts input first other) (error_counts input_new b other_new) names names_new result)
+    (λ done named put same given ended counts. (ended.0, ended.1, counts.1 ∙ opened, counts.0))
+    (λ done still why ended counts. ((ended.0, ended.1), why))
+    (λ done file still rose ended counts. ((ended.0, ended.1, subst (λ (n : ℕ). Rose n b) opened rose), counts))
+    (λ fault same told is still gave_up ended counts. (
+      subst (λ (f : E). RoseFor (cause_of f) (error_counts input first other) (error_counts input_new b other_new)) (sym is)
+          (gave_up_for (cause_of fault) input input_new other other_new fresh wrote first b ended
+          (λ rose. subst (λ (n : ℕ). Rose n b) opened (gave_up (subst (λ (n : ℕ). Rose n wrote) zero rose)))),
+      counts,
+    ))
+    ran result ends

@@ -20,6 +20,52 @@ Lacks lacks (Run fault told) = lacks fault
 Lacks lacks Unnamed = ⊥
 Lacks lacks (Publish file) = ⊥
 
+-- what makes a conversion break off: a read of its input, a write of its output or another call failed, or no call did
+pub data Cause : Type 0 where
+  Read : Cause
+  Write : Cause
+  Other : Cause
+  NoCall : Cause
+
+-- the counts of errors of an input, of an output, and of other calls
+pub record ErrorCounts : Type 0 where
+  pub input : ℕ
+  pub output : ℕ
+  pub other : ℕ
+
+-- the three counts
+abbrev pub error_counts : ℕ → ℕ → ℕ → ErrorCounts
+error_counts input output other = record { input = input; output = output; other = other }
+
+-- The count of what failed rose, and no other, but for that of the output: to give it up may fail too.
+abbrev pub RoseFor : Cause → ErrorCounts → ErrorCounts → Type 0
+RoseFor Read before now = Rose before.input now.input × (now.other ≡ before.other)
+RoseFor Write before now = (now.input ≡ before.input) × (now.other ≡ before.other) × Rose before.output now.output
+RoseFor Other before now = (now.input ≡ before.input) × Rose before.other now.other
+RoseFor NoCall before now = (now.input ≡ before.input) × (now.other ≡ before.other)
+
+-- the same of a conversion that ended so; no count rose if it was done
+abbrev pub EndsFor : {D E : Type 0} → (E → Cause) → ErrorCounts → ErrorCounts → Result D E → Type 0
+EndsFor cause_of before now (Ok done) = (now.input ≡ before.input) × (now.other ≡ before.other) × (now.output ≡ before.output)
+EndsFor cause_of before now (Err fault) = RoseFor (cause_of fault) before now
+
+-- What a step ended for: the count of what failed rose, and no other. The output is that of the directory, and the namer's count
+-- rose exactly if it gave no name.
+abbrev pub StepEndsFor : {D E : Type 0} → (E → Cause) → ErrorCounts → ErrorCounts → ℕ → ℕ → Result D (StepFault E) → Type 0
+StepEndsFor cause_of before now names names_new (Ok done) =
+    (now.input ≡ before.input) × (now.other ≡ before.other) × (now.output ≡ before.output) × (names_new ≡ names)
+StepEndsFor cause_of before now names names_new (Err (Begin file)) = RoseFor Write before now × (names_new ≡ names)
+StepEndsFor cause_of before now names names_new (Err (Run fault told)) = RoseFor (cause_of fault) before now × (names_new ≡ names)
+StepEndsFor cause_of before now names names_new (Err Unnamed) = RoseFor NoCall before now × Rose names names_new
+StepEndsFor cause_of before now names names_new (Err (Publish file)) = RoseFor Write before now × (names_new ≡ names)
+
+-- the conversion broke off with a fault of which this is so, or the step stopped otherwise
+abbrev pub IfBrokeOff : {E : Type 0} → (E → Type 0) → StepFault E → Type 0
+IfBrokeOff breaks (Begin file) = Unit {0}
+IfBrokeOff breaks (Run fault told) = breaks fault
+IfBrokeOff breaks Unnamed = Unit {0}
+IfBrokeOff breaks (Publish file) = Unit {0}
+
 -- the bytes of the file of this name, if the directory states them and it exists
 abbrev pub bytes_of : Option (List ℕ → Option (List ℕ)) → List ℕ → Option (List ℕ)
 bytes_of None name = None
@@ -36,3 +82,11 @@ Finishes puts stays gives unnamed written wrote old new (Ok done) (Err Unnamed) 
 Finishes puts stays gives unnamed written wrote old new (Ok done) (Err (Publish file)) = stays × Rose old new
 Finishes puts stays gives unnamed written wrote old new (Err fault) (Err (Run same told)) = (same ≡ fault) × stays × (Rose 0 wrote → Rose old new)
 Finishes puts stays gives unnamed written wrote old new ran result = ⊥
+
+-- The counts of the namer and of the directory after a conversion has ended.
+abbrev pub FinishCounts : {D E : Type 0} → ℕ → ℕ → ℕ → ℕ → Result D (StepFault E) → Type 0
+FinishCounts names names_new folder folder_new (Ok named) = (names_new ≡ names) × (folder_new ≡ folder)
+FinishCounts names names_new folder folder_new (Err (Begin file)) = ⊥
+FinishCounts names names_new folder folder_new (Err (Run fault told)) = names_new ≡ names
+FinishCounts names names_new folder folder_new (Err Unnamed) = Unit {0}
+FinishCounts names names_new folder folder_new (Err (Publish file)) = names_new ≡ names

@@ -27,6 +27,8 @@ pub fn look<S: Source>(named: Option<Kind>, input: &mut Peeked<S>) -> Result<Kin
         (S.faults input.new.source ≡ S.faults input.old.source) }
     ensures cause { IfErr result (λ fault. (fault ≡ PeekFault.NoMemory)
         ⊎ Rose (S.faults input.old.source) (S.faults input.new.source)) }
+    ensures memory { IfErr result (λ fault. fault ≡ PeekFault.NoMemory
+        → S.faults input.new.source ≡ S.faults input.old.source) }
 {
     first_bytes_decide();
     let mut place = 0;

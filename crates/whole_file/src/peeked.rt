@@ -79,6 +79,8 @@ impl<S: Source> Peeked<S> {
             (S.faults self.new.source ≡ S.faults self.old.source) }
         ensures cause { IfErr result (λ fault. (fault ≡ PeekFault.NoMemory)
             ⊎ Rose (S.faults self.old.source) (S.faults self.new.source)) }
+        ensures memory { IfErr result (λ fault. fault ≡ PeekFault.NoMemory
+            → S.faults self.new.source ≡ S.faults self.old.source) }
         ensures never { IsTrue (S.never_fails self.old.source) → MatchResult result
             (λ _. IsTrue (S.never_fails self.new.source))
             (λ fault. fault ≡ PeekFault.NoMemory) }

@@ -8,6 +8,8 @@ ghost use Rattle.std.specs.Io.KnownBytes.{Appends};
 ghost use Rattle.nav_io.specs.Causes.{Rose};
 ghost use Rattle.whole_file.specs.Files.{Publishes, Stays};
 ghost use Rattle.whole_file.specs.Steps.{BrokeOff, Finishes, Lacks};
+ghost use Rattle.whole_file.specs.Steps.{Cause, EndsFor, FinishCounts, IfBrokeOff, StepEndsFor};
+ghost use Rattle.whole_file.specs.Steps.{error_counts};
 
 use crate::faults::FileFault;
 use crate::folder::Folder;
@@ -37,6 +39,12 @@ pub trait Conversion {
     // How often a call failed on neither the input nor the output, but on a report for instance.
     ghost faults: { Self → ℕ };
 
+    // What each of its faults comes from.
+    ghost cause_of: { Self.Fault → Cause };
+
+    // The bytes with which it may break off with this fault.
+    ghost breaks: { Self → List ℕ → Self.Fault → Type 0 };
+
     /// Reads the input to its end, and writes the conversion of its bytes.
     fn run<S: Source, T: Sink>(
         &mut self,
@@ -51,7 +59,16 @@ pub trait Conversion {
             → ¬ Rose (S.faults input.old) (S.faults input.new)
             → ¬ Rose (T.faults output.old) (T.faults output.new)
             → ¬ Rose (faults self.old) (faults self.new)
-            → IfErr result lacks) };
+            → IfErr result lacks) }
+
+        // It is done only with bytes that it accepts. Each fault comes from a call that failed,
+        // from the bytes, or from what it lacks.
+        ensures accepts { OnOk result (IfSome (S.left input.old) (λ bytes. can self.old bytes)) }
+        ensures causes { EndsFor cause_of
+            (error_counts (S.faults input.old) (T.faults output.old) (faults self.old))
+            (error_counts (S.faults input.new) (T.faults output.new) (faults self.new)) result }
+        ensures breaks { IfErr result (λ fault. IfSome (S.left input.old) (λ bytes.
+            breaks self.old bytes fault)) };
 }
 
 /// An output that has its name.
@@ -107,6 +124,17 @@ pub fn put_output<F: Folder, S: Source, C: Conversion, A: Namer<C::Done>>(
         → ¬ Rose (A.faults names.old) (A.faults names.new)
         → ¬ Rose (F.faults folder.old) (F.faults folder.new)
         → IfErr result (Lacks C.lacks)) }
+
+    // It succeeds only where the bytes are accepted. Each fault comes from a call that failed, or
+    // is one of the conversion.
+    ensures accepts { OnOk result (IfSome (S.left input.old) (λ bytes.
+        C.can conversion.old bytes)) }
+    ensures causes { StepEndsFor C.cause_of
+        (error_counts (S.faults input.old) (F.faults folder.old) (C.faults conversion.old))
+        (error_counts (S.faults input.new) (F.faults folder.new) (C.faults conversion.new))
+        (A.faults names.old) (A.faults names.new) result }
+    ensures breaks { IfErr result (λ fault. IfSome (S.left input.old) (λ bytes.
+        IfBrokeOff (C.breaks conversion.old bytes) fault)) }
 {
     let mut draft = match folder.draft(part) {
         Ok(draft) => draft,
@@ -129,6 +157,8 @@ fn finished<F: Folder, D: Drop, E: Drop, A: Namer<D>>(
         (Stays (F.files folder.old) (F.files folder.new) part.now) (A.gives names.old)
         (Rose (A.faults names.old) (A.faults names.new)) (F.Draft.written draft)
         (F.Draft.faults draft) (F.faults folder.old) (F.faults folder.new) ran result }
+    ensures counts { FinishCounts (A.faults names.old) (A.faults names.new)
+        (F.faults folder.old) (F.faults folder.new) result }
 {
     match ran {
         Ok(done) => match names.name(&done, part) {

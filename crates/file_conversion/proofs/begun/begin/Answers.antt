@@ -13,3 +13,7 @@ pub returns-in-Err-clause-stopped : goal.returns-in-Err-clause-stopped
 returns-in-Err-clause-stopped g c =
     rw c.into_source.ensures (stopped_of _ _ _ _ _ _ c.stopped.ensures.done (rw c.new-input.ensures.source at c.in-Err.ensures.complete)
     (rw c.new-input.ensures.source at c.in-Err.ensures.none))
+
+pub returns-in-Err-clause-ahead : goal.returns-in-Err-clause-ahead
+returns-in-Err-clause-ahead g c =
+    rw c.into_source.ensures (rw c.stopped.ensures.done (rw c.new-input.ensures.source at c.in-Err.ensures.ahead))

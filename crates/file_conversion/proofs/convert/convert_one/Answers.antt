@@ -2,6 +2,8 @@ use Rattle.std.specs.String.{string_bytes}
 use Rattle.nav_io.specs.Causes.{Rose}
 use Rattle.file_conversion.specs.Steps.{Made}
 use Rattle.file_conversion.proofs.Closing.{closed, closed_none, converts_of, counts_file, none_ok, not_missing, not_opened, not_opened_none, on_ended, on_failed, stays_of, stays_still, tells_file, unmade, untold}
+use Rattle.std.proofs.Common.{ap, refl}
+use Rattle.file_conversion.proofs.Causing.{accepted_file, comes_file, failed_of, never_accepted, no_rise, rejected_file, stops_told, unnamed_told}
 use Rattle.file_conversion.proofs.convert.convert_one.Goals as goal
 
 pub returns-in-Ok-clause-converts : goal.returns-in-Ok-clause-converts
@@ -70,3 +72,49 @@ returns-in-Err-clause-missing g c = rw c.stopped.ensures.done (λ missing. tt)
 
 pub returns-in-Err-clause-none : goal.returns-in-Err-clause-none
 returns-in-Err-clause-none g c = not_opened_none _ _ _ _ _ c.in-Err.ensures.cause.failed
+
+-- ---- why it stopped
+
+pub returns-in-Ok-clause-accepted : goal.returns-in-Ok-clause-accepted
+returns-in-Ok-clause-accepted g c =
+    accepted_file c.args.plan.now _ _ _ _ _ c.in-Ok.ensures.bytes c.told_by.ensures.ends c.convert_source-left.ensures.accepted
+
+pub returns-in-Ok-clause-cause : goal.returns-in-Ok-clause-cause
+returns-in-Ok-clause-cause g c =
+    rw c.told_by.ensures.report
+    (comes_file c.args.plan.now _ _ _ _ _ _ _ _ _ _ _ _ _ _ _ _ c.in-Ok.ensures.bytes c.told_by.ensures.told c.in-Ok.ensures.fresh
+    c.in-Ok.ensures.cause.stays c.convert_source-left.ensures.later c.close-closed.ensures.cause.later c.close-closed.ensures.told
+    c.convert_source-left.ensures.cause)
+
+pub returns-in-Ok-clause-unreported : goal.returns-in-Ok-clause-unreported
+returns-in-Ok-clause-unreported g c =
+    rw c.told_by.ensures.report (λ rise. stops_told _ _ _ _ c.told_by.ensures.told (c.convert_source-left.ensures.unreported rise))
+
+pub returns-in-Ok-clause-unnamed : goal.returns-in-Ok-clause-unnamed
+returns-in-Ok-clause-unnamed g c = λ rise. unnamed_told _ _ _ c.told_by.ensures.told (c.convert_source-left.ensures.unnamed rise)
+
+pub returns-in-Ok-clause-rejected : goal.returns-in-Ok-clause-rejected
+returns-in-Ok-clause-rejected g c =
+    rejected_file c.args.plan.now _ _ _ _ refl refl (returns-in-Ok-clause-accepted g c) (returns-in-Ok-clause-cause g c)
+
+pub returns-in-Ok-clause-failed : goal.returns-in-Ok-clause-failed
+returns-in-Ok-clause-failed g c = failed_of c.args.plan.now _ _ _ _ (returns-in-Ok-clause-cause g c)
+
+pub returns-in-Err-clause-accepted : goal.returns-in-Err-clause-accepted
+returns-in-Err-clause-accepted g c = never_accepted _ _ (unmade _ _ c.stopped.ensures.done)
+
+pub returns-in-Err-clause-cause : goal.returns-in-Err-clause-cause
+returns-in-Err-clause-cause g c = rw c.stopped.ensures.done c.in-Err.ensures.cause.failed
+
+pub returns-in-Err-clause-unreported : goal.returns-in-Err-clause-unreported
+returns-in-Err-clause-unreported g c = no_rise _ _ (ap g.U.Sink.faults c.stopped.ensures.report)
+
+pub returns-in-Err-clause-unnamed : goal.returns-in-Err-clause-unnamed
+returns-in-Err-clause-unnamed g c = no_rise _ _ refl
+
+pub returns-in-Err-clause-rejected : goal.returns-in-Err-clause-rejected
+returns-in-Err-clause-rejected g c =
+    rejected_file c.args.plan.now _ _ _ _ refl refl (returns-in-Err-clause-accepted g c) (returns-in-Err-clause-cause g c)
+
+pub returns-in-Err-clause-failed : goal.returns-in-Err-clause-failed
+returns-in-Err-clause-failed g c = failed_of c.args.plan.now _ _ _ _ (returns-in-Err-clause-cause g c)

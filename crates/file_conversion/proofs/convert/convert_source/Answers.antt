@@ -4,6 +4,7 @@ use Rattle.nav_io.specs.Causes.{Rose}
 use Rattle.whole_file.specs.Files.{Publishes}
 use Rattle.file_conversion.specs.Steps.{Made}
 use Rattle.file_conversion.proofs.Closing.{counts_of, lacks_of, made_of, none_begun, none_ok, on_ended, on_failed, stays_still, stopped_lack, tells, untold}
+use Rattle.file_conversion.proofs.Causing.{accepted_of, comes_ahead, comes_of, never_accepted, no_rise, rejected_of, unnamed_of, unread_ahead, unread_of, unreported_of, unwritten_ahead, unwritten_of}
 use Rattle.file_conversion.proofs.convert.convert_source.Goals as goal
 
 pub returns-in-Ok-clause-puts : goal.returns-in-Ok-clause-puts
@@ -62,3 +63,57 @@ returns-in-Err-clause-complete g c = stopped_lack _ _ _ _ _ _ _ _ c.in-Err.ensur
 
 pub returns-in-Err-clause-none : goal.returns-in-Err-clause-none
 returns-in-Err-clause-none g c = c.in-Err.ensures.stopped.none
+
+-- ---- why it stopped
+
+pub returns-in-Ok-clause-accepted : goal.returns-in-Ok-clause-accepted
+returns-in-Ok-clause-accepted g c =
+    accepted_of c.args.plan.now _ _ _ _ _ _ c.in-Ok.ensures.begun c.ended.ensures.done c.put_output-done.ensures.accepts
+
+pub returns-in-Ok-clause-cause : goal.returns-in-Ok-clause-cause
+returns-in-Ok-clause-cause g c =
+    comes_of c.args.plan.now _ _ _ _ _ _ _ _ _ _ _ _ _ _ _ _ _ _ _ c.in-Ok.ensures.begun c.ended.ensures.stopped
+    c.in-Ok.ensures.faults c.ended.ensures.faults
+    (ap g.U.Sink.faults c.in-Ok.ensures.report) (ap g.U.Sink.faults c.ended.ensures.report)
+    c.put_output-done.ensures.causes c.put_output-done.ensures.breaks
+
+pub returns-in-Ok-clause-unread : goal.returns-in-Ok-clause-unread
+returns-in-Ok-clause-unread g c =
+    unread_of _ _ _ _ _ _ _ _ _ _ _ _ _ _ c.ended.ensures.stopped c.in-Ok.ensures.faults c.ended.ensures.most c.put_output-done.ensures.causes
+
+pub returns-in-Ok-clause-unreported : goal.returns-in-Ok-clause-unreported
+returns-in-Ok-clause-unreported g c =
+    unreported_of _ _ _ _ _ _ _ _ _ _ _ _ _ _ c.ended.ensures.stopped
+    (ap g.U.Sink.faults c.in-Ok.ensures.report) (ap g.U.Sink.faults c.ended.ensures.report) c.put_output-done.ensures.causes
+
+pub returns-in-Ok-clause-unnamed : goal.returns-in-Ok-clause-unnamed
+returns-in-Ok-clause-unnamed g c = unnamed_of _ _ _ _ _ _ _ _ _ _ _ _ c.ended.ensures.stopped c.put_output-done.ensures.causes
+
+pub returns-in-Ok-clause-unwritten : goal.returns-in-Ok-clause-unwritten
+returns-in-Ok-clause-unwritten g c =
+    unwritten_of c.args.plan.now _ _ _ _ _ _ _ _ _ _ _ _ _ _ _ c.ended.ensures.stopped refl refl c.put_output-done.ensures.causes
+    (returns-in-Ok-clause-cause g c)
+
+pub returns-in-Ok-clause-rejected : goal.returns-in-Ok-clause-rejected
+returns-in-Ok-clause-rejected g c = rejected_of c.args.plan.now _ _ _ _ (returns-in-Ok-clause-accepted g c) (returns-in-Ok-clause-cause g c)
+
+pub returns-in-Err-clause-accepted : goal.returns-in-Err-clause-accepted
+returns-in-Err-clause-accepted g c = never_accepted _ _ c.in-Err.ensures.stopped.never
+
+pub returns-in-Err-clause-cause : goal.returns-in-Err-clause-cause
+returns-in-Err-clause-cause g c = comes_ahead c.args.plan.now _ _ _ _ _ _ _ _ _ _ c.in-Err.ensures.ahead
+
+pub returns-in-Err-clause-unread : goal.returns-in-Err-clause-unread
+returns-in-Err-clause-unread g c = unread_ahead c.args.plan.now _ _ _ _ c.in-Err.ensures.stopped.never c.in-Err.ensures.ahead
+
+pub returns-in-Err-clause-unreported : goal.returns-in-Err-clause-unreported
+returns-in-Err-clause-unreported g c = no_rise _ _ (ap g.U.Sink.faults c.in-Err.ensures.unreported)
+
+pub returns-in-Err-clause-unnamed : goal.returns-in-Err-clause-unnamed
+returns-in-Err-clause-unnamed g c = no_rise _ _ refl
+
+pub returns-in-Err-clause-unwritten : goal.returns-in-Err-clause-unwritten
+returns-in-Err-clause-unwritten g c = unwritten_ahead _ _ _ _ _ _ _ _ refl
+
+pub returns-in-Err-clause-rejected : goal.returns-in-Err-clause-rejected
+returns-in-Err-clause-rejected g c = rejected_of c.args.plan.now _ _ _ _ (returns-in-Err-clause-accepted g c) (returns-in-Err-clause-cause g c)
