@@ -68,5 +68,5 @@ returns-clause-causes g c =
     (g.A.Namer.faults c.args.names.now) (g.A.Namer.faults c.finished.new.names) _ _ _ _ (g.F.Draft.Sink.faults c.in-Ok.draft)
     (g.F.Draft.Sink.faults c.run-ran.new.output) (g.F.Folder.faults c.args.folder.now)
     (g.F.Folder.faults c.draft.new.self) (g.F.Folder.faults c.finished.new.folder)
-    c.run-ran.result c.finished.result c.finished.ensures.ends c.draft.ensures.cause.stays c.in-Ok.ensures.fresh
+    c.run-ran.result c.finished.result c.finished.ensures.ends c.in-Ok.ensures.cause.stays c.in-Ok.ensures.fresh
     c.run-ran.ensures.causes c.finished.ensures.counts
