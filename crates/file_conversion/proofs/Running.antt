@@ -58,11 +58,14 @@ if_some (Some bytes) P each = each bytes refl
 at_some : (o : Option (List ℕ)) (P : List ℕ → Type 0) (bytes : List ℕ) → o ≡ Some bytes → IfSome o P → P bytes
 at_some o P bytes is all = subst (λ (x : Option (List ℕ)). IfSome x P) is all
 
-memory_alone : {C : Type 0} (r : Result C BridgeFault) (memory : Bool) → IsOk r ⊎ (IsErrOf r NoMemory × (memory ≡ true))
+one_fault : (C : Type 0) (r : Result C BridgeFault) (one other : BridgeFault) → r ≡ Err one → r ≡ Err other → one ≡ other
+one_fault C r one other is too = let before : r ≡ Err one = is in let behind : r ≡ Err other = too in cc
+
+memory_alone : (C : Type 0) (r : Result C BridgeFault) (memory : Bool) → IsOk r ⊎ (IsErrOf r NoMemory × (memory ≡ true))
     → IfErr r (λ fault. fault ≡ NoMemory)
-memory_alone (Ok done) memory end = tt
-memory_alone (Err fault) memory (inl ok) = absurd (let no : false ≡ true = ok in cc)
-memory_alone {C = C} (Err fault) memory (inr (is, e)) = let same : Err {A = C} fault ≡ Err NoMemory = is in cc
+memory_alone C (Ok done) memory end = tt
+memory_alone C (Err fault) memory (inl ok) = absurd (let no : false ≡ true = ok in cc)
+memory_alone C (Err fault) memory (inr (is, e)) = one_fault C (Err fault) fault NoMemory refl is
 
 -- a run that did not end well lacked memory, where its bytes are accepted and nothing failed
 pub complete_by : {C S T U : Type 0} (m : Meaning C) (b a : World S T U) (r : Result C BridgeFault) → m.reads ≡ true → m.limit ≡ 2 ^ 32
@@ -72,7 +75,7 @@ pub complete_by : {C S T U : Type 0} (m : Meaning C) (b a : World S T U) (r : Re
     → IfErr r (λ fault. fault ≡ NoMemory))
 complete_by m b a r reads limit ended =
     if_some b.left _ (λ bytes there can no_read no_write no_report.
-    memory_alone r m.memory (at_some (bytes_for m b) _ bytes (left_of m b reads ∙ there) (complete_of m b a r ended)
+    memory_alone _ r m.memory (at_some (bytes_for m b) _ bytes (left_of m b reads ∙ there) (complete_of m b a r ended)
     (subst (λ (n : ℕ). length bytes < n) (sym limit) can.1) can.0 no_read no_write (inr no_report)))
 
 -- what ended well leaves nothing to show

@@ -56,7 +56,12 @@ struct Case {
 
 const CAPTURE: &[u8] = b"NAVCAP 2 2295 300\n";
 
-static CASES: [Case; 7] = [
+// A frame of message 1020 (examples/systems.rtcm3).
+const GLONASS: &[u8] = b"\xd3\x00\x2d\x3f\xc0\x51\xa4\xa6\x93\x26\x19\x75\x2f\xd3\xb0\x40\x0f\
+    \xce\xb8\xba\x77\x8f\x91\x9b\x92\xc9\x42\xcf\xea\x51\x80\x4c\x0a\x1b\
+    \x9f\xc0\x20\x04\x80\x00\x00\x00\x00\x02\x00\x00\x00\x00\xc6\xeb\x39";
+
+static CASES: [Case; 8] = [
     Case {
         name: "a capture",
         bytes: Some(CAPTURE),
@@ -89,6 +94,17 @@ static CASES: [Case; 7] = [
         end: End::NotAccepted("a capture with a week"),
         fails: false,
         status: 5,
+    },
+    Case {
+        name: "a stream of GLONASS",
+        bytes: Some(GLONASS),
+        target: Target::List,
+        week: Some(2295),
+        old: None,
+        new: Some(b"1 EPH R01 FDMA 2295 179100\n"),
+        end: End::Done,
+        fails: false,
+        status: 0,
     },
     Case {
         name: "a log is copied as its capture",
