@@ -113,15 +113,19 @@ pub ended_for : {C S T U : Type 0} (m : Meaning C) (b a : World S T U) (done : C
     → (a.reads_failed ≡ b.reads_failed) × (a.reports_failed ≡ b.reports_failed) × (a.writes_failed ≡ b.writes_failed)
 ended_for m b a done ended = let same = no_fault m b a (Ok done) ended in (same.0, same.2, same.1)
 
--- one that broke off did so for the object that failed
-pub broke_for : {S T U : Type 0} (b a : World S T U) (fault : BridgeFault) → HasItsCause {T = Unit {0}} (faults_in b) (faults_in a) (Err fault)
+rises_for : {S T U : Type 0} (b a : World S T U) (fault : BridgeFault) → HasItsCause {T = Unit {0}} (faults_in b) (faults_in a) (Err fault)
     → RoseFor (cause_in fault) (error_counts b.reads_failed b.writes_failed b.reports_failed) (error_counts a.reads_failed a.writes_failed a.reports_failed)
-broke_for b a ReadFault (rose, same) = (rose, ap (λ (f : Faults). f.report) same)
-broke_for b a WriteFault (rose, same) = (ap (λ (f : Faults). f.input) same, ap (λ (f : Faults). f.report) same, rose)
-broke_for b a ReportFault (rose, same) = (ap (λ (f : Faults). f.input) same, rose)
-broke_for b a NotThisForm same = (ap (λ (f : Faults). f.input) same, ap (λ (f : Faults). f.report) same)
-broke_for b a TooLong same = (ap (λ (f : Faults). f.input) same, ap (λ (f : Faults). f.report) same)
-broke_for b a NoMemory same = (ap (λ (f : Faults). f.input) same, ap (λ (f : Faults). f.report) same)
+rises_for b a ReadFault (rose, same) = (rose, ap (λ (f : Faults). f.report) same)
+rises_for b a WriteFault (rose, same) = (ap (λ (f : Faults). f.input) same, ap (λ (f : Faults). f.report) same, rose)
+rises_for b a ReportFault (rose, same) = (ap (λ (f : Faults). f.input) same, rose)
+rises_for b a NotThisForm same = (ap (λ (f : Faults). f.input) same, ap (λ (f : Faults). f.report) same)
+rises_for b a TooLong same = (ap (λ (f : Faults). f.input) same, ap (λ (f : Faults). f.report) same)
+rises_for b a NoMemory same = (ap (λ (f : Faults). f.input) same, ap (λ (f : Faults). f.report) same)
+
+-- one that broke off did so for the object that failed
+pub broke_for : {C S T U : Type 0} (m : Meaning C) (b a : World S T U) (fault : BridgeFault) → Broke m b a fault
+    → RoseFor (cause_in fault) (error_counts b.reads_failed b.writes_failed b.reports_failed) (error_counts a.reads_failed a.writes_failed a.reports_failed)
+broke_for m b a fault broke = rises_for b a fault broke.cause
 
 nothing_said : (left : Option (List ℕ)) → IfSome left (λ bytes. Unit {0})
 nothing_said None = tt
