@@ -1,5 +1,5 @@
 -- What a job that ended well has written and counted, and that it ends well where nothing fails.
-use Rattle.std.proofs.Common.{◌≡◌, ◌⊎◌, inl, inr, ◌^◌, ◌<◌, ◌≤◌, ℕ, Bool, true, false, List, [], ◌++◌, length, Option, None, Some, Result, Ok, Err, refl, sym, ap, subst, ◌∙◌, arith, length-append}
+use Rattle.std.proofs.Common.{◌≡◌, ◌⊎◌, inl, inr, ◌^◌, ◌<◌, ◌≤◌, ℕ, Bool, true, false, List, [], length, Option, None, Some, Result, Ok, Err, refl, sym, ap, subst, ◌∙◌, arith, length-append}
 use Rattle.std.proofs.lemmas.Bool.{cases_lt}
 use Rattle.std.specs.Prelude.{IfErr, IfOk, IfSome, IsErr, IsErrOf, IsOk, IsSome, OnOk, if◌then◌else◌}
 use Rattle.std.specs.Io.KnownBytes.{Appends}
@@ -11,7 +11,6 @@ use Rattle.one_run.specs.declared.fault.BridgeFault.{BridgeFault}
 use Rattle.one_run.specs.declared.fault.BridgeFault.TheVariants.{ReadFault, WriteFault, ReportFault, NotThisForm, TooLong, NoMemory}
 use Rattle.whole_file.specs.Steps.{EndsFor, RoseFor, error_counts}
 use Rattle.file_conversion.specs.Tasks.{accepts, breaks_by, cause_in}
-use Rattle.file_conversion.specs.declared.table.Task.{Task}
 use Rattle.file_conversion.specs.declared.table.Task.TheVariants.{Copied, Does}
 use Rattle.bridge_engine.specs.Meanings.{done_of, meaning_of}
 use Rattle.bridge_engine.specs.declared.done.Done.{Done}
@@ -109,15 +108,19 @@ pub ended_for : {S T U : Type 0} (job : Job) (b a : World S T U) (done : Done) �
     → (a.reads_failed ≡ b.reads_failed) × (a.reports_failed ≡ b.reports_failed) × (a.writes_failed ≡ b.writes_failed)
 ended_for job b a done ended = let same = no_fault (done_of job) b a (Ok done) ended in (same.0, same.2, same.1)
 
--- one that broke off did so for the object that failed
-pub broke_for : {S T U : Type 0} (b a : World S T U) (fault : BridgeFault) → HasItsCause {T = Unit {0}} (faults_in b) (faults_in a) (Err fault)
+rises_for : {S T U : Type 0} (b a : World S T U) (fault : BridgeFault) → HasItsCause {T = Unit {0}} (faults_in b) (faults_in a) (Err fault)
     → RoseFor (cause_in fault) (error_counts b.reads_failed b.writes_failed b.reports_failed) (error_counts a.reads_failed a.writes_failed a.reports_failed)
-broke_for b a ReadFault (rose, same) = (rose, ap (λ (f : Faults). f.report) same)
-broke_for b a WriteFault (rose, same) = (ap (λ (f : Faults). f.input) same, ap (λ (f : Faults). f.report) same, rose)
-broke_for b a ReportFault (rose, same) = (ap (λ (f : Faults). f.input) same, rose)
-broke_for b a NotThisForm same = (ap (λ (f : Faults). f.input) same, ap (λ (f : Faults). f.report) same)
-broke_for b a TooLong same = (ap (λ (f : Faults). f.input) same, ap (λ (f : Faults). f.report) same)
-broke_for b a NoMemory same = (ap (λ (f : Faults). f.input) same, ap (λ (f : Faults). f.report) same)
+rises_for b a ReadFault (rose, same) = (rose, ap (λ (f : Faults). f.report) same)
+rises_for b a WriteFault (rose, same) = (ap (λ (f : Faults). f.input) same, ap (λ (f : Faults). f.report) same, rose)
+rises_for b a ReportFault (rose, same) = (ap (λ (f : Faults). f.input) same, rose)
+rises_for b a NotThisForm same = (ap (λ (f : Faults). f.input) same, ap (λ (f : Faults). f.report) same)
+rises_for b a TooLong same = (ap (λ (f : Faults). f.input) same, ap (λ (f : Faults). f.report) same)
+rises_for b a NoMemory same = (ap (λ (f : Faults). f.input) same, ap (λ (f : Faults). f.report) same)
+
+-- one that broke off did so for the object that failed
+pub broke_for : {S T U : Type 0} (job : Job) (b a : World S T U) (fault : BridgeFault) → Broke (done_of job) b a fault
+    → RoseFor (cause_in fault) (error_counts b.reads_failed b.writes_failed b.reports_failed) (error_counts a.reads_failed a.writes_failed a.reports_failed)
+broke_for job b a fault broke = rises_for b a fault broke.cause
 
 nothing_said : (left : Option (List ℕ)) → IfSome left (λ bytes. Unit {0})
 nothing_said None = tt

@@ -1,13 +1,11 @@
 -- What a task makes of the bytes that it reads, and what it counts of them.
-use Rattle.std.specs.Prelude.{◌≡◌, ◌≤◌, ◌^◌, ℕ, List, length, Bool, true, Option, None, Some, IsSome}
+use Rattle.std.specs.Prelude.{◌≤◌, ◌^◌, ℕ, List, length, Bool, true, Option, None, IsSome}
 use Rattle.one_run.specs.declared.fault.BridgeFault.{BridgeFault}
 use Rattle.one_run.specs.declared.fault.BridgeFault.TheVariants.{ReadFault, WriteFault, ReportFault, NotThisForm, TooLong, NoMemory}
 use Rattle.whole_file.specs.Steps.{Cause}
 use Rattle.whole_file.specs.Steps.Cause.{Read, Write, Other, NoCall}
-use Rattle.whole_file.specs.declared.kinds.Kind.{Kind}
 use Rattle.bridge_engine.specs.Meanings.{done_of, meaning_of}
 use Rattle.bridge_engine.specs.declared.done.Done.{Done}
-use Rattle.bridge_engine.specs.declared.job.Job.{Job}
 use Rattle.file_conversion.specs.declared.table.Task.{Task}
 use Rattle.file_conversion.specs.declared.table.Task.TheVariants.{Copied, Does}
 

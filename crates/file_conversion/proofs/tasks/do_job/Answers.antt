@@ -21,7 +21,7 @@ pub returns-in-Ok-clause-causes : goal.returns-in-Ok-clause-causes
 returns-in-Ok-clause-causes g c = ended_for _ _ _ c.in-Ok.done c.in-Ok.ensures.ended
 
 pub returns-in-Err-clause-causes : goal.returns-in-Err-clause-causes
-returns-in-Err-clause-causes g c = broke_for _ _ c.in-Err.fault c.in-Err.ensures.ended.cause
+returns-in-Err-clause-causes g c = broke_for _ _ _ c.in-Err.fault c.in-Err.ensures.ended
 
 pub returns-in-Err-clause-breaks : goal.returns-in-Err-clause-breaks
 returns-in-Err-clause-breaks g c = breaks_of _ _ _ c.in-Err.fault c.requires c.in-Err.ensures.ended
