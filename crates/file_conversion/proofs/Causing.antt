@@ -13,7 +13,7 @@ use Rattle.whole_file.specs.declared.step.StepFault.{StepFault}
 use Rattle.whole_file.specs.declared.step.StepFault.TheVariants.{Begin, Run, Unnamed, Publish}
 use Rattle.receiver_log.specs.Capture.{too_many}
 use Rattle.file_conversion.specs.Causes.{ComesFrom, FileErrors, RunComesFrom, StopsFor, StopsOrLacks, StopsWith, file_errors}
-use Rattle.file_conversion.specs.Makes.{AcceptsBy, CanConvert, RejectsBy, kind_under, read_under, task_under}
+use Rattle.file_conversion.specs.Makes.{AcceptsBy, CanConvert, RejectsBy, read_under, task_under}
 use Rattle.file_conversion.specs.Says.{status_for}
 use Rattle.file_conversion.specs.Steps.{EndsSo, IsBegun, IsLack, Made, StopsAhead, told_by}
 use Rattle.file_conversion.specs.Stops.{stopped_by}
@@ -390,7 +390,7 @@ comes_file plan files from source reads reads_new folder folder_open folder_mid 
 -- what its input reports changes no exit status
 pub stops_told : (status : ℕ) (done result : Result Made Stop) (read : Option FileFault) → result ≡ told_by done read → StopsWith status done
     → StopsWith status result
-stops_told status done result read so stops = subst (StopsWith status) (sym so) (by_end done stops) where
+stops_told status done result read so has = subst (StopsWith status) (sym so) (by_end done has) where
   by_end : (done : Result Made Stop) → StopsWith status done → StopsWith status (told_by done read)
   by_end (Ok made) never = never
   by_end (Err (stops.Open fault)) is = is
