@@ -154,7 +154,7 @@ copied_bytes (Some bytes) few = (tt, few)
 
 pub copy_accepts : (left : Option (List ℕ)) (r : Result (Option Done) BridgeFault) → OnOk r (IfSome left (λ bytes. length bytes < 2 ^ 32))
     → OnOk r (IfSome left (λ bytes. accepts Copied bytes × (length bytes < 2 ^ 32)))
-copy_accepts left (Ok done) few = copied_bytes left few
+copy_accepts left (Ok counts) few = copied_bytes left few
 copy_accepts left (Err fault) few = tt
 
 none_rises : {A : Type 0} → Rose 0 0 → A
@@ -164,7 +164,7 @@ none_rises rose = absurd (omega (arith, rose))
 pub copy_ends : (input input_new output output_new report : ℕ) (r : Result (Option Done) BridgeFault)
     → EndsFor cause_in (error_counts input output 0) (error_counts input_new output_new 0) r
     → EndsFor cause_in (error_counts input output report) (error_counts input_new output_new report) r
-copy_ends input input_new output output_new report (Ok done) ends = (ends.0, refl, ends.2)
+copy_ends input input_new output output_new report (Ok counts) ends = (ends.0, refl, ends.2)
 copy_ends input input_new output output_new report (Err ReadFault) ends = (ends.0, refl)
 copy_ends input input_new output output_new report (Err WriteFault) ends = (ends.0, refl, ends.2)
 copy_ends input input_new output output_new report (Err ReportFault) ends = none_rises ends.1
