@@ -1,7 +1,7 @@
 -- From a source that was looked at to the conversion that is begun.
-use Rattle.std.proofs.Common.{◌≡◌, ◌<◌, ◌^◌, ℕ, length, true, List, Option, None, Some, Result, Ok, Err, sym, ap, subst, ◌∙◌, refl}
+use Rattle.std.proofs.Common.{◌≡◌, ℕ, true, List, Option, None, Some, Result, Err, sym, ap, subst, ◌∙◌, refl}
 use Rattle.std.specs.Option.{option_map}
-use Rattle.std.specs.Prelude.{IfErr, IfSome, OnOk}
+use Rattle.std.specs.Prelude.{IfSome}
 use Rattle.std.specs.Io.KnownBytes.{Keeps}
 use Rattle.nav_io.specs.Causes.{Rose}
 use Rattle.bridge_engine.specs.declared.job.Job.TheVariants as jobs
@@ -10,7 +10,7 @@ use Rattle.whole_file.specs.declared.kinds.Kind.TheVariants as kinds
 use Rattle.file_conversion.specs.Makes.{AcceptsBy, CanConvert, ReadsUnder, kind_under, read_under, task_under}
 use Rattle.file_conversion.specs.Logs.{read_as}
 use Rattle.file_conversion.specs.Steps.{IsBegun, IsLack, IsReady, IsStopped, IsUnconverted, Made}
-use Rattle.file_conversion.specs.Table.{capture_task, capture_to, file_to, stream_to, file3_task, file4_task, log_task, stream_task, task_for}
+use Rattle.file_conversion.specs.Table.{capture_task, capture_to, file3_task, file4_task, log_task, stream_task, task_for}
 use Rattle.file_conversion.specs.Tasks.{reads_input}
 use Rattle.file_conversion.specs.declared.ready.Ready.{Ready}
 use Rattle.file_conversion.specs.declared.stops.Stop.{Stop}

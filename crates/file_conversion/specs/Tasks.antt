@@ -1,5 +1,5 @@
 -- What a task makes of the bytes that it reads, and what it counts of them.
-use Rattle.std.specs.Prelude.{◌≡◌, ℕ, List, Bool, true, Option, None, Some, IsSome}
+use Rattle.std.specs.Prelude.{ℕ, List, Bool, true, Option, None, IsSome}
 use Rattle.one_run.specs.Ends.{giving}
 use Rattle.one_run.specs.Runs.{Meaning}
 use Rattle.system_streams.specs.Streams.{systems_meaning}
