@@ -1,5 +1,5 @@
 -- What a task makes of the bytes that it reads, and what it counts of them.
-use Rattle.std.specs.Prelude.{◌≡◌, ◌≤◌, ◌^◌, ℕ, List, length, Bool, true, Option, None, Some, IsSome}
+use Rattle.std.specs.Prelude.{◌≤◌, ◌^◌, ℕ, List, length, Bool, true, Option, None, IsSome}
 use Rattle.one_run.specs.declared.fault.BridgeFault.{BridgeFault}
 use Rattle.one_run.specs.declared.fault.BridgeFault.TheVariants.{ReadFault, WriteFault, ReportFault, NotThisForm, TooLong, NoMemory}
 use Rattle.whole_file.specs.Steps.{Cause}
