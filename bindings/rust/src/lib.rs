@@ -192,7 +192,7 @@ pub fn subframe_write(subframe: &Subframe, tow_count: u32) -> Result<[u8; 38], E
 
 /// The ephemeris of subframes 1, 2 and 3 of a GPS satellite, of one issue; its week is near this one, 1024 to 8191.
 pub fn subframes_join(subframes: &[Subframe; 3], satellite: u32, week: u32) -> Result<Item, Error> {
-    let subframes = subframes.each_ref().map(raw::Subframe::of);
+    let subframes = [0, 1, 2].map(|it| raw::Subframe::of(&subframes[it]));
     read(|item| unsafe { raw::nb_subframes_join(&subframes, satellite, week, item) })
 }
 
@@ -212,6 +212,6 @@ pub fn page_write(word: &Word, satellite: u32) -> Result<[u8; 30], Error> {
 
 /// The ephemeris of words 1 to 5 of a Galileo satellite, of one issue; its week is near this one, 1024 to 8191.
 pub fn words_join(words: &[Word; 5], satellite: u32, week: u32) -> Result<Item, Error> {
-    let words = words.each_ref().map(raw::Word::of);
+    let words = [0, 1, 2, 3, 4].map(|it| raw::Word::of(&words[it]));
     read(|item| unsafe { raw::nb_words_join(&words, satellite, week, item) })
 }
