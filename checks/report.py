@@ -20,6 +20,7 @@ import gzip
 import json
 import os
 import random
+import re
 import shutil
 import subprocess
 import sys
@@ -333,6 +334,25 @@ def look(tally, browser, site, report):
     tally.same("errors of the pages", [it for it in browser.events if it.get("method") in ("Runtime.exceptionThrown", "Log.entryAdded")], [])
 
 
+def contrasts(tally):
+    """WCAG 2.1, 1.4.3 and 1.4.11: texts have a contrast of 4.5 at least, lines and areas one of 3, light and dark."""
+    def light(colour):
+        parts = [int(colour[at:at + 2], 16) / 255 for at in (1, 3, 5)]
+        return sum(part * (it / 12.92 if it <= 0.04045 else ((it + 0.055) / 1.055) ** 2.4) for part, it in zip((0.2126, 0.7152, 0.0722), parts))
+    with open(os.path.join(TOP, "examples", "report", "page.css"), encoding="ascii") as file:
+        schemes = re.findall(r":root \{(.*?)\}", file.read(), re.S)
+    low = []
+    for scheme in schemes:
+        of = dict(re.findall(r"--([\w-]+): (#\w{6})", scheme))
+        for least, pairs in ((4.5, "text page,text panel,soft page,soft panel,link page,gap page,gap panel,cover-text cover"),
+                             (3, "cover page,cover panel,gap panel,ill page,mark page,focus page,focus panel,soft page")):
+            for pair in pairs.split(","):
+                dark, bright = sorted(light(of[it]) for it in pair.split())
+                if (bright + 0.05) / (dark + 0.05) < least:
+                    low.append(pair)
+    tally.same("contrasts", (len(schemes), low), (2, []))
+
+
 def month(tally, browser, site, report, by_name):
     """The timeline: by month, day and hour, by the mouse and by keys."""
     browser.open(f"file://{site}/2024-01.html")
@@ -427,6 +447,7 @@ def main():
         tally.same("names in the site", sorted(os.listdir(again)), ["2024-01.html", "files.html", "index.html", "report.json"])
         for words in (["-o", site], [archive], ["-o", site, "--from", "2024-13-01", archive], ["-o", site, "--from", "2024-02-01", "--to", "2024-01-01", archive]):
             run(*words, status=2)
+        contrasts(tally)
         if chromium():
             browser = Browser(chromium(), os.path.join(work, "browser"))
             try:

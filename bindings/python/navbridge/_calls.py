@@ -278,7 +278,7 @@ def records(file: BinaryIO, version: int = 4) -> Iterator[str]:
     while not size:
         if is_end:
             raise Error(Status.NOT_THIS_FORM)
-        text, is_end = _longer(text, read(65536))
+        text, is_end = _longer(text[text.rfind(b"\n") + 1 :], read(65536))  # lines that do not end it are dropped
         size = library().nb_header_size(*view(text, "text"))
     while True:
         at = size
