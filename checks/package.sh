@@ -237,7 +237,7 @@ assert b"".join(frames) == open(sys.argv[1], "rb").read()' "$OLDPWD/examples/eph
     timeout 20 "$@" 2295 < examples/ephemerides.rtcm3 2> "$work/said" | sed '/PGM/d' | diff <(sed '/PGM/d' examples/expected/ephemerides.rnx) -
     cmp "$work/said" examples/expected/ephemerides.live
   }
-  read -r -a flags < <(pkg-config --cflags --libs navbridge | xargs)
+  read -r -a flags < <(pkg-config --cflags --libs navbridge)
   compiles() { "$@" "${flags[@]}"; }
   silent "examples/live: C compiles" compiles cc -o "$work/live_c" examples/live/live.c
   silent "examples/live: C" lives "$work/live_c"
