@@ -239,11 +239,11 @@ assert b"".join(frames) == open(sys.argv[1], "rb").read()' "$OLDPWD/examples/eph
   }
   read -r -a flags < <(pkg-config --cflags --libs navbridge)
   compiles() { "$@" "${flags[@]}"; }
-  silent "examples/live: C compiles" compiles cc -o "$work/live_c" examples/live/live.c
+  silent "examples/live: C compiles" compiles cc -o "$work/live_c" /usr/share/doc/libnavbridge-dev/examples/live/live.c
   silent "examples/live: C" lives "$work/live_c"
-  silent "examples/live: C++ compiles" compiles c++ -std=c++17 -o "$work/live_cpp" examples/live/live.cpp
+  silent "examples/live: C++ compiles" compiles c++ -std=c++17 -o "$work/live_cpp" /usr/share/doc/libnavbridge-dev/examples/live/live.cpp
   silent "examples/live: C++" lives "$work/live_cpp"
-  silent "examples/live: Python" lives /usr/bin/python3 examples/live/live.py
+  silent "examples/live: Python" lives /usr/bin/python3 /usr/share/doc/python3-navbridge/examples/live/live.py
   silent "the library: removed" sh -c 'dpkg -P python3-navbridge libnavbridge-dev libnavbridge2 > /dev/null'
 fi
 silent "removed" remove_it

@@ -132,9 +132,12 @@ def view(data: Any, name: str, size: int | None = None) -> tuple[Any, int]:
         length = len(data)
     else:
         try:
-            at = memoryview(data).cast("B")
+            lent = memoryview(data)
         except TypeError:
             raise TypeError(f"{name}: bytes, bytearray or memoryview is wanted, not {type(data).__name__}") from None
+        if not lent.c_contiguous:
+            raise TypeError(f"{name}: its bytes are not one after another")
+        at = lent.cast("B")
         length = len(at)
         # what may not be written is not lent by ctypes
         given = bytes(at) if at.readonly or not length else (ctypes.c_char * length).from_buffer(at)
