@@ -1,7 +1,8 @@
 #!/usr/bin/env bash
 # Builds the library for C from the archive of bindings/archive.sh, and tests it from outside: the examples compiled as C99 and as
 # C++, each run of examples/runs.txt by nb_convert, the stateless calls against values of an independent program, buffers of many
-# sizes, four threads, each allocation failing once, random calls for half a minute (bench/fuzz.sh), the Python module, the Rust crate.
+# sizes, four threads, each allocation failing once, random calls for a minute (bench/fuzz.sh), the packages for Python and Rust, and
+# a program of each language (examples/live) over what is installed.
 #
 #   checks/bindings.sh [--archive FILE] [--sanitize] [--valgrind]
 #
@@ -51,6 +52,24 @@ installs() { make -s -C bindings/c LIB="$archive" OUT="$made" CFLAGS="-O2 $sanit
 listens() {
   LD_LIBRARY_PATH=$stage/usr/lib/tried "$1" 2295 < examples/ephemerides.rtcm3 | cmp -s - examples/expected/ephemerides.heard || differs "$1, as it is installed"
 }
+# A program of examples/live over what is installed: of a pipe it gives the first ephemeris before the second is sent
+lives() { # language, command
+  local language=$1 at=$out/live
+  shift
+  tried=$((tried + 1))
+  rm -f "$at" "$at".*
+  mkfifo "$at"
+  LD_LIBRARY_PATH=$stage/usr/lib/tried timeout 60 "$@" 2295 < "$at" > "$at.rnx" 2> "$at.said" &
+  exec 3> "$at"
+  head -c 69 examples/ephemerides.rtcm3 >&3
+  for _ in $(seq 100); do [ "$(wc -l < "$at.rnx")" -lt 12 ] || break; sleep 0.1; done
+  [ "$(wc -l < "$at.said"),$(grep -c '^> EPH' "$at.rnx")" = 1,1 ] || differs "examples/live, $language: not the first ephemeris alone before the end"
+  tail -c +70 examples/ephemerides.rtcm3 >&3
+  exec 3>&-
+  wait $! || differs "examples/live, $language: its status"
+  cmp -s "$at.said" examples/expected/ephemerides.live || differs "examples/live, $language: its lines"
+  diff <(sed '/PGM/d' examples/expected/ephemerides.rnx) <(sed '/PGM/d' "$at.rnx") || differs "examples/live, $language: its file"
+}
 if [ -z "$sanitize" ]; then
   installs install || differs 'make install'
   cp -r examples/c "$out/example"
@@ -67,8 +86,12 @@ if [ -z "$sanitize" ]; then
   else
     echo 'examples/c/CMakeLists.txt: not tried, since cmake is not there'
   fi
-  installs uninstall || differs 'make uninstall'
-  [ -z "$(find "$stage" ! -type d)" ] || differs "make uninstall leaves $(find "$stage" ! -type d)"
+  over=(-Wall -Wextra -Werror -pedantic "-I$stage/usr/include" "-L$stage/usr/lib/tried")
+  { cc -std=c99 "${over[@]}" -o "$out/live_c" examples/live/live.c -lnavbridge -lm && lives C "$out/live_c"; } || differs 'examples/live/live.c'
+  for standard in 17 20; do
+    { c++ -std=c++$standard "${over[@]}" -o "$out/live_cpp" examples/live/live.cpp -lnavbridge -lm && lives "C++$standard" "$out/live_cpp"; } \
+      || differs "examples/live/live.cpp, C++$standard"
+  done
 fi
 # The runs of examples/runs.txt by one of the examples in C: of `follow` those that can be pushed
 for program in convert convert++ follow follow++; do
@@ -140,33 +163,62 @@ if command -v python3 > /dev/null && [ -z "$sanitize" ]; then
   export PYTHONDONTWRITEBYTECODE=1
   grep -qx "__version__ = \"$(sed -n 's/^## \([0-9][^ ]*\).*/\1/p;T;q' CHANGELOG.md)\"" bindings/python/navbridge/__init__.py \
     || differs 'the version of the package for Python is not that of CHANGELOG.md'
-  NAVBRIDGE_LIBRARY=$made/libnavbridge.so.2 python3 bindings/python/tests.py > "$out/python.log" 2>&1 || { cat "$out/python.log"; differs 'bindings/python/tests.py'; }
+  # the first that has these modules
+  python_with() {
+    local it
+    for it in python3 /usr/bin/python3; do
+      if command -v "$it" > /dev/null && "$it" -c "import $1" 2> /dev/null; then echo "$it" && return; fi
+    done
+    return 1
+  }
+  python=$(python_with numpy) || { python=python3 && echo 'arrays in Python: not tried, since numpy is not there'; }
+  NAVBRIDGE_LIBRARY=$made/libnavbridge.so.2 "$python" bindings/python/tests.py > "$out/python.log" 2>&1 || { cat "$out/python.log"; differs 'bindings/python/tests.py'; }
+  if command -v mypy > /dev/null; then
+    MYPYPATH=bindings/python mypy --strict --cache-dir="$out/mypy" bindings/python/navbridge examples/live/live.py > "$out/python.log" 2>&1 \
+      || { cat "$out/python.log"; differs 'the types of the package for Python'; }
+  else
+    echo 'the types of the package for Python: not checked, since mypy is not there'
+  fi
   # a wheel, with no network: it has the shared object, and works where nothing else is
-  wheels=
-  for python in python3 /usr/bin/python3; do
-    if "$python" -c 'import setuptools, wheel, pip' 2> /dev/null; then wheels=$python; break; fi
-  done
-  if [ -n "$wheels" ]; then
+  if python=$(python_with setuptools,wheel,pip); then
     cp -r bindings/python "$out/python"
-    { NAVBRIDGE_LIBRARY=$made/libnavbridge.so.2 "$wheels" -m pip wheel -q --no-index --no-build-isolation --no-deps -w "$out/wheels" "$out/python" \
-      && "$wheels" -m pip install -q --no-index --no-deps --target "$out/site" "$out"/wheels/navbridge-*-py3-none-linux_*.whl; } > "$out/python.log" 2>&1 \
+    { NAVBRIDGE_LIBRARY=$made/libnavbridge.so.2 "$python" -m pip wheel -q --no-index --no-build-isolation --no-deps -w "$out/wheels" "$out/python" \
+      && "$python" -m pip install -q --no-index --no-deps --target "$out/site" "$out"/wheels/navbridge-*-py3-none-linux_*.whl; } > "$out/python.log" 2>&1 \
       || { cat "$out/python.log"; differs 'pip wheel'; }
-    PYTHONPATH=$out/site "$wheels" bindings/python/tests.py --installed > "$out/python.log" 2>&1 || { cat "$out/python.log"; differs 'bindings/python/tests.py, of the wheel'; }
+    PYTHONPATH=$out/site "$python" bindings/python/tests.py --installed > "$out/python.log" 2>&1 || { cat "$out/python.log"; differs 'bindings/python/tests.py, of the wheel'; }
+    PYTHONPATH=$out/site lives Python "$python" examples/live/live.py
   else
     echo 'the wheel: not tried, since pip, setuptools or wheel is not there'
   fi
   echo 'the package for Python: its example and its tests were run'
 fi
 if command -v cargo > /dev/null && [ -z "$sanitize" ]; then
-  export CARGO_TARGET_DIR=$out/cargo NAVBRIDGE_LIB_DIR=$made
-  cargo test -q --offline --locked --manifest-path bindings/rust/Cargo.toml > "$out/rust.log" 2>&1 || { cat "$out/rust.log"; differs 'bindings/rust: cargo test'; }
-  RUSTDOCFLAGS='-D warnings' cargo doc -q --offline --locked --manifest-path bindings/rust/Cargo.toml > "$out/rust.log" 2>&1 \
-    || { cat "$out/rust.log"; differs 'bindings/rust: cargo doc'; }
+  # over what is installed, by the compiler that is found first and by Debian's
+  export NAVBRIDGE_LIB_DIR=$stage/usr/lib/tried
+  declare -A tools
+  for it in "$(command -v cargo)" /usr/bin/cargo; do
+    if [ ! -x "$it" ] || [ -n "${tools[$it]:-}" ]; then continue; fi
+    tools[$it]=1
+    export CARGO_TARGET_DIR=$out/cargo/${#tools[@]}
+    # Debian's with its own compiler, not the first of the path
+    if [ "$it" = /usr/bin/cargo ] && [ -x /usr/bin/rustc ] && [ -x /usr/bin/rustdoc ]; then export RUSTC=/usr/bin/rustc RUSTDOC=/usr/bin/rustdoc; fi
+    rust=$("$it" --version)
+    "$it" test -q --offline --locked --manifest-path bindings/rust/Cargo.toml > "$out/rust.log" 2>&1 || { cat "$out/rust.log"; differs "bindings/rust: cargo test, $rust"; }
+    RUSTDOCFLAGS='-D warnings' "$it" doc -q --offline --locked --manifest-path bindings/rust/Cargo.toml > "$out/rust.log" 2>&1 \
+      || { cat "$out/rust.log"; differs "bindings/rust: cargo doc, $rust"; }
+    "$it" build -q --offline --locked --example live --manifest-path bindings/rust/Cargo.toml > "$out/rust.log" 2>&1 || { cat "$out/rust.log"; differs "bindings/rust: the example, $rust"; }
+    lives "Rust, $rust" "$CARGO_TARGET_DIR/debug/examples/live"
+  done
+  unset RUSTC RUSTDOC
   grep -qx "version = \"$(sed -n 's/^## \([0-9][^ ]*\).*/\1/p;T;q' CHANGELOG.md)\"" bindings/rust/Cargo.toml \
     || differs 'the version of bindings/rust is not that of CHANGELOG.md'
   echo 'the crate for Rust: its example and its tests were run'
 fi
 if [ -z "$sanitize" ]; then
-  bench/fuzz.sh --archive "$archive" --minutes 0.5 --seed 1 --corpus "$out/corpus" || differs 'bench/fuzz.sh'
+  installs uninstall || differs 'make uninstall'
+  [ -z "$(find "$stage" ! -type d)" ] || differs "make uninstall leaves $(find "$stage" ! -type d)"
+fi
+if [ -z "$sanitize" ]; then
+  bench/fuzz.sh --archive "$archive" --minutes 1 --seed 1 --corpus "$out/corpus" || differs 'bench/fuzz.sh'
 fi
 ended bindings

@@ -225,6 +225,20 @@ has "objects of a check" out file,status,error,output,made,malformed '[["station
 has "rejections" out rejections '[[[{"unit": "line", "number": 48, "reason": "parity 3"}, {"unit": "line", "number": 159, "reason": "parity 3"}, {"unit": "line", "number": 403, "reason": "malformed"}, {"unit": "line", "number": 1122, "reason": "late"}]], [[]], [[]], [[]]]'
 run "objects of conversions" 0 - --json "${date[@]}" -o json.rnx station.navcap
 has "objects of conversions" out file,status,format,output,ephemerides,ionospheres,rejected,late,skipped,clock_week,rejections '[["station.navcap", 0, "capture", "json.rnx", 2, 2, 2, 1, 0, null, null]]'
+cat > keys.py << 'END'
+# Whether the objects have the keys of the man page.
+import json, re, sys
+section = re.search(r"^\.Sh JSON\n(.*?)^\.Sh", open(sys.argv[1]).read(), re.M | re.S)[1]
+page = {it for line in re.findall(r"^(?:\.It )?\.?Cm (.*)$", section, re.M) for it in re.findall(r"\w+", line)}
+objects = [json.loads(line) for name in sys.argv[2:] for line in open(name)]
+found = {key for it in objects for key in it} | {key for it in objects for one in it.get("rejections", []) for key in one}
+if page != found:
+    print("differ:", sorted(page ^ found))
+END
+"$navconvert" --check --json station.navcap log.ubx none.navcap > checked.json 2> said
+tried=$((tried + 1))
+python3 keys.py "$top/docs/navconvert.1" checked.json out > said 2>&1
+[ ! -s said ] || differs "keys of objects" "not those of the man page"
 run "an object beside an output" 0 '"format":"capture","output":null,' --json -t list -o - station.navcap
 is_same "an object beside an output" out "$examples/station.list"
 

@@ -232,6 +232,18 @@ frames = list(navbridge.frames(open(sys.argv[1], "rb")))
 assert b"".join(frames) == open(sys.argv[1], "rb").read()' "$OLDPWD/examples/ephemerides.rtcm3")
   }
   silent "Python's finds the frames of a stream" imports
+  # the program of each language in examples/live
+  lives() {
+    timeout 20 "$@" 2295 < examples/ephemerides.rtcm3 2> "$work/said" | sed '/PGM/d' | diff <(sed '/PGM/d' examples/expected/ephemerides.rnx) -
+    cmp "$work/said" examples/expected/ephemerides.live
+  }
+  read -r -a flags < <(pkg-config --cflags --libs navbridge)
+  compiles() { "$@" "${flags[@]}"; }
+  silent "examples/live: C compiles" compiles cc -o "$work/live_c" /usr/share/doc/libnavbridge-dev/examples/live/live.c
+  silent "examples/live: C" lives "$work/live_c"
+  silent "examples/live: C++ compiles" compiles c++ -std=c++17 -o "$work/live_cpp" /usr/share/doc/libnavbridge-dev/examples/live/live.cpp
+  silent "examples/live: C++" lives "$work/live_cpp"
+  silent "examples/live: Python" lives /usr/bin/python3 /usr/share/doc/python3-navbridge/examples/live/live.py
   silent "the library: removed" sh -c 'dpkg -P python3-navbridge libnavbridge-dev libnavbridge2 > /dev/null'
 fi
 silent "removed" remove_it

@@ -20,12 +20,14 @@ import gzip
 import json
 import os
 import random
-import select
+import re
 import shutil
 import subprocess
 import sys
 import tempfile
 import time
+
+from browser import Browser, chromium
 
 TOP = os.path.dirname(os.path.dirname(os.path.realpath(__file__)))
 NAVREPORT = os.path.join(TOP, "examples", "navreport")
@@ -277,104 +279,7 @@ def compare(tally, report, plan):
                [("G24", 200, [0], [63]), ("G24", 236, [63], [0]), ("E36", 360, [0], [0, 6]), ("E36", 363, [0, 6], [0]), ("E11", 450, [0], [2]), ("E11", 468, [2], [0])])
 
 
-# --- the browser, by the DevTools protocol over two pipes
-
-class Browser:
-    def __init__(self, program, home):
-        to_it, from_it = os.pipe(), os.pipe()
-
-        def pipes():  # the browser reads from 3 and writes to 4
-            reader, writer = os.dup(to_it[0]), os.dup(from_it[1])
-            os.dup2(reader, 3)
-            os.dup2(writer, 4)
-        self.run = subprocess.Popen([program, "--headless=new", "--no-sandbox", "--disable-gpu", "--no-first-run", "--disable-extensions", "--disable-dev-shm-usage",
-                                     "--hide-scrollbars", "--disable-background-networking", f"--user-data-dir={home}", "--remote-debugging-pipe", "about:blank"],
-                                    stdin=subprocess.DEVNULL, stdout=subprocess.DEVNULL, stderr=subprocess.DEVNULL, preexec_fn=pipes, close_fds=False)
-        os.close(to_it[0])
-        os.close(from_it[1])
-        self.writer, self.reader, self.rest, self.number, self.session = to_it[1], from_it[0], b"", 0, None
-        self.events = []
-        target = self.call("Target.createTarget", url="about:blank")["targetId"]
-        self.session = self.call("Target.attachToTarget", targetId=target, flatten=True)["sessionId"]
-        for domain in ("Page", "Runtime", "Network", "Log"):
-            self.call(domain + ".enable")
-
-    def call(self, method, **params):
-        self.number += 1
-        text = {"id": self.number, "method": method, "params": params}
-        if self.session:
-            text["sessionId"] = self.session
-        os.write(self.writer, json.dumps(text).encode() + b"\0")
-        until = time.monotonic() + 60
-        while True:
-            said = self.next(until)
-            if said.get("id") == self.number:
-                if "error" in said:
-                    raise RuntimeError(f"{method}: {said['error']}")
-                return said["result"]
-            self.events.append(said)
-
-    def next(self, until):
-        while b"\0" not in self.rest:
-            if not select.select([self.reader], [], [], max(0, until - time.monotonic()))[0]:
-                raise RuntimeError("the browser does not answer")
-            more = os.read(self.reader, 1 << 20)
-            if not more:
-                raise RuntimeError("the browser has ended")
-            self.rest += more
-        text, self.rest = self.rest.split(b"\0", 1)
-        return json.loads(text)
-
-    def js(self, text):
-        said = self.call("Runtime.evaluate", expression=text, returnByValue=True)
-        if "exceptionDetails" in said:
-            raise RuntimeError(f"{text}: {said['exceptionDetails']}")
-        return said["result"].get("value")
-
-    def open(self, url):
-        self.call("Page.navigate", url="about:blank")
-        self.call("Page.navigate", url=url)
-        until = time.monotonic() + 60
-        while not self.js("document.documentElement?.dataset.ready === '1'"):
-            if time.monotonic() > until:
-                raise RuntimeError(f"{url}: its script has not run")
-            time.sleep(0.05)
-
-    def click(self, text, part_x=0.5, part_y=0.5):
-        """Clicks into an element, at a part of its width and height."""
-        box = self.js(f"(() => {{ const it = {text}; it.scrollIntoView({{block: 'center', behavior: 'instant'}}); const b = it.getBoundingClientRect(); return [b.left, b.top, b.width, b.height]; }})()")
-        x, y = box[0] + part_x * box[2], box[1] + part_y * box[3]
-        for kind in ("mousePressed", "mouseReleased"):
-            self.call("Input.dispatchMouseEvent", type=kind, x=x, y=y, button="left", clickCount=1)
-
-    def key(self, name):
-        for kind in ("rawKeyDown", "keyUp"):
-            self.call("Input.dispatchKeyEvent", type=kind, key=name, code=name)
-
-    def size(self, width, height):
-        self.call("Emulation.setDeviceMetricsOverride", width=width, height=height, deviceScaleFactor=1, mobile=False)
-
-    def scheme(self, name):
-        self.call("Emulation.setEmulatedMedia", features=[{"name": "prefers-color-scheme", "value": name}])
-
-    def picture(self, path, height=0):
-        import base64
-        clip = {"captureBeyondViewport": True, "clip": {"x": 0, "y": 0, "width": self.js("innerWidth"), "height": height or self.js("document.body.scrollHeight"), "scale": 1}}
-        with open(path, "wb") as file:
-            file.write(base64.b64decode(self.call("Page.captureScreenshot", format="png", **clip)["data"]))
-
-    def end(self):
-        try:
-            self.session = None
-            self.call("Browser.close")
-        except (RuntimeError, OSError):
-            pass
-        try:
-            self.run.wait(10)
-        except subprocess.TimeoutExpired:
-            self.run.kill()
-            self.run.wait()
-
+# --- the pages in a browser
 
 def texts(name):
     """The cells of a table, by its id."""
@@ -427,6 +332,25 @@ def look(tally, browser, site, report):
     asked = {it["params"]["request"]["url"].split("#")[0] for it in browser.events if it.get("method") == "Network.requestWillBeSent"}
     tally.same("what was asked for", asked, {f"file://{site}/{name}.html" for name in ("index", "2024-01", "files")})
     tally.same("errors of the pages", [it for it in browser.events if it.get("method") in ("Runtime.exceptionThrown", "Log.entryAdded")], [])
+
+
+def contrasts(tally):
+    """WCAG 2.1, 1.4.3 and 1.4.11: texts have a contrast of 4.5 at least, lines and areas one of 3, light and dark."""
+    def light(colour):
+        parts = [int(colour[at:at + 2], 16) / 255 for at in (1, 3, 5)]
+        return sum(part * (it / 12.92 if it <= 0.04045 else ((it + 0.055) / 1.055) ** 2.4) for part, it in zip((0.2126, 0.7152, 0.0722), parts))
+    with open(os.path.join(TOP, "examples", "report", "page.css"), encoding="ascii") as file:
+        schemes = re.findall(r":root \{(.*?)\}", file.read(), re.S)
+    low = []
+    for scheme in schemes:
+        of = dict(re.findall(r"--([\w-]+): (#\w{6})", scheme))
+        for least, pairs in ((4.5, "text page,text panel,soft page,soft panel,link page,gap page,gap panel,cover-text cover"),
+                             (3, "cover page,cover panel,gap panel,ill page,mark page,focus page,focus panel,soft page")):
+            for pair in pairs.split(","):
+                dark, bright = sorted(light(of[it]) for it in pair.split())
+                if (bright + 0.05) / (dark + 0.05) < least:
+                    low.append(pair)
+    tally.same("contrasts", (len(schemes), low), (2, []))
 
 
 def month(tally, browser, site, report, by_name):
@@ -523,9 +447,9 @@ def main():
         tally.same("names in the site", sorted(os.listdir(again)), ["2024-01.html", "files.html", "index.html", "report.json"])
         for words in (["-o", site], [archive], ["-o", site, "--from", "2024-13-01", archive], ["-o", site, "--from", "2024-02-01", "--to", "2024-01-01", archive]):
             run(*words, status=2)
-        chromium = shutil.which("chromium") or shutil.which("chromium-browser") or shutil.which("google-chrome")
-        if chromium:
-            browser = Browser(chromium, os.path.join(work, "browser"))
+        contrasts(tally)
+        if chromium():
+            browser = Browser(chromium(), os.path.join(work, "browser"))
             try:
                 look(tally, browser, site, report)
                 if args.screenshots:

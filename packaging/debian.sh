@@ -246,6 +246,13 @@ begin libnavbridge-dev
 mv "$work/stage/usr/include" "$root/usr"
 mv "$stage"/* "$root/usr/lib/$multiarch"
 strip --strip-debug --enable-deterministic-archives "$root/usr/lib/$multiarch/libnavbridge.a"
+shown() { # of a package: the page of the library, and examples
+  local name=$1 it
+  shift
+  put 644 "usr/share/doc/$name/LIBRARY.md" docs/LIBRARY.md
+  for it; do put 644 "usr/share/doc/$name/$it" "$it"; done
+}
+shown libnavbridge-dev examples/c/* examples/live/*.c examples/live/*.cpp
 pack libnavbridge-dev "$architecture" << END
 Multi-Arch: same
 Depends: libnavbridge2 (= $version)
@@ -263,6 +270,7 @@ packages=usr/lib/python3/dist-packages
 for it in bindings/python/navbridge/*.py bindings/python/navbridge/py.typed; do put 644 "$packages/navbridge/${it##*/}" "$it"; done
 mkdir -p "$root/$packages/navbridge-$version.dist-info"
 printf 'Metadata-Version: 2.1\nName: navbridge\nVersion: %s\n' "$version" > "$root/$packages/navbridge-$version.dist-info/METADATA"
+shown python3-navbridge examples/live/live.py
 script postinst << 'END'
 if command -v py3compile > /dev/null 2>&1; then py3compile -p python3-navbridge; fi
 END

@@ -636,7 +636,7 @@ nb_status nb_record_read(const uint8_t *text, size_t n, uint32_t version, nb_ite
 /**
  * @brief Writes the record of an item: its lines, each with LF.
  * @param version 4 for RINEX 4.01, with the line that begins with `>`; 3 for RINEX 3.05, without it
- * @param used    set to the length of the record, which may be more than the buffer: the prefix that fits is written.
+ * @param used    set to the length of the record, at most 704 bytes, which may be more than the buffer: the prefix that fits is written.
  *                Ionospheric parameters have no record in version 3, and the length is 0
  * @return NB_OK, NB_NO_VERSION or NB_NO_ITEM; without NB_OK nothing is written, and the length is 0
  */

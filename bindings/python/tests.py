@@ -88,6 +88,7 @@ class Refused(unittest.TestCase):
             (lambda: navbridge.convert([b"--from=stream"], b""), TypeError),
             (lambda: navbridge.frame_make(bytes(1024)), ValueError),
             (lambda: list(navbridge.frames(io.StringIO("text"))), TypeError),
+            (lambda: navbridge.Deframer().feed(memoryview(STREAM)[::2]), TypeError),
         ):
             with self.assertRaises(error):
                 what()

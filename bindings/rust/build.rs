@@ -6,7 +6,7 @@ fn main() {
     println!("cargo:rerun-if-env-changed=NAVBRIDGE_LIB_DIR");
     let made = PathBuf::from(env!("CARGO_MANIFEST_DIR")).join("../c/out");
     let named = std::env::var_os("NAVBRIDGE_LIB_DIR").map(PathBuf::from);
-    match named.or_else(|| made.join("libnavbridge.a").exists().then(|| made)) {
+    match named.or_else(|| made.join("libnavbridge.a").exists().then_some(made)) {
         Some(place) => {
             println!("cargo:rustc-link-search=native={}", place.display());
             println!("cargo:rustc-link-lib=static=navbridge");

@@ -4,6 +4,7 @@ from __future__ import annotations
 
 import ctypes
 import datetime
+import math
 import mmap
 import threading
 from typing import Any, BinaryIO, Callable, Iterator, NamedTuple, Sequence
@@ -81,18 +82,22 @@ def frame_make(payload: Any) -> bytes:
     return room.raw[:size]
 
 
+def _read(call: Callable[..., int], *given: Any) -> Any:
+    room = ctypes.create_string_buffer(ITEM_SIZE)
+    done(call(*given, room))
+    return item_of(room.raw)
+
+
 def message_read(payload: Any, week: int) -> Gps | Gal:
     """The ephemeris in message 1019 or 1046, whose week is the one near this, 1024 to 8191."""
-    room = ctypes.create_string_buffer(ITEM_SIZE)
-    done(library().nb_message_read(*view(payload, "payload"), number(week, "week"), room))
-    return item_of(room.raw)
+    item: Gps | Gal = _read(library().nb_message_read, *view(payload, "payload"), number(week, "week"))
+    return item
 
 
 def frame_read(frame: Any, week: int) -> Gps | Gal:
     """The ephemeris in message 1019 or 1046 of a complete frame, as ``message_read`` reads it of the payload."""
-    room = ctypes.create_string_buffer(ITEM_SIZE)
-    done(library().nb_frame_read(*view(frame, "frame"), number(week, "week"), room))
-    return item_of(room.raw)
+    item: Gps | Gal = _read(library().nb_frame_read, *view(frame, "frame"), number(week, "week"))
+    return item
 
 
 def week_of_unix(seconds: float) -> int:
@@ -137,8 +142,8 @@ class Column(NamedTuple):
 
     def value(self) -> float:
         """The value in this unit, angles in radians."""
-        value = self.integer * self.factor * 2.0**self.two * (PI if self.is_angle else 1)
-        return value / 10**-self.ten if self.ten < 0 else value * 10**self.ten
+        value = math.ldexp(self.integer * self.factor, self.two) * (PI if self.is_angle else 1.0)
+        return value / 10.0**-self.ten if self.ten < 0 else value * 10.0**self.ten
 
 
 class Row(NamedTuple):
@@ -197,7 +202,8 @@ def subframe_read(bits: Any, satellite: int) -> Subframe:
     """The content of an LNAV subframe of that GPS satellite: 300 bits with parity and four that are ignored, 38 bytes."""
     room = ctypes.create_string_buffer(160)
     done(library().nb_subframe_read(view(bits, "bits", 38)[0], number(satellite, "satellite"), room))
-    return _kept(Subframe._of_bytes(room.raw), SUBFRAMES)
+    subframe: Subframe = Subframe._of_bytes(room.raw)
+    return _kept(subframe, subframe.number, SUBFRAMES)
 
 
 def subframe_write(subframe: Subframe, tow_count: int) -> bytes:
@@ -210,23 +216,24 @@ def subframe_write(subframe: Subframe, tow_count: int) -> bytes:
 
 def subframes_join(subframes: Sequence[Subframe], satellite: int, week: int) -> Gps:
     """The ephemeris of subframes 1, 2 and 3 of a GPS satellite, of one issue; its week is near this one, 1024 to 8191."""
-    return _joined(library().nb_subframes_join, [_wanted(_typed(it, Subframe), SUBFRAMES) for it in subframes], 3, satellite, week)
+    parts = [_wanted(_typed(it, Subframe), SUBFRAMES) for it in subframes]
+    gps: Gps = _joined(library().nb_subframes_join, parts, 3, satellite, week)
+    return gps
 
 
 def _joined(call: Callable[..., int], parts: list[bytes], wanted: int, satellite: int, week: int) -> Any:
     if len(parts) != wanted:
         raise ValueError(f"{wanted} parts are wanted, not {len(parts)}")
-    room = ctypes.create_string_buffer(ITEM_SIZE)
     given = b"".join(parts)
-    done(call(ctypes.create_string_buffer(given, len(given)), number(satellite, "satellite"), number(week, "week"), room))
-    return item_of(room.raw)
+    return _read(call, ctypes.create_string_buffer(given, len(given)), number(satellite, "satellite"), number(week, "week"))
 
 
 def page_read(page: Any, satellite: int) -> Word:
     """The content of the word of an I/NAV page of that Galileo satellite: its even and its odd part, 15 bytes each."""
     room = ctypes.create_string_buffer(152)
     done(library().nb_page_read(view(page, "page", 30)[0], number(satellite, "satellite"), room))
-    return _kept(Word._of_bytes(room.raw), WORDS)
+    word: Word = Word._of_bytes(room.raw)
+    return _kept(word, word.number, WORDS)
 
 
 def page_write(word: Word, satellite: int) -> bytes:
@@ -239,14 +246,15 @@ def page_write(word: Word, satellite: int) -> bytes:
 
 def words_join(words: Sequence[Word], satellite: int, week: int) -> Gal:
     """The ephemeris of words 1 to 5 of a Galileo satellite, of one issue; its week is near this one, 1024 to 8191."""
-    return _joined(library().nb_words_join, [_wanted(_typed(it, Word), WORDS) for it in words], 5, satellite, week)
+    gal: Gal = _joined(library().nb_words_join, [_wanted(_typed(it, Word), WORDS) for it in words], 5, satellite, week)
+    return gal
 
 
 def record_read(text: str, version: int = 4) -> Item:
     """The item of one record of a navigation file, of version 4 with its title line, of version 3 without."""
-    room, lines = ctypes.create_string_buffer(ITEM_SIZE), _typed(text, str).encode("latin-1", "replace")
-    done(library().nb_record_read(lines, len(lines), number(version, "version"), room))
-    return item_of(room.raw)
+    lines = _typed(text, str).encode("latin-1", "replace")
+    item: Item = _read(library().nb_record_read, lines, len(lines), number(version, "version"))
+    return item
 
 
 def record_write(item: Item, version: int = 4) -> str:
@@ -270,11 +278,11 @@ def records(file: BinaryIO, version: int = 4) -> Iterator[str]:
     while not size:
         if is_end:
             raise Error(Status.NOT_THIS_FORM)
-        text, is_end = _longer(text, read(65536))
+        text, is_end = _longer(text[text.rfind(b"\n") + 1 :], read(65536))  # lines that do not end it are dropped
         size = library().nb_header_size(*view(text, "text"))
     while True:
         at = size
-        first = ctypes.cast(text, ctypes.c_void_p).value or 0
+        first = ctypes.cast(ctypes.c_char_p(text), ctypes.c_void_p).value or 0
         while size := library().nb_record_size(first + at, len(text) - at, version, is_end):
             yield text[at : at + size].decode("latin-1")
             at += size
@@ -292,7 +300,7 @@ class _State:
 
     def __init__(self, size: int) -> None:
         self._lock = threading.Lock()
-        self._state = (ctypes.c_uint64 * ((size + 7) // 8))()
+        self._state: Any = (ctypes.c_uint64 * ((size + 7) // 8))()
 
     def __reduce_ex__(self, protocol: Any) -> Any:
         raise TypeError(f"a {type(self).__name__} cannot be copied")

@@ -117,23 +117,27 @@ def done(status: int) -> None:
 def number(value: Any, name: str, low: int = 0, high: int = 2**32 - 1) -> int:
     """An integer in a range: TypeError where it is none, ValueError where it is out of it."""
     try:
-        value = operator.index(value)
+        integer = operator.index(value)
     except TypeError:
         raise TypeError(f"{name}: an integer is wanted, not {type(value).__name__}") from None
-    if not low <= value <= high:
-        raise ValueError(f"{name}: {value} is not {low} to {high}")
-    return value
+    if not low <= integer <= high:
+        raise ValueError(f"{name}: {integer} is not {low} to {high}")
+    return integer
 
 
 def view(data: Any, name: str, size: int | None = None) -> tuple[Any, int]:
     """What a call takes of bytes, bytearray, memoryview and the like, and how many bytes that is."""
+    given: Any = data
     if isinstance(data, bytes):
-        given, length = data, len(data)
+        length = len(data)
     else:
         try:
-            at = memoryview(data).cast("B")
+            lent = memoryview(data)
         except TypeError:
             raise TypeError(f"{name}: bytes, bytearray or memoryview is wanted, not {type(data).__name__}") from None
+        if not lent.c_contiguous:
+            raise TypeError(f"{name}: its bytes are not one after another")
+        at = lent.cast("B")
         length = len(at)
         # what may not be written is not lent by ctypes
         given = bytes(at) if at.readonly or not length else (ctypes.c_char * length).from_buffer(at)

@@ -7,7 +7,7 @@ from __future__ import annotations
 import math
 import struct
 from dataclasses import dataclass, field, fields
-from typing import Any, Iterable, Iterator, NamedTuple
+from typing import TYPE_CHECKING, Any, Iterable, Iterator, NamedTuple, TypeVar
 
 from ._library import number
 
@@ -49,18 +49,20 @@ class Numbers:
 
     __slots__ = ()
 
-    def __setattr__(self, name: str, value: Any) -> None:
-        it = _META[type(self)].get(name)
-        where = f"{type(self).__name__}.{name}"
-        if it is None:
-            raise AttributeError(f"{where}: there is no such field")
-        if "of" in it:
-            if not isinstance(value, it["of"]) and not (value is None and "maybe" in it):
-                raise TypeError(f"{where}: {it['of'].__name__} is wanted, not {type(value).__name__}")
-        elif "is" in it or value is not None:
-            limits = it["is"] if "is" in it else it["sent"]
-            value = number(value, where, limits.low, limits.high)
-        object.__setattr__(self, name, value)
+    if not TYPE_CHECKING:  # for a type checker a field that is not there is a mistake
+
+        def __setattr__(self, name: str, value: Any) -> None:
+            it = _META[type(self)].get(name)
+            where = f"{type(self).__name__}.{name}"
+            if it is None:
+                raise AttributeError(f"{where}: there is no such field")
+            if "of" in it:
+                if not isinstance(value, it["of"]) and not (value is None and "maybe" in it):
+                    raise TypeError(f"{where}: {it['of'].__name__} is wanted, not {type(value).__name__}")
+            elif "is" in it or value is not None:
+                limits = it["is"] if "is" in it else it["sent"]
+                value = number(value, where, limits.low, limits.high)
+            object.__setattr__(self, name, value)
 
     def si(self) -> dict[str, float]:
         """The numbers in SI units, angles in radians, under their names; an index and a flag as they are."""
@@ -96,6 +98,7 @@ class Numbers:
         return cls._of_flat(iter(_LAYOUT[cls].unpack_from(data, at)))
 
 
+_Kind = TypeVar("_Kind")
 _META: dict[type, dict[str, dict[str, Any]]] = {}
 _LAYOUT: dict[type, struct.Struct] = {}
 
@@ -104,14 +107,14 @@ def _codes(kind: type) -> str:
     return "".join("Ii" if "sent" in it else it["is"].code if "is" in it else _codes(it["of"]) for it in _META[kind].values())
 
 
-def _numbers(kind: type) -> Any:
-    made = dataclass(slots=True)(kind)
-    _META[made] = {it.name: dict(it.metadata) for it in fields(made)}
-    _LAYOUT[made] = struct.Struct("<" + _codes(made))
-    return made
+def _numbers(kind: type[_Kind]) -> type[_Kind]:
+    _META[kind] = {it.name: dict(it.metadata) for it in fields(kind)}
+    _LAYOUT[kind] = struct.Struct("<" + _codes(kind))
+    return kind
 
 
 @_numbers
+@dataclass(slots=True)
 class GpsClock(Numbers):
     """The clock of a GPS satellite, of subframe 1."""
 
@@ -124,6 +127,7 @@ class GpsClock(Numbers):
 
 
 @_numbers
+@dataclass(slots=True)
 class GpsSide(Numbers):
     """What subframe 1 has beside the clock."""
 
@@ -134,6 +138,7 @@ class GpsSide(Numbers):
 
 
 @_numbers
+@dataclass(slots=True)
 class GpsOrbitA(Numbers):
     """The first half of the orbit of a GPS satellite, of subframe 2."""
 
@@ -149,6 +154,7 @@ class GpsOrbitA(Numbers):
 
 
 @_numbers
+@dataclass(slots=True)
 class GpsOrbitB(Numbers):
     """The second half of the orbit of a GPS satellite, of subframe 3."""
 
@@ -197,6 +203,7 @@ def _orbit(si: dict[str, float], group: tuple[float, float]) -> Orbit:
 
 
 @_numbers
+@dataclass(slots=True)
 class Gps(Numbers):
     """An ephemeris of GPS. ``sent`` is its transmission time in seconds of the week of toe, None where it is not known."""
 
@@ -215,6 +222,7 @@ class Gps(Numbers):
 
 
 @_numbers
+@dataclass(slots=True)
 class GalWord1(Numbers):
     """The first part of the orbit of a Galileo satellite, of I/NAV word 1."""
 
@@ -226,6 +234,7 @@ class GalWord1(Numbers):
 
 
 @_numbers
+@dataclass(slots=True)
 class GalWord2(Numbers):
     """The second part, of I/NAV word 2."""
 
@@ -237,6 +246,7 @@ class GalWord2(Numbers):
 
 
 @_numbers
+@dataclass(slots=True)
 class GalWord3(Numbers):
     """The third part, with the accuracy, of I/NAV word 3."""
 
@@ -251,6 +261,7 @@ class GalWord3(Numbers):
 
 
 @_numbers
+@dataclass(slots=True)
 class GalWord4(Numbers):
     """The last part, with the clock, of I/NAV word 4."""
 
@@ -264,6 +275,7 @@ class GalWord4(Numbers):
 
 
 @_numbers
+@dataclass(slots=True)
 class GalHealth(Numbers):
     """Group delays and health of a Galileo satellite, of I/NAV word 5."""
 
@@ -276,6 +288,7 @@ class GalHealth(Numbers):
 
 
 @_numbers
+@dataclass(slots=True)
 class Gal(Numbers):
     """An ephemeris of Galileo. ``sent`` is its transmission time in seconds of the week of toe, None where it is not known."""
 
@@ -295,6 +308,7 @@ class Gal(Numbers):
 
 
 @_numbers
+@dataclass(slots=True)
 class GpsIon(Numbers):
     """GPS ionospheric parameters of subframe 4, page 18; in SI units the powers of a semicircle stay."""
 
@@ -309,6 +323,7 @@ class GpsIon(Numbers):
 
 
 @_numbers
+@dataclass(slots=True)
 class GalIon(Numbers):
     """Galileo ionospheric parameters of I/NAV word 5: solar flux units, and these per degree and per degree squared."""
 
@@ -319,6 +334,7 @@ class GalIon(Numbers):
 
 
 @_numbers
+@dataclass(slots=True)
 class Ion(Numbers):
     """Ionospheric parameters of one system, ``gps`` or ``gal``; ``moment`` is GPS time in seconds from 1980-01-06."""
 
@@ -335,13 +351,14 @@ def _wanted(it: Any, parts: dict[int, tuple[str, ...]]) -> bytes:
     return bytes(it)
 
 
-def _kept(it: Any, parts: dict[int, tuple[str, ...]]) -> Any:
-    for name in {name for names in parts.values() for name in names} - set(parts[it.number]):
+def _kept(it: _Kind, number: int, parts: dict[int, tuple[str, ...]]) -> _Kind:
+    for name in {name for names in parts.values() for name in names} - set(parts[number]):
         setattr(it, name, None)
     return it
 
 
 @_numbers
+@dataclass(slots=True)
 class Subframe(Numbers):
     """The content of an LNAV subframe: of ``number`` 1 ``wn``, ``second``, ``clock`` and ``side``, of 2 ``a`` and ``fit``, of 3
     ``b``, of 4 (page 18) ``second`` and ``ion``. What is not of its number is None, or 0."""
@@ -358,6 +375,7 @@ class Subframe(Numbers):
 
 
 @_numbers
+@dataclass(slots=True)
 class Word(Numbers):
     """The content of an I/NAV word: of ``number`` 1 to 4 ``w1`` to ``w4``, of 5 ``wn``, ``second``, ``health`` and ``ion``. What is
     not of its number is None, or 0."""
@@ -376,7 +394,8 @@ class Word(Numbers):
 SUBFRAMES = {1: ("clock", "side"), 2: ("a",), 3: ("b",), 4: ("ion",)}
 WORDS = {1: ("w1",), 2: ("w2",), 3: ("w3",), 4: ("w4",), 5: ("health", "ion")}
 Item = Gps | Gal | Ion
-ITEM_SIZE, _AT = 344, {GPS: (4, Gps), GALILEO: (136, Gal), GPS_ION: (280, Ion), GALILEO_ION: (280, Ion)}
+ITEM_SIZE = 344
+_AT: dict[int, tuple[int, Any]] = {GPS: (4, Gps), GALILEO: (136, Gal), GPS_ION: (280, Ion), GALILEO_ION: (280, Ion)}
 
 
 def item_bytes(item: Item) -> bytearray:

@@ -161,6 +161,31 @@ pub fn header_write(date: &str, leap: u8, version: u32) -> Result<String, Error>
     })?)
 }
 
+/// The date of a header, as `20240101 000000 UTC`, of a time in seconds since 1970-01-01, up to the year 9999.
+pub fn date_of_unix(seconds: u64) -> String {
+    let (mut year, mut day, second) = (1970, seconds / 86_400, seconds % 86_400);
+    let is_leap = |year: u64| year % 4 == 0 && (year % 100 != 0 || year % 400 == 0);
+    while year < 9999 && day >= 365 + u64::from(is_leap(year)) {
+        day -= 365 + u64::from(is_leap(year));
+        year += 1;
+    }
+    let february = 28 + u64::from(is_leap(year));
+    let mut month = 1;
+    for days in [31, february, 31, 30, 31, 30, 31, 31, 30, 31, 30] {
+        if day < days {
+            break;
+        }
+        day -= days;
+        month += 1;
+    }
+    let (hour, minute) = (second / 3600, second / 60 % 60);
+    format!(
+        "{year:04}{month:02}{:02} {hour:02}{minute:02}{:02} UTC",
+        day.min(30) + 1,
+        second % 60
+    )
+}
+
 /// How many bytes the header at the start of a file has; `None` where no complete line of these bytes ends it.
 pub fn header_size(bytes: &[u8]) -> Option<usize> {
     let size = unsafe { raw::nb_header_size(bytes.as_ptr(), bytes.len()) };
@@ -192,7 +217,7 @@ pub fn subframe_write(subframe: &Subframe, tow_count: u32) -> Result<[u8; 38], E
 
 /// The ephemeris of subframes 1, 2 and 3 of a GPS satellite, of one issue; its week is near this one, 1024 to 8191.
 pub fn subframes_join(subframes: &[Subframe; 3], satellite: u32, week: u32) -> Result<Item, Error> {
-    let subframes = subframes.each_ref().map(raw::Subframe::of);
+    let subframes = [0, 1, 2].map(|it| raw::Subframe::of(&subframes[it]));
     read(|item| unsafe { raw::nb_subframes_join(&subframes, satellite, week, item) })
 }
 
@@ -212,6 +237,6 @@ pub fn page_write(word: &Word, satellite: u32) -> Result<[u8; 30], Error> {
 
 /// The ephemeris of words 1 to 5 of a Galileo satellite, of one issue; its week is near this one, 1024 to 8191.
 pub fn words_join(words: &[Word; 5], satellite: u32, week: u32) -> Result<Item, Error> {
-    let words = words.each_ref().map(raw::Word::of);
+    let words = [0, 1, 2, 3, 4].map(|it| raw::Word::of(&words[it]));
     read(|item| unsafe { raw::nb_words_join(&words, satellite, week, item) })
 }

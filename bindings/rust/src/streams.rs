@@ -153,6 +153,11 @@ impl<R: Read> Iterator for Records<R> {
             if self.ended {
                 return None;
             }
+            if self.in_header {
+                // lines that do not end it are dropped
+                let end = self.text.iter().rposition(|&it| it == b'\n');
+                self.at = end.map_or(0, |it| it + 1);
+            }
             self.text.drain(..std::mem::take(&mut self.at));
             match self.reader.read(&mut piece) {
                 Ok(size) => {

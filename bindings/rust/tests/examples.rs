@@ -88,7 +88,7 @@ fn what_is_read_is_written() {
 #[test]
 fn records_of_a_file_are_those_of_its_stream() {
     let file = read("expected/ephemerides.rnx");
-    let header = header_write("20240101 000000 UTC", 18, 4).unwrap();
+    let header = header_write(&date_of_unix(1_704_067_200), 18, 4).unwrap();
     assert!(file.starts_with(header.as_bytes()));
     let texts: Vec<String> = records(&file[..], 4).map(Result::unwrap).collect();
     assert_eq!(header + &texts.concat(), String::from_utf8(file).unwrap());
@@ -100,6 +100,21 @@ fn records_of_a_file_are_those_of_its_stream() {
         .map(|frame| frame_read(&frame.unwrap(), 2295).unwrap())
         .collect();
     assert_eq!(items, stream);
+}
+
+#[test]
+fn dates_are_those_of_the_calendar() {
+    for (seconds, date) in [
+        (0, "19700101 000000 UTC"),
+        (951_782_399, "20000228 235959 UTC"),
+        (951_782_400, "20000229 000000 UTC"),
+        (1_709_164_800, "20240229 000000 UTC"),
+        (1_735_689_599, "20241231 235959 UTC"),
+        (4_107_542_400, "21000301 000000 UTC"),
+        (253_402_300_799, "99991231 235959 UTC"),
+    ] {
+        assert_eq!(date_of_unix(seconds), date);
+    }
 }
 
 #[test]
