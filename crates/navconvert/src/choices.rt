@@ -10,9 +10,9 @@ use crate::reports::{is_headed, report_of};
 use crate::staged::{Before, staged_of};
 use crate::taken::Known;
 use crate::telling::{tell_file, tell_program};
-use crate::values::plan_of;
+use crate::values::{Wanted, wanted_of};
 use crate::words::is_broken;
-use file_conversion::{Plan, Refusal};
+use file_conversion::Refusal;
 use std::cell::Cell;
 use std::fs::File;
 use std::io::IsTerminal;
@@ -32,14 +32,14 @@ pub(crate) fn do_asked(rt: &HostRuntime, asked: &Asked) -> u8 {
     if let Some(refusal) = refused(rt, asked) {
         return tell_program(rt, &refusal);
     }
-    match plan_of(rt, asked) {
-        Ok(plan) => do_plan(rt, asked, plan),
+    match wanted_of(rt, asked) {
+        Ok(wanted) => do_wanted(rt, asked, wanted),
         Err(refusal) => tell_program(rt, &refusal),
     }
 }
 
-// Does what is asked by this plan; the status.
-fn do_plan(rt: &HostRuntime, asked: &Asked, plan: Plan) -> u8 {
+// Does what is asked of each file; the status.
+fn do_wanted(rt: &HostRuntime, asked: &Asked, wanted: Wanted) -> u8 {
     match report_of(rt, asked) {
         Ok(report) => {
             let rejections = Rejections {
@@ -49,7 +49,7 @@ fn do_plan(rt: &HostRuntime, asked: &Asked, plan: Plan) -> u8 {
                 is_quiet: asked.has("quiet"),
                 count: Cell::new(0),
             };
-            convert_asked(rt, asked, plan, report.as_ref(), &rejections)
+            convert_asked(rt, asked, wanted, report.as_ref(), &rejections)
         }
         Err(refusal) => tell_program(rt, &refusal),
     }
@@ -72,17 +72,17 @@ fn refused<'a>(rt: &HostRuntime, asked: &Asked<'a>) -> Option<Refusal<'a>> {
     }
 }
 
-// Converts each file by this plan, with reports to this one; the status.
+// Converts each file as it is asked, with reports to this one; the status.
 fn convert_asked<'x, 'a>(
     rt: &'x HostRuntime,
     asked: &'x Asked<'a>,
-    plan: Plan,
+    wanted: Wanted,
     report: Option<&'x File>,
     rejections: &'x Rejections<'x>,
 ) -> u8 {
     let settings = Settings {
         rt,
-        plan,
+        wanted,
         staged: &[],
         before: Before::new(),
         output: output_of(rt, asked),
@@ -107,7 +107,7 @@ fn convert_staged<'a>(settings: &Settings<'a>, files: &'a [&'a str]) -> u8 {
         Err(status) => status,
         Ok((staged, before)) => {
             let settings = Settings {
-                plan: merging(settings.plan),
+                wanted: merging(settings.wanted),
                 staged: staged.as_slice(),
                 before,
                 ..*settings
@@ -117,11 +117,14 @@ fn convert_staged<'a>(settings: &Settings<'a>, files: &'a [&'a str]) -> u8 {
     }
 }
 
-// The plan by which files are merged: those of RINEX 3 are of RINEX 4 now.
-fn merging(plan: Plan) -> Plan {
-    match plan.form {
-        Some(Kind::Rinex3) if plan.target.takes_several() => Plan { form: None, ..plan },
-        _ => plan,
+// What is asked of files that are merged: those of RINEX 3 are of RINEX 4 now.
+fn merging(wanted: Wanted) -> Wanted {
+    match wanted.form {
+        Some(Kind::Rinex3) if wanted.target.takes_several() => Wanted {
+            form: None,
+            ..wanted
+        },
+        _ => wanted,
     }
 }
 
@@ -130,7 +133,7 @@ fn convert_files<'a>(settings: &Settings<'a>, files: &'a [&'a str]) -> u8 {
     let Ok(mut known) = Known::new(settings.rt, files) else {
         return tell_program(settings.rt, &Refusal::NoMemory);
     };
-    if are_joined(settings.plan.target, files) {
+    if are_joined(settings.wanted.target, files) {
         return convert_joined(settings, files, &mut known);
     }
     let mut status = 0;

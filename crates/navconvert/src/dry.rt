@@ -3,10 +3,11 @@
 use crate::files::Settings;
 use crate::forms::{format_word, input_kind};
 use crate::inputs::{Inputs, opened};
-use crate::staged::{is_three, plan_before};
+use crate::staged::{is_three, wanted_before};
 use crate::telling::tell_file;
+use crate::values::Wanted;
 use bridge_engine::Job;
-use file_conversion::{Plan, Refusal, Target, Task, task_for, to_word};
+use file_conversion::{Refusal, Target, Task, task_for, to_word};
 use gnss_week::RefWeek;
 use std::str::from_utf8;
 use whole_file::Kind;
@@ -20,7 +21,7 @@ pub(crate) fn show_files(
     name: Option<&str>,
 ) -> u8 {
     for file in files {
-        if settings.plan.target.takes_several() && is_three(settings, file) {
+        if settings.wanted.target.takes_several() && is_three(settings, file) {
             return show_before(settings, files, name);
         }
     }
@@ -28,7 +29,7 @@ pub(crate) fn show_files(
         names: files,
         staged: &[],
     };
-    match input_kind(settings, settings.plan.form, opened(settings.rt, inputs)) {
+    match input_kind(settings, settings.wanted.form, opened(settings.rt, inputs)) {
         Ok(kind) => show_kind(settings, first, files, name, kind),
         Err(refusal) => tell_file(settings, first, &refusal),
     }
@@ -41,7 +42,7 @@ fn show_before(settings: &Settings, files: &[&str], name: Option<&str>) -> u8 {
     for file in files {
         if is_three(settings, file) {
             line.text(" navbridge");
-            line.job(&plan_before(settings), Kind::Rinex3);
+            line.job(&wanted_before(settings), Kind::Rinex3);
             line.word(" < ", file);
         } else {
             line.word(" cat -- ", file);
@@ -49,7 +50,7 @@ fn show_before(settings: &Settings, files: &[&str], name: Option<&str>) -> u8 {
         line.text(";");
     }
     line.text(" } | navbridge");
-    line.job(&settings.plan, Kind::Rinex4);
+    line.job(&settings.wanted, Kind::Rinex4);
     line.end(name)
 }
 
@@ -61,7 +62,7 @@ fn show_kind(
     name: Option<&str>,
     kind: Kind,
 ) -> u8 {
-    let Some(task) = task_for(&settings.plan, kind) else {
+    let Some(task) = task_for(&settings.wanted.plan(), kind) else {
         return tell_file(settings, first, &Refusal::NoSuchConversion(kind));
     };
     let mut line = Line::new(settings.rt);
@@ -71,12 +72,12 @@ fn show_kind(
             line.files(mark, files);
             if !matches!(task, Task::Copied) {
                 line.text(" | navbridge");
-                line.job(&settings.plan, kind);
+                line.job(&settings.wanted, kind);
             }
         }
         None => {
             line.text(program_of(&task));
-            line.job(&settings.plan, kind);
+            line.job(&settings.wanted, kind);
             line.files(" < ", files);
         }
     }
@@ -156,19 +157,19 @@ impl<'a> Line<'a> {
     }
 
     // Prints the options for a file of this form.
-    fn job(&mut self, plan: &Plan, kind: Kind) {
+    fn job(&mut self, wanted: &Wanted, kind: Kind) {
         self.option("--from=", from_word(kind));
-        self.option("--to=", to_word(plan.target));
-        if let Some(task) = task_for(plan, kind) {
+        self.option("--to=", to_word(wanted.target));
+        if let Some(task) = task_for(&wanted.plan(), kind) {
             if let Some(week) = week_in(&task) {
                 let week = week.value();
                 self.whole = self.whole && print!(self.rt; " '--week={week}'").is_ok();
             }
         }
-        if let Target::Rinex | Target::Rinex3 | Target::Merged = plan.target {
-            let leap = plan.header.leap;
+        if let Target::Rinex | Target::Rinex3 | Target::Merged = wanted.target {
+            let leap = wanted.header.leap;
             self.whole = self.whole && print!(self.rt; " '--leap={leap}'").is_ok();
-            self.option("--date=", from_utf8(&plan.header.date).unwrap_or(""));
+            self.option("--date=", from_utf8(&wanted.header.date).unwrap_or(""));
         }
     }
 

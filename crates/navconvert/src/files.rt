@@ -12,8 +12,9 @@ use crate::staged::Before;
 use crate::steps::{Goes, made_by};
 use crate::taken::{Known, is_closed, is_read_once, is_same_file, taken};
 use crate::telling::tell_file;
+use crate::values::Wanted;
 use crate::words::is_broken;
-use file_conversion::{Plan, Refusal, STANDARD_OUTPUT, Target, ending_of, is_converted};
+use file_conversion::{Refusal, STANDARD_OUTPUT, Target, ending_of, is_converted};
 use std::fs::File;
 use std::path::Path;
 use std::slice::from_ref;
@@ -25,7 +26,7 @@ pub(crate) struct Settings<'a> {
     /// The runtime.
     pub rt: &'a HostRuntime,
     /// What is asked of each file.
-    pub plan: Plan,
+    pub wanted: Wanted,
     /// The bytes that replace files which were converted before.
     pub staged: &'a [Staged],
     /// What was rejected and skipped of those.
@@ -121,7 +122,7 @@ fn refused_form<'a>(settings: &Settings<'a>, file: &'a str) -> Option<u8> {
     }
     match file_kind(settings, None, file) {
         Err(refusal) => Some(tell_file(settings, file, &refusal)),
-        Ok(kind) if is_converted(kind, settings.plan.target) => None,
+        Ok(kind) if is_converted(kind, settings.wanted.target) => None,
         Ok(kind) => Some(tell_file(settings, file, &Refusal::NoSuchConversion(kind))),
     }
 }
@@ -163,7 +164,7 @@ fn named<'a>(settings: &Settings<'a>, first: &'a str) -> Result<String, Refusal<
     if let Output::File(name) = settings.output {
         return owned(alloc, name);
     }
-    match name_of(alloc, first, ending_of(settings.plan.target)) {
+    match name_of(alloc, first, ending_of(settings.wanted.target)) {
         Ok(name) => placed(alloc, settings.output, first, name.as_str()),
         Err(refusal) => Err(refusal),
     }
@@ -243,8 +244,8 @@ fn unconverted(settings: &Settings, file: &str) -> Option<Kind> {
     if file == "-" || !Path::new(file).is_file(settings.rt) {
         return None;
     }
-    let target = settings.plan.target;
-    match file_kind(settings, settings.plan.form, file) {
+    let target = settings.wanted.target;
+    match file_kind(settings, settings.wanted.form, file) {
         Ok(kind) if !is_converted(kind, target) => Some(kind),
         _ => None,
     }

@@ -74,7 +74,7 @@ fn is_named(settings: &Settings, first: &str) -> bool {
     };
     is_placed
         && matches!(
-            settings.plan.target,
+            settings.wanted.target,
             Target::Rinex | Target::Rinex3 | Target::Merged
         )
 }

@@ -13,8 +13,9 @@ use crate::summary::counted;
 use crate::systems::Skips;
 use crate::taken::is_read_once;
 use crate::telling::tell_file;
+use crate::values::Wanted;
 use bridge_engine::Done;
-use file_conversion::{Outcome, Plan, Refusal, Target, refusal_of};
+use file_conversion::{Outcome, Refusal, Target, refusal_of};
 use std::slice::from_ref;
 use whole_file::{Given, Kind};
 
@@ -56,7 +57,7 @@ pub(crate) fn staged_of<'a>(
 ) -> Result<(Vec<Staged>, Before), u8> {
     let mut all = Vec::new(settings.rt.alloc());
     let mut before = Before::new();
-    if settings.dry || !settings.plan.target.takes_several() {
+    if settings.dry || !settings.wanted.target.takes_several() {
         return Ok((all, before));
     }
     for file in files {
@@ -80,12 +81,12 @@ pub(crate) fn is_three(settings: &Settings, file: &str) -> bool {
     matches!(file_kind(settings, None, file), Ok(Kind::Rinex3))
 }
 
-/// The plan by which a file of RINEX 3 is converted to RINEX 4.
-pub(crate) fn plan_before(settings: &Settings) -> Plan {
-    Plan {
+/// What is asked of a file of RINEX 3 that is merged: to convert it to RINEX 4.
+pub(crate) fn wanted_before(settings: &Settings) -> Wanted {
+    Wanted {
         form: Some(Kind::Rinex3),
         target: Target::Rinex,
-        ..settings.plan
+        ..settings.wanted
     }
 }
 
@@ -118,7 +119,7 @@ fn convert_by<'a>(
         staged: &[],
     };
     let first = Settings {
-        plan: plan_before(settings),
+        wanted: wanted_before(settings),
         ..*settings
     };
     let mut place = Place::new(&first, inputs, Goal::Memory);

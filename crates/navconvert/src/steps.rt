@@ -81,7 +81,7 @@ pub(crate) fn converted<'a, A: Namer<Option<Done>>>(
     };
     convert_one(
         settings.rt.alloc(),
-        &settings.plan,
+        &settings.wanted.plan(),
         place,
         observers,
         first,

@@ -104,7 +104,7 @@ impl fmt::Display for Summary<'_, '_> {
 impl Summary<'_, '_> {
     // What was made: ephemerides and ionosphere records, where they are told apart.
     fn parts(&self) -> Option<(u64, u64)> {
-        match (self.settings.plan.target, self.counted.items) {
+        match (self.settings.wanted.target, self.counted.items) {
             (Target::Rinex | Target::Merged, Some(_)) => {
                 Some((self.seen.made.ephemerides, self.seen.made.ionospheres))
             }
@@ -141,14 +141,14 @@ impl Summary<'_, '_> {
 
     // The week of the clock, if the file was read by it: its task has a week, and none is named.
     fn clock_week(&self) -> Option<u32> {
-        let plan = &self.settings.plan;
+        let wanted = &self.settings.wanted;
         let Some(kind) = self.kind else {
             return None;
         };
-        match task_for(plan, kind) {
-            Some(task) if plan.week.is_none() => match week_in(&task) {
+        match task_for(&wanted.plan(), kind) {
+            Some(task) if wanted.week.is_none() => match week_in(&task) {
                 None => None,
-                Some(_) => Some(plan.clock_week.value()),
+                Some(_) => Some(wanted.clock_week.value()),
             },
             _ => None,
         }

@@ -50,7 +50,7 @@ pub(crate) fn tell_file(settings: &Settings, file: &str, refusal: &Refusal) -> u
 
 // Why a file of this form is not converted to what is asked.
 fn form_refusal(settings: &Settings, file: &str, kind: Kind) -> Refusal<'static> {
-    let target = settings.plan.target;
+    let target = settings.wanted.target;
     match kind {
         Kind::Gzip => Refusal::Unready("packed by gzip; unpack it", "gzip -dc FILE", target),
         Kind::Compress => Refusal::Unready(
@@ -70,7 +70,7 @@ fn form_refusal(settings: &Settings, file: &str, kind: Kind) -> Refusal<'static>
 
 // Why a file of no form that is converted is not: it is of another that is known.
 fn unknown_refusal(settings: &Settings, file: &str) -> Option<Refusal<'static>> {
-    let target = settings.plan.target;
+    let target = settings.wanted.target;
     match first_bytes(settings.rt, file) {
         [b'B', b'Z', b'h', ..] => {
             Some(Refusal::Unready("packed by bzip2; unpack it", "bzip2 -dc FILE", target))

@@ -5,13 +5,43 @@ ghost use Rattle.std.specs.Prelude.{◌<◌, IfOk};
 use crate::clock::{date_of, now, week_of};
 use crate::command::Asked;
 use bridge_engine::is_date;
-use file_conversion::{Kinds, Plan, Refusal, is_site};
+use file_conversion::{Kinds, Plan, Refusal, Target, is_site};
 use gnss_week::{Moment, RefWeek};
 use rinex_write::HeaderWords;
 use std::alloc::{AllocError, Global};
+use whole_file::Kind;
+
+/// What is asked of each file: a plan without the kinds of ephemerides, which are constants.
+#[derive(Clone, Copy)]
+pub(crate) struct Wanted {
+    /// The format that is named; none, if each file is recognised.
+    pub form: Option<Kind>,
+    /// What is made.
+    pub target: Target,
+    /// The reference week, if one is named.
+    pub week: Option<RefWeek>,
+    /// The current GPS week, from the clock.
+    pub clock_week: RefWeek,
+    /// The date and the leap seconds of a header.
+    pub header: HeaderWords,
+}
+
+impl Wanted {
+    /// The plan for it.
+    pub(crate) fn plan(&self) -> Plan {
+        Plan {
+            form: self.form,
+            target: self.target,
+            week: self.week,
+            clock_week: self.clock_week,
+            header: self.header,
+            kinds: Kinds::all(),
+        }
+    }
+}
 
 /// What is asked of each file, by the clock if a value is not named.
-pub(crate) fn plan_of<'a>(rt: &HostRuntime, asked: &Asked<'a>) -> Result<Plan, Refusal<'a>> {
+pub(crate) fn wanted_of<'a>(rt: &HostRuntime, asked: &Asked<'a>) -> Result<Wanted, Refusal<'a>> {
     let leap = match leap_of(asked.leap()) {
         Ok(leap) => leap,
         Err(refusal) => return Err(refusal),
@@ -30,13 +60,12 @@ pub(crate) fn plan_of<'a>(rt: &HostRuntime, asked: &Asked<'a>) -> Result<Plan, R
     };
     match week_of(moment) {
         None => Err(Refusal::Week("of the clock")),
-        Some(clock_week) => Ok(Plan {
+        Some(clock_week) => Ok(Wanted {
             form: asked.from(),
             target: asked.to(),
             week,
             clock_week,
             header: HeaderWords { date, leap },
-            kinds: Kinds::all(),
         }),
     }
 }
