@@ -89,7 +89,7 @@ if [ -z "$sanitize" ]; then
   over=(-Wall -Wextra -Werror -pedantic "-I$stage/usr/include" "-L$stage/usr/lib/tried")
   { cc -std=c99 "${over[@]}" -o "$out/live_c" examples/live/live.c -lnavbridge -lm && lives C "$out/live_c"; } || differs 'examples/live/live.c'
   for standard in 17 20; do
-    { c++ -std=c++$standard "${over[@]}" -o "$out/live_cpp" examples/live/live.cpp -lnavbridge -lm && lives "C++$standard" "$out/live_cpp"; } \
+    { c++ -std=c++$standard "${over[@]}" -Wold-style-cast -Wconversion -o "$out/live_cpp" examples/live/live.cpp -lnavbridge -lm && lives "C++$standard" "$out/live_cpp"; } \
       || differs "examples/live/live.cpp, C++$standard"
   done
 fi
