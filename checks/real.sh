@@ -12,8 +12,8 @@
 # It counts the GPS and Galileo ephemerides of three RTCM 3 streams and, if convbin is installed (Debian's package rtklib), compares
 # them with its own, number by number: all are equal but the transmission time, which no message has and convbin takes from its
 # clock. Of the log of a ZED-F9P it counts the subframes and pages that navlog writes: 5 and 27, each page in two lines. Two more
-# pages come after the last time message of the log, and have no time. Of the stream with messages of all systems it counts the
-# ephemerides that navconvert writes.
+# pages come after the last time message of the log, and have no time. Of the stream with messages of all systems it does the
+# same with the 74 ephemerides that navconvert writes.
 #
 # Exit status: 0 all correct, or skipped with a reason; 1 something differs; 2 the arguments are wrong, or a program is missing.
 set -u
@@ -75,10 +75,48 @@ stream GMSD7_20121014.rtcm3 1710 2012/10/14 15
 stream testglo.rtcm3 1500 2009/12/17 15
 command -v convbin > /dev/null || echo "convbin is not installed: not compared"
 
+# all systems: 13 of BeiDou more are in messages 63, a draft's number, and one of GLONASS has no day
 tried=$((tried + 1)) got=0
-"$navconvert" -q -f stream --week 2005 -o - "$(find "$folder" -name rtcm3.2.log | head -n 1)" > "$work/all.rnx" 2> "$work/report" < /dev/null || got=$?
-count=$(grep -c '^> EPH ' "$work/all.rnx")
-[ "$got,$count" = "0,88" ] || differs "rtcm3.2.log, all systems: status $got, and $count ephemerides, not 88"
+all=$(find "$folder" -name rtcm3.2.log | head -n 1)
+"$navconvert" -q -f stream --week 2005 -t rinex3 -o - "$all" > "$work/ours.nav" 2> "$work/report" < /dev/null || got=$?
+count=$(grep -c '^[A-Z][0-9][0-9] ' "$work/ours.nav")
+[ "$got,$count" = "0,74" ] || differs "rtcm3.2.log, all systems: status $got, and $count ephemerides, not 74"
+if command -v convbin > /dev/null; then
+  tried=$((tried + 1))
+  rm -f "$work/theirs.nav"
+  convbin -r rtcm3 -v 3.04 -tr 2016/4/6 12:0:0 -n "$work/theirs.nav" -od -os "$all" > /dev/null 2>&1
+  python3 - "$work/ours.nav" "$work/theirs.nav" > "$work/found" 2>&1 << 'END' || differs "rtcm3.2.log, all systems, compared with convbin: $(cat "$work/found")"
+import sys
+
+
+def records(path):
+    """Of each satellite and epoch its records: their numbers, but for the transmission time, which no message has."""
+    found, body = {}, False
+    with open(path, encoding="ascii", errors="replace") as file:
+        for line in file:
+            if not body:
+                body = "END OF HEADER" in line
+            elif line[0].isalpha():
+                numbers = [line[i : i + 19] for i in (23, 42, 61)]
+                found.setdefault((line[:3].replace(" ", "0"), line[4:23]), []).append(numbers)
+            else:
+                numbers.extend(line[i : i + 19] for i in (4, 23, 42, 61))
+    for each in found.values():
+        for numbers in each:
+            numbers[:] = [float(it.strip().replace("D", "E") or 0) for it in numbers[:27]]
+    return found
+
+
+def equal(one, other):
+    """Whether they are the same to the 12 digits that convbin writes."""
+    return all(abs(a - b) <= 1e-11 * max(abs(a), abs(b)) for a, b in zip(one, other))
+
+
+ours, theirs = (records(path) for path in sys.argv[1:])
+other = [key for key, each in ours.items() for it in each if not any(equal(it, that) for that in theirs.get(key, []))]
+sys.exit(f"{len(other)} differ: {other[:3]}" if other else 0)
+END
+fi
 
 tried=$((tried + 1)) got=0
 "$navlog" --from ubx < "$(find "$folder" -name ublox-zed-f9p-sfrbx.log | head -n 1)" > "$work/navcap" 2> "$work/report" || got=$?
