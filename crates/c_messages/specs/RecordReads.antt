@@ -36,3 +36,4 @@ abbrev pub PutsRead : Judged → ItemRaw → ItemRaw → ℕ → Type 0
 PutsRead (judgments.Item item) old new status = (status ≡ 0) × (new ≡ raw_item item old)
 PutsRead (judgments.Refused reason) old new status = (status ≡ reason_status reason) × (new ≡ old)
 PutsRead judgments.PassedOver old new status = (status ≡ 42) × (new ≡ old)
+PutsRead (judgments.Other text) old new status = (status ≡ 42) × (new ≡ old)

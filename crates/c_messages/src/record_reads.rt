@@ -49,6 +49,7 @@ fn put_judged(judged: &Judged, into: &mut ItemRaw) -> u32
         }
         Judged::Refused(reason) => status_of(reason),
         Judged::PassedOver => PASSED_OVER,
+        Judged::Other(_) => PASSED_OVER,
     }
 }
 

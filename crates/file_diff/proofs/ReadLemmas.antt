@@ -18,7 +18,7 @@ use Rattle.rinex_read.specs.declared.judged.HeaderFault.{HeaderFault}
 use Rattle.rinex_read.specs.declared.judged.HeaderState.{HeaderState}
 use Rattle.rinex_read.specs.declared.judged.HeaderState.TheVariants.{NotRinexNav, OtherVersion, Passed}
 use Rattle.rinex_read.specs.declared.judged.ItemRead.{ItemRead}
-use Rattle.rinex_read.specs.declared.judged.ItemRead.TheVariants.{Item, Refused, PassedOver, End}
+use Rattle.rinex_read.specs.declared.judged.ItemRead.TheVariants.{Item, Refused, PassedOver, Other, End}
 use Rattle.nav_io.specs.declared.lines.LineFault.{LineFault}
 use Rattle.nav_io.specs.declared.lines.LineFault.TheVariants as lines
 use Rattle.one_run.specs.Causes.{fault_by}
@@ -102,6 +102,7 @@ pub gives_record : (f : Form) (read : ItemRead) (left left_new : Option (List �
 gives_record f (Item line item) left left_new old new is gives = gives
 gives_record f (Refused line reason) left left_new old new is gives = gives
 gives_record f (PassedOver line) left left_new old new is gives = gives
+gives_record f (Other line text) left left_new old new is gives = gives
 gives_record f End left left_new old new is gives = absurd is
 
 -- a record that was given
@@ -125,10 +126,12 @@ items_more : (reads : List ItemRead) (read : ItemRead) → items_of (reads ++ re
 items_more [] (Item line item) = refl
 items_more [] (Refused line reason) = refl
 items_more [] (PassedOver line) = refl
+items_more [] (Other line text) = refl
 items_more [] End = refl
 items_more (Item line item ∷ rs) read = ap (λ (l : List NavItem). item ∷ l) (items_more rs read)
 items_more (Refused line reason ∷ rs) read = items_more rs read
 items_more (PassedOver line ∷ rs) read = items_more rs read
+items_more (Other line text ∷ rs) read = items_more rs read
 items_more (End ∷ rs) read = items_more rs read
 
 -- the set with the item of a record more
@@ -161,6 +164,7 @@ one_kind (Item line (kinds.Gal e)) = omega arith
 one_kind (Item line (kinds.Ion e)) = omega arith
 one_kind (Refused line reason) = omega arith
 one_kind (PassedOver line) = omega arith
+one_kind (Other line text) = omega arith
 one_kind End = omega arith
 
 by_first : (kind : ItemRead → ℕ) (r : ItemRead) (rs : List ItemRead) → sum_by kind (r ∷ rs) ≡ (0 + kind r) + sum_by kind rs

@@ -10,7 +10,7 @@ use Rattle.one_run.specs.declared.fault.BridgeFault.TheVariants.{ReadFault, NotT
 use Rattle.rinex_read.specs.States.{HeaderSteps, RecordsState, Steps, lines_left}
 use Rattle.rinex_read.specs.declared.judged.HeaderState.TheVariants.{NotRinexNav, OtherVersion}
 use Rattle.rinex_read.specs.declared.judged.ItemRead.{ItemRead}
-use Rattle.rinex_read.specs.declared.judged.ItemRead.TheVariants.{Item, Refused, PassedOver, End}
+use Rattle.rinex_read.specs.declared.judged.ItemRead.TheVariants.{Item, Refused, PassedOver, Other, End}
 use Rattle.file_diff.specs.Numbers.{by_numbers}
 use Rattle.file_diff.specs.Reading.{compared, counts_of, has_ionosphere, is_passed, is_refused}
 use Rattle.file_diff.specs.declared.counts.ReadCounts.{ReadCounts}
@@ -29,6 +29,7 @@ abbrev pub item_in : ItemRead → List NavItem
 item_in (Item line item) = item ∷ []
 item_in (Refused line reason) = []
 item_in (PassedOver line) = []
+item_in (Other line text) = []
 item_in End = []
 
 -- a set with more items
@@ -52,6 +53,7 @@ abbrev pub IsRecord : ItemRead → Type 0
 IsRecord (Item line item) = Unit {0}
 IsRecord (Refused line reason) = Unit {0}
 IsRecord (PassedOver line) = Unit {0}
+IsRecord (Other line text) = Unit {0}
 IsRecord End = ⊥
 
 -- the state of the header at an error

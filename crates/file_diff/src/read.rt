@@ -65,6 +65,7 @@ fn take_read(all: bool, read: &ItemRead, items: &mut FileItems) -> Result<(), Br
         },
         ItemRead::Refused { .. } => Ok(()),
         ItemRead::PassedOver { .. } => Ok(()),
+        ItemRead::Other { .. } => Ok(()),
         ItemRead::End => Ok(()),
     }
 }
@@ -92,6 +93,7 @@ fn count_read(read: &ItemRead, counts: &mut ReadCounts)
         ItemRead::Item { item, .. } => count_item(item, counts),
         ItemRead::Refused { .. } => counts.refused += 1,
         ItemRead::PassedOver { .. } => counts.passed += 1,
+        ItemRead::Other { .. } => counts.passed += 1,
         ItemRead::End => {}
     }
 }

@@ -28,11 +28,13 @@ abbrev with_item : Judged → List NavItem → List NavItem
 with_item (judgments.Item item) items = item ∷ items
 with_item (judgments.Refused reason) items = items
 with_item judgments.PassedOver items = items
+with_item (judgments.Other text) items = items
 
 with_read : (n : ℕ) (j : Judged) (rs : List ItemRead) → items_of (read_at n j ∷ rs) ≡ with_item j (items_of rs)
 with_read n (judgments.Item item) rs = refl
 with_read n (judgments.Refused reason) rs = refl
 with_read n judgments.PassedOver rs = refl
+with_read n (judgments.Other text) rs = refl
 
 -- the records of the lines, behind those that begin none
 record Parts (f : Form) (Begins : List ℕ → Type 0) (IsOf : List (List ℕ) → NavItem → Type 0) (n : ℕ) (lines : List (List ℕ)) : Type 0 where
@@ -50,6 +52,8 @@ module _ {f : Form} {Begins : List ℕ → Type 0} {IsOf : List (List ℕ) → N
       inr ((λ item is. let other : judgments.Refused reason ≡ judgments.Item item = sym e ∙ law.gives l ls item is in absurd (cc)), of)
   judged_of law l ls rs items judgments.PassedOver first e of =
       inr ((λ item is. let other : judgments.PassedOver ≡ judgments.Item item = sym e ∙ law.gives l ls item is in absurd (cc)), of)
+  judged_of law l ls rs items (judgments.Other text) first e of =
+      inr ((λ item is. let other : judgments.Other text ≡ judgments.Item item = sym e ∙ law.gives l ls item is in absurd (cc)), of)
 
   parts-says : Agrees f Begins IsOf → (n : ℕ) (lines : List (List ℕ)) → Parts f Begins IsOf n lines
   parts-says law n [] = record { records = []; lines_are = refl; none = tt; begun = tt; of = refl }
@@ -99,6 +103,7 @@ module _ {f : Form} {Begins : List ℕ → Type 0} {IsOf : List (List ℕ) → N
   with_of law l ls (judgments.Item item) some first e none = absurd (none item (law.says l ls item first e))
   with_of law l ls (judgments.Refused reason) some first e none = refl
   with_of law l ls judgments.PassedOver some first e none = refl
+  with_of law l ls (judgments.Other text) some first e none = refl
 
   before-read : Agrees f Begins IsOf → (before rest : List (List ℕ)) (n : ℕ) → NoneBegin Begins before → items_of (reads f n (before ++ rest)) ≡ items_of (reads f (n + length before) rest)
   before-read law [] rest n none = ap (λ (k : ℕ). items_of (reads f k rest)) (omega arith)

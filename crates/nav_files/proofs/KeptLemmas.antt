@@ -14,7 +14,7 @@ use Rattle.nav_eph.specs.declared.items.NavItem.{NavItem}
 use Rattle.nav_lists.specs.declared.range.CoverRange.{CoverRange}
 use Rattle.nav_lists.specs.Covering.{AreCovering, AreCovers, AreRanges, CoversSecond, IsIn}
 use Rattle.rinex_read.specs.declared.judged.ItemRead.{ItemRead}
-use Rattle.rinex_read.specs.declared.judged.ItemRead.TheVariants.{Item, Refused, PassedOver, End}
+use Rattle.rinex_read.specs.declared.judged.ItemRead.TheVariants.{Item, Refused, PassedOver, Other, End}
 use Rattle.one_run.specs.Runs.{AppendsBetween}
 use Rattle.one_run.proofs.Surface.{prefix_behind}
 use Rattle.nav_files.proofs.ConvertLemmas.{between_behind}
@@ -96,10 +96,12 @@ pub items_more : (reads : List ItemRead) (read : ItemRead) → items_of (reads +
 items_more [] (Item line item) = refl
 items_more [] (Refused line reason) = refl
 items_more [] (PassedOver line) = refl
+items_more [] (Other line text) = refl
 items_more [] End = refl
 items_more (Item line item ∷ rs) read = ap (λ (l : List NavItem). item ∷ l) (items_more rs read)
 items_more (Refused line reason ∷ rs) read = items_more rs read
 items_more (PassedOver line ∷ rs) read = items_more rs read
+items_more (Other line text ∷ rs) read = items_more rs read
 items_more (End ∷ rs) read = items_more rs read
 
 -- nothing was counted

@@ -7,7 +7,7 @@ use Rattle.rinex_read.specs.Files.{items_of}
 use Rattle.rinex_read.specs.Forms.{Form}
 use Rattle.rinex_read.specs.States.{EarlySteps, NearSteps, RecordsState, GivesRead, GivesRecord, GivesNone, held_count, lines_left}
 use Rattle.rinex_read.specs.declared.judged.ItemRead.{ItemRead}
-use Rattle.rinex_read.specs.declared.judged.ItemRead.TheVariants.{Item, Refused, PassedOver, End}
+use Rattle.rinex_read.specs.declared.judged.ItemRead.TheVariants.{Item, Refused, PassedOver, Other, End}
 use Rattle.nav_files.specs.declared.counts.RinexCounts.{RinexCounts}
 use Rattle.nav_files.specs.Files.{counts_of_reads, is_refused_read, is_passed, is_item}
 use Rattle.nav_files.specs.Mirrors.{IsRecord, counted, read_times}
@@ -41,10 +41,12 @@ times_more : (times : Option Times) (given : List ItemRead) (read : ItemRead)
 times_more times [] (Item line item) = refl
 times_more times [] (Refused line reason) = refl
 times_more times [] (PassedOver line) = refl
+times_more times [] (Other line text) = refl
 times_more times [] End = refl
 times_more times (Item line item ∷ given) read = times_more (with_item times item) given read
 times_more times (Refused line reason ∷ given) read = times_more times given read
 times_more times (PassedOver line ∷ given) read = times_more times given read
+times_more times (Other line text ∷ given) read = times_more times given read
 times_more times (End ∷ given) read = times_more times given read
 
 -- the counts of records with one more
@@ -64,6 +66,7 @@ pub gives_record : (f : Form) (read : ItemRead) (left left_new : Option (List �
 gives_record f (Item line item) left left_new old new is gives = gives
 gives_record f (Refused line reason) left left_new old new is gives = gives
 gives_record f (PassedOver line) left left_new old new is gives = gives
+gives_record f (Other line text) left left_new old new is gives = gives
 gives_record f End left left_new old new is gives = absurd is
 
 -- a record that was given

@@ -6,7 +6,7 @@ use Rattle.rinex_read.specs.Files.{but_last, early_reads, file_reads, items_of, 
 use Rattle.rinex_read.specs.Forms.{Form}
 use Rattle.rinex_read.specs.declared.judged.HeaderFault.{HeaderFault}
 use Rattle.rinex_read.specs.declared.judged.ItemRead.{ItemRead}
-use Rattle.rinex_read.specs.declared.judged.ItemRead.TheVariants.{Item, Refused, PassedOver, End}
+use Rattle.rinex_read.specs.declared.judged.ItemRead.TheVariants.{Item, Refused, PassedOver, Other, End}
 use Rattle.rinex_read.specs.declared.reason.Reason.{Reason}
 use Rattle.rinex_read.specs.declared.reason.Reason.TheVariants.{BadSat, Short, NotANumber, Blank, OutOfRange, NoSuchDate, Week, Fit, EpochStep, EpochFar}
 use Rattle.outlets.specs.Targets.{prefix_text, item_text}
@@ -34,6 +34,7 @@ abbrev pub read_text : (ℕ → NavItem → List ℕ) → ItemRead → List ℕ
 read_text text (Item line item) = text line item
 read_text text (Refused line reason) = []
 read_text text (PassedOver line) = []
+read_text text (Other line lines) = []
 read_text text End = []
 
 -- the report line of a rejected record: the number of its first line, and the reason; empty for
@@ -42,6 +43,7 @@ abbrev pub read_report : ItemRead → List ℕ
 read_report (Item line item) = []
 read_report (Refused line reason) = report_line (codes "line") line (reason_text reason)
 read_report (PassedOver line) = []
+read_report (Other line text) = []
 read_report End = []
 
 -- 1 for a rejected record, else 0
@@ -49,6 +51,7 @@ abbrev pub is_refused_read : ItemRead → ℕ
 is_refused_read (Item line item) = 0
 is_refused_read (Refused line reason) = 1
 is_refused_read (PassedOver line) = 0
+is_refused_read (Other line text) = 0
 is_refused_read End = 0
 
 -- 1 for a record that is skipped, else 0
@@ -56,6 +59,7 @@ abbrev pub is_passed : ItemRead → ℕ
 is_passed (Item line item) = 0
 is_passed (Refused line reason) = 0
 is_passed (PassedOver line) = 1
+is_passed (Other line text) = 1
 is_passed End = 0
 
 -- 1 for an item, else 0
@@ -63,6 +67,7 @@ abbrev pub is_item : ItemRead → ℕ
 is_item (Item line item) = 1
 is_item (Refused line reason) = 0
 is_item (PassedOver line) = 0
+is_item (Other line text) = 0
 is_item End = 0
 
 -- the counts of records

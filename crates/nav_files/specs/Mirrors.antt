@@ -5,7 +5,7 @@ use Rattle.nav_io.specs.declared.lines.LineFault.TheVariants as lines
 use Rattle.rinex_read.specs.States.{AreEarly, RecordsState, HeaderSteps, BreaksRecord, BrokeBy, is_waiting}
 use Rattle.rinex_read.specs.declared.judged.HeaderState.TheVariants.{NotRinexNav, OtherVersion}
 use Rattle.rinex_read.specs.declared.judged.ItemRead.{ItemRead}
-use Rattle.rinex_read.specs.declared.judged.ItemRead.TheVariants.{Item, Refused, PassedOver, End}
+use Rattle.rinex_read.specs.declared.judged.ItemRead.TheVariants.{Item, Refused, PassedOver, Other, End}
 use Rattle.one_run.specs.declared.fault.BridgeFault.{BridgeFault}
 use Rattle.one_run.specs.declared.fault.BridgeFault.TheVariants.{ReadFault, NotThisForm, TooLong}
 use Rattle.outlets.specs.Times.{with_item}
@@ -18,6 +18,7 @@ abbrev pub IsRecord : ItemRead → Type 0
 IsRecord (Item line item) = Unit {0}
 IsRecord (Refused line reason) = Unit {0}
 IsRecord (PassedOver line) = Unit {0}
+IsRecord (Other line text) = Unit {0}
 IsRecord End = ⊥
 
 -- the times together with the epoch of the item of a record
@@ -25,6 +26,7 @@ abbrev pub read_times : Option Times → ItemRead → Option Times
 read_times times (Item line item) = with_item times item
 read_times times (Refused line reason) = times
 read_times times (PassedOver line) = times
+read_times times (Other line text) = times
 read_times times End = times
 
 -- the counts with one record more

@@ -35,6 +35,7 @@ abbrev pub told : ℕ → ℕ → ItemRead → Told
 told r slot (reads.Item line item) = told_item line slot item (is_ephemeris item) (send_fault r item slot)
 told r slot (reads.Refused line reason) = Refused line reason
 told r slot (reads.PassedOver line) = PassedOver
+told r slot (reads.Other line text) = PassedOver
 told r slot reads.End = PassedOver
 
 -- the next slot after an outcome

@@ -51,6 +51,7 @@ fn tell_read<T: Sink, U: Sink>(
             }
         }
         ItemRead::PassedOver { .. } => Ok(()),
+        ItemRead::Other { .. } => Ok(()),
         ItemRead::End => Ok(()),
     }
 }

@@ -82,6 +82,7 @@ fn cover_read(read: &ItemRead, cover: &mut Cover) -> Result<(), BridgeFault>
         },
         ItemRead::Refused { .. } => Ok(()),
         ItemRead::PassedOver { .. } => Ok(()),
+        ItemRead::Other { .. } => Ok(()),
         ItemRead::End => Ok(()),
     }
 }

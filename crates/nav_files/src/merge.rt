@@ -99,6 +99,7 @@ fn merge_read(read: &ItemRead, merge: &mut Merge) -> Result<(), BridgeFault>
         },
         ItemRead::Refused { .. } => Ok(()),
         ItemRead::PassedOver { .. } => Ok(()),
+        ItemRead::Other { .. } => Ok(()),
         ItemRead::End => Ok(()),
     }
 }

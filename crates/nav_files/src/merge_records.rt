@@ -31,6 +31,7 @@ pub(crate) fn report_read<U: Sink>(read: &ItemRead, report: &mut U) -> Result<()
         }
         ItemRead::Item { .. } => Ok(()),
         ItemRead::PassedOver { .. } => Ok(()),
+        ItemRead::Other { .. } => Ok(()),
         ItemRead::End => Ok(()),
     }
 }

@@ -59,6 +59,7 @@ pub fn count_read(read: &ItemRead, counts: &mut RinexCounts)
         }
         ItemRead::Refused { .. } => counts.refused += 1,
         ItemRead::PassedOver { .. } => counts.passed += 1,
+        ItemRead::Other { .. } => counts.passed += 1,
         ItemRead::End => {}
     }
     counts.records += 1;

@@ -82,6 +82,7 @@ pub(crate) fn told_of(r: RefWeek, slot: u32, read: &ItemRead) -> Told
             reason: *reason,
         },
         ItemRead::PassedOver { .. } => Told::PassedOver,
+        ItemRead::Other { .. } => Told::PassedOver,
         ItemRead::End => Told::PassedOver,
     }
 }

@@ -28,3 +28,4 @@ pub mod WholeLemmas
 pub mod WrittenLemmas
 pub mod Surface
 pub mod RowsAgain
+pub mod WithLinesLemmas

@@ -17,6 +17,7 @@ read_whole f law n lines = go (f.judged lines) refl
     go (judgments.Item item) e = law lines item e
     go (judgments.Refused reason) e = tt
     go judgments.PassedOver e = tt
+    go (judgments.Other text) e = tt
 
 items_more : (f : Form) → GivesItems f → (n : ℕ) (lines : List (List ℕ)) (rs : List ItemRead) → AreItems (items_of rs) → AreItems (items_of (read_at n (f.judged lines) ∷ rs))
 items_more f law n lines rs h = go (f.judged lines) refl
@@ -25,6 +26,7 @@ items_more f law n lines rs h = go (f.judged lines) refl
     go (judgments.Item item) e = (law lines item e, h)
     go (judgments.Refused reason) e = h
     go judgments.PassedOver e = h
+    go (judgments.Other text) e = h
 
 pub reads_whole : (f : Form) → GivesItems f → (n : ℕ) (ls : List (List ℕ)) → AreItems (items_of (reads f n ls))
 reads_whole f law n [] = tt

@@ -97,12 +97,14 @@ gives_record : (f : Form) (read : ItemRead) (o q : Option (List ℕ)) (s t : Rec
 gives_record f (items.Item line item) o q s t is g = g
 gives_record f (items.Refused line reason) o q s t is g = g
 gives_record f (items.PassedOver line) o q s t is g = g
+gives_record f (items.Other line text) o q s t is g = g
 gives_record f items.End o q s t is g = absurd is
 
 read_is_record : (n : ℕ) (j : Judged) → IsRecord (read_at n j)
 read_is_record n (judgments.Item item) = tt
 read_is_record n (judgments.Refused reason) = tt
 read_is_record n judgments.PassedOver = tt
+read_is_record n (judgments.Other text) = tt
 
 -- a line that ended a record
 pub line_gives : (f : Form) (o p q : Option (List ℕ)) (old now new : RecordsState) (read : ItemRead) → NearSteps f o p old now [] → lines_left now ≤ lines_left old → HasLine p q now.lines new.lines

@@ -32,6 +32,7 @@ pub end_stays : (f : Form) (read : ItemRead) (o q : Option (List ℕ)) (s t : Re
 end_stays f (items.Item line item) o q s t kept rest ended g = absurd (no_record f (items.Item line item) o q s t kept rest ended g)
 end_stays f (items.Refused line reason) o q s t kept rest ended g = absurd (no_record f (items.Refused line reason) o q s t kept rest ended g)
 end_stays f (items.PassedOver line) o q s t kept rest ended g = absurd (no_record f (items.PassedOver line) o q s t kept rest ended g)
+end_stays f (items.Other line text) o q s t kept rest ended g = absurd (no_record f (items.Other line text) o q s t kept rest ended g)
 end_stays f items.End o q s t kept rest ended g = refl
 
 pub end_unbroken : (f : Form) (fault : LineFault) (o q : Option (List ℕ)) (s t : RecordsState) → s.lines.ended ≡ true → s.lines.taken < 2 ^ 32 → BreaksRecord f o q s t fault → ⊥
@@ -48,6 +49,7 @@ pub many_stay : (f : Form) (read : ItemRead) (o q : Option (List ℕ)) (s t : Re
 many_stay f (items.Item line item) o q s t many g = record_low f (items.Item line item) o q s t many g
 many_stay f (items.Refused line reason) o q s t many g = record_low f (items.Refused line reason) o q s t many g
 many_stay f (items.PassedOver line) o q s t many g = record_low f (items.PassedOver line) o q s t many g
+many_stay f (items.Other line text) o q s t many g = record_low f (items.Other line text) o q s t many g
 many_stay f items.End o q s t many g = absurd (omega (arith, g.low, g.steps.reads.count))
 
 pub many_unread : (f : Form) (o q : Option (List ℕ)) (s t : RecordsState) → s.lines.taken ≡ 2 ^ 32 → BreaksRecord f o q s t ReadFault → ⊥

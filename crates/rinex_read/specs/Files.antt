@@ -5,7 +5,7 @@ use Rattle.nav_eph.specs.declared.items.NavItem.{NavItem}
 use Rattle.rinex_read.specs.declared.judged.Judged.{Judged}
 use Rattle.rinex_read.specs.declared.judged.Judged.TheVariants as judgments
 use Rattle.rinex_read.specs.declared.judged.ItemRead.{ItemRead}
-use Rattle.rinex_read.specs.declared.judged.ItemRead.TheVariants.{Item, Refused, PassedOver, End}
+use Rattle.rinex_read.specs.declared.judged.ItemRead.TheVariants.{Item, Refused, PassedOver, Other, End}
 use Rattle.rinex_read.specs.declared.judged.HeaderFault.{HeaderFault}
 use Rattle.rinex_read.specs.declared.judged.HeaderFault.TheVariants.{NotRinexNav, Version}
 use Rattle.rinex_read.specs.Lines.{stands_at, lines_of, ended_lines}
@@ -45,6 +45,7 @@ abbrev pub read_at : ℕ → Judged → ItemRead
 read_at n (judgments.Item item) = Item n item
 read_at n (judgments.Refused reason) = Refused n reason
 read_at n judgments.PassedOver = PassedOver n
+read_at n (judgments.Other text) = Other n text
 
 -- the records of some lines, n lines being before them: a record is a line that begins one and the lines up to the next such
 -- line or the end
@@ -100,6 +101,7 @@ items_of [] = []
 items_of (Item line item ∷ rs) = item ∷ items_of rs
 items_of (Refused line reason ∷ rs) = items_of rs
 items_of (PassedOver line ∷ rs) = items_of rs
+items_of (Other line text ∷ rs) = items_of rs
 items_of (End ∷ rs) = items_of rs
 
 abbrev pub items_read : Result (List ItemRead) HeaderFault → List NavItem

@@ -9,3 +9,4 @@ pub mod Mirrors
 pub mod RoundTrip
 pub mod States
 pub mod RowReads
+pub mod WithLines

@@ -11,7 +11,7 @@ use Rattle.rinex_read.specs.declared.title.RecordKind.{RecordKind}
 use Rattle.rinex_read.specs.declared.title.RecordKind.TheVariants.{GpsEphemeris, GalileoEphemeris, GpsIonosphere, GalileoIonosphere}
 use Rattle.rinex_read.specs.Fields.{◌>>=◌, read_row}
 use Rattle.rinex_read.specs.declared.judged.ItemRead.{ItemRead}
-use Rattle.rinex_read.specs.declared.judged.ItemRead.TheVariants.{Item, Refused, PassedOver, End}
+use Rattle.rinex_read.specs.declared.judged.ItemRead.TheVariants.{Item, Refused, PassedOver, Other, End}
 use Rattle.rinex_read.specs.declared.judged.HeaderState.{HeaderState}
 use Rattle.rinex_read.specs.declared.judged.HeaderState.TheVariants.{New, Open, Passed, NotRinexNav, OtherVersion}
 use Rattle.rinex_read.specs.Judging.{field, natural, Said}
@@ -198,6 +198,7 @@ abbrev pub IsRecord : ItemRead → Type 0
 IsRecord (Item line item) = Unit {0}
 IsRecord (Refused line reason) = Unit {0}
 IsRecord (PassedOver line) = Unit {0}
+IsRecord (Other line text) = Unit {0}
 IsRecord End = ⊥
 
 -- the record in progress, or the end if there was none

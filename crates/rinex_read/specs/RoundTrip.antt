@@ -5,7 +5,7 @@ use Rattle.nav_eph.specs.Ranges.{IsItem}
 use Rattle.rinex_write.specs.Texts.{AreLines, item_lines}
 use Rattle.rinex_read.specs.declared.judged.Judged.TheVariants as judgments
 use Rattle.rinex_read.specs.declared.judged.ItemRead.{ItemRead}
-use Rattle.rinex_read.specs.declared.judged.ItemRead.TheVariants.{Item, Refused, PassedOver, End}
+use Rattle.rinex_read.specs.declared.judged.ItemRead.TheVariants.{Item, Refused, PassedOver, Other, End}
 use Rattle.rinex_read.specs.Forms.{Form, begins}
 use Rattle.rinex_read.specs.Files.{header_of}
 
@@ -57,4 +57,5 @@ abbrev pub IsWholeRead : ItemRead → Type 0
 IsWholeRead (Item line item) = IsItem item
 IsWholeRead (Refused line reason) = Unit {0}
 IsWholeRead (PassedOver line) = Unit {0}
+IsWholeRead (Other line text) = Unit {0}
 IsWholeRead End = Unit {0}

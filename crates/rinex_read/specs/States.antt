@@ -5,7 +5,7 @@ use Rattle.nav_io.specs.LinesState.{LinesState, Reads}
 use Rattle.nav_io.specs.declared.lines.LineFault.{LineFault}
 use Rattle.nav_io.specs.declared.lines.LineFault.TheVariants.{ReadFault, TooLong}
 use Rattle.rinex_read.specs.declared.judged.ItemRead.{ItemRead}
-use Rattle.rinex_read.specs.declared.judged.ItemRead.TheVariants.{Item, Refused, PassedOver, End}
+use Rattle.rinex_read.specs.declared.judged.ItemRead.TheVariants.{Item, Refused, PassedOver, Other, End}
 use Rattle.rinex_read.specs.declared.judged.HeaderFault.{HeaderFault}
 use Rattle.rinex_read.specs.declared.judged.HeaderFault.TheVariants as faults
 use Rattle.rinex_read.specs.declared.judged.HeaderState.{HeaderState}
@@ -147,6 +147,7 @@ abbrev pub GivesRead : Form → ItemRead → Option (List ℕ) → Option (List 
 GivesRead f (Item line item) left left_new old new = GivesRecord f left left_new old new (Item line item)
 GivesRead f (Refused line reason) left left_new old new = GivesRecord f left left_new old new (Refused line reason)
 GivesRead f (PassedOver line) left left_new old new = GivesRecord f left left_new old new (PassedOver line)
+GivesRead f (Other line text) left left_new old new = GivesRecord f left left_new old new (Other line text)
 GivesRead f End left left_new old new = GivesNone f left left_new old new
 
 -- A read failed before the end, with no complete line left; or too many bytes were read.

@@ -1,4 +1,5 @@
 use crate::reason::Reason;
+use crate::record_text::RecordText;
 use nav_eph::NavItem;
 use nav_io::LineFault;
 
@@ -11,6 +12,9 @@ pub enum Judged {
     Refused(Reason),
     /// It is of another kind.
     PassedOver,
+    /// It is of another kind, and these are its lines; only [`WithLines`](crate::WithLines) says
+    /// so.
+    Other(RecordText),
 }
 
 /// What `next_item` reads after the header.
@@ -34,6 +38,13 @@ pub enum ItemRead {
     PassedOver {
         /// The number of its first line, counted from 1.
         line: u32,
+    },
+    /// A record of another kind, with its lines; only [`WithLines`](crate::WithLines) gives them.
+    Other {
+        /// The number of its first line, counted from 1.
+        line: u32,
+        /// Its lines.
+        text: RecordText,
     },
     /// There is no further record.
     End,

@@ -74,6 +74,7 @@ fn read_at(line: u32, judged: Judged) -> ItemRead
         Judged::Item(item) => ItemRead::Item { line, item },
         Judged::Refused(reason) => ItemRead::Refused { line, reason },
         Judged::PassedOver => ItemRead::PassedOver { line },
+        Judged::Other(text) => ItemRead::Other { line, text },
     }
 }
 

@@ -1,15 +1,17 @@
 //! The lines of a record, and how it is judged.
 
-ghost use Rattle.std.specs.Prelude.{◌≡◌, ◌↔◌, ◌∷◌};
+ghost use Rattle.std.specs.Prelude.{◌≡◌, ◌≤◌, ◌↔◌, ◌∷◌, length};
 ghost use Rattle.std.specs.Prelude.{◌++◌, [], List, ℕ, IsTrue};
 ghost use Rattle.rinex_read.specs.Judging.{galileo_ionosphere_read, galileo_read};
 ghost use Rattle.rinex_read.specs.Judging.{gps_ionosphere_read, gps_read, judged, outcome};
 ghost use Rattle.rinex_read.specs.Kept.{kept_with};
+ghost use Rattle.rinex_read.specs.WithLines.{text_kept};
 
 use crate::items::{galileo_ionosphere_item, galileo_item, gps_ionosphere_item, gps_item};
 use crate::judged::Judged;
 use crate::line::{PaddedLine, padded};
 use crate::reason::Reason;
+use crate::record_text::RecordText;
 use crate::said::{ephemeris_said, ionosphere_said};
 use crate::title::{RecordKind, is_kind};
 use nav_eph::NavItem;
@@ -97,6 +99,21 @@ fn judge_lines(title: &PaddedLine, lines: &[PaddedLine]) -> Judged
     Judged::PassedOver
 }
 
+// The lines as a value.
+fn text_of(lines: &[PaddedLine]) -> RecordText
+    requires { length lines.now ≤ 9 }
+    ensures { result ≡ text_kept lines.now }
+{
+    let mut kept = [[b' '; 80]; 9];
+    for (i, line) in lines.iter().enumerate() {
+        kept[i] = padded(line);
+    }
+    RecordText {
+        count: lines.len(),
+        kept,
+    }
+}
+
 impl RecordLines {
     /// A record without lines.
     pub fn new() -> RecordLines
@@ -151,6 +168,13 @@ impl RecordLines {
         ensures { result.now ≡ self.now }
     {
         &self.lines[..self.count]
+    }
+
+    /// The stored lines as a value.
+    pub fn text(&self) -> RecordText
+        ensures { result ≡ text_kept self.now }
+    {
+        text_of(&self.lines[..self.count])
     }
 
     /// Judges the lines after this title, as [`judge`](RecordLines::judge) does a record with that
