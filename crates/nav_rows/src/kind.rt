@@ -285,8 +285,8 @@ fn beidou_kind(satellite: u8) -> Kind
     }
 }
 
-// Whether a title is that of a kind: record type, letter and message type.
-fn is_titled(title: &[u8; 80], letter: u8, message: &[u8]) -> bool
+/// Whether a title of RINEX 4 has this letter and message type, of an ephemeris.
+pub fn is_titled(title: &[u8; 80], letter: u8, message: &[u8]) -> bool
     requires { length message.now ≤ 4 }
     ensures { result ≡ is_titled letter message.now title.now }
 {

@@ -20,8 +20,8 @@ impl Kinds {
         }
     }
 
-    // The kind of a BeiDou satellite.
-    fn beidou(&self, satellite: u64) -> Kind
+    /// The kind of a BeiDou satellite: D2 of 1 to 5 and 59 to 63 (BDS-SIS-ICD-B1I-3.0).
+    pub fn beidou(&self, satellite: u64) -> Kind
         ensures same { result ≡ beidou_kind self.now satellite }
         ensures kind { IsKind result }
     {
