@@ -85,6 +85,7 @@ encode_status (encodings.Epoch reason) = reason_status reason
 encode_status (encodings.Frame fault) = frame_status fault
 encode_status (encodings.OutOfRange field) = if field == 1 then 19 else 28
 encode_status encodings.SpareSisa = 21
+encode_status encodings.NoMessage = 25
 
 -- the frame of a message is in the buffer and the result is 0; or nothing is put, and the result is
 -- the number of the error

@@ -54,7 +54,7 @@ use Rattle.rinex_read.specs.declared.reason.Reason.{Reason}
 use Rattle.rinex_read.specs.Judging.{is_named_week}
 use Rattle.nav_rows.specs.declared.kind.WeekClock.{WeekClock}
 use Rattle.nav_rows.specs.declared.kind.Clock.{Clock}
-use Rattle.nav_rows.specs.declared.kind.Clock.TheVariants.{Frame, Weeks}
+use Rattle.nav_rows.specs.declared.kind.Clock.TheVariants.{Frame, Weeks, Daily}
 use Rattle.nav_rows.specs.declared.kind.Kind.{Kind}
 use Rattle.nav_rows.specs.declared.times.RowTimes.{RowTimes}
 use Rattle.nav_rows.specs.declared.encode.EncodeFault.{EncodeFault}
@@ -134,6 +134,7 @@ clock_by Frame fs links columns t e count small =
       status = small_at columns 15 small;
       health = small_at columns 18 small;
     }
+clock_by (Daily step) fs links columns t e count small = ltb-true 0 step t
 clock_by (Weeks c) fs links columns t e count small =
     let a = both (nat_lt 21 (length links) && is_of_field c.toe (link_at links 11))
     (is_given_at 0 (link_at links 21)) e in
@@ -186,6 +187,7 @@ unfolding_head : (clock : Clock) (parts : List Part) (zs : List ℤ)
     → AreFit parts (head_links clock) zs
 unfolding_head Frame parts zs = (tt, (tt, (tt, (tt, (tt, (tt, (tt, (tt, tt))))))))
 unfolding_head (Weeks c) parts zs = (tt, (tt, (tt, tt)))
+unfolding_head (Daily step) parts zs = (tt, tt)
 
 carried : (k : Kind) (zs given : List ℤ) → IsKind k → AreInRange k.table.fields.now zs
     → AreUnsaid k zs
@@ -442,6 +444,7 @@ back_by : (clock : Clock) (fs : List TableField) (ps : List Part) (ls : List Lin
     → has_columns clock ls ≡ true → IsSatellite zs → IsReference r → AreInRange fs zs
     → times_told clock zs r ≡ Some t → IsBack clock ps zs (given_of t) (row_of ps ls zs t)
 back_by Frame fs ps ls zs r t weeks e h satellite reference range told = absurd cc
+back_by (Daily step) fs ps ls zs r t weeks e h satellite reference range told = absurd cc
 back_by (Weeks c) fs ps ls zs r t weeks e h satellite reference range told =
     subst (λ u. IsBack (Weeks c) ps zs (given_of u) (row_of ps ls zs u))
     (some_same (weekly c zs r) t told)
@@ -512,12 +515,14 @@ said_is m sent t h =
     record { few = ltb-true sent 604800 a.0; late = omega (arith, some); is = b.1 }
 
 frame_back : (clock : Clock) (fs : List TableField) (ps : List Part) (zs given : List ℤ)
-    (row : RowValue) → has_weeks clock ≡ false → has_times clock fs ≡ true → IsSatellite zs
+    (row : RowValue) (r : ℕ) (t : RowTimes) → times_told clock zs r ≡ Some t
+    → has_weeks clock ≡ false → has_times clock fs ≡ true → IsSatellite zs
     → AreInRange fs zs → row.number ≡ number zs 1
     → frame_said row.moment (number row.columns 2) ≡ Ok (frame_of zs) → IsBack clock ps zs given row
 unfolding columns_of
-frame_back (Weeks c) fs ps zs given row frame e satellite range same told = absurd cc
-frame_back Frame fs ps zs given row frame e satellite range same told =
+frame_back (Weeks c) fs ps zs given row r t times frame e satellite range same told = absurd cc
+frame_back (Daily step) fs ps zs given row r t times frame e satellite range same told = absurd cc
+frame_back Frame fs ps zs given row r t times frame e satellite range same told =
     let has = times_are Frame fs zs e range in
     let said = said_is row.moment (number row.columns 2) (frame_of zs) told in
     let quarter : row.moment % 900 ≡ 0 = frame_epoch _ (frame_of zs) said.is in
@@ -551,7 +556,8 @@ frames_back k bytes r row zs is frame are plain read h unsaid told =
     ap (message_of k) d.is
     ∙ back_whole k bytes d.numbers d.times is are plain d.read d.spare
     (subst (AreUnsaid k) (sym same) unsaid)
-    (frame_back k.clock fs k.parts.now d.numbers (given_of d.times) value frame is.times
+    (frame_back k.clock fs k.parts.now d.numbers (given_of d.times) value r d.times d.told frame
+    is.times
     (satellite_is fs d.numbers is.satellite range) range refl said)
 
 -- ---- rows that come back
@@ -659,6 +665,7 @@ said_head : (clock : Clock) (ps : List Part) (given head : List ℤ) (row : RowV
     → head_of clock row ≡ Ok head → AreSaid ps (head_links clock) given head
 said_head Frame ps given head row h =
     said_frame ps given head row.number (frame_said row.moment (number row.columns 2)) h
+said_head (Daily step) ps given head row h = absurd cc
 said_head (Weeks c) ps given head row h =
     subst (AreSaid ps (head_links (Weeks c)) given)
     (ok_same (head_of (Weeks c) row) (week_head c row) head refl h)
@@ -757,6 +764,7 @@ again_by Frame ps ls zs given head r row h columns heads told epoch near =
     (frame_said row.moment sent) head refl
     told heads near in
     record { satellite = is.0; times = is.1 }
+again_by (Daily step) ps ls zs given head r row h columns heads told epoch near = absurd cc
 again_by (Weeks c) ps ls zs given head r row h columns heads told epoch near =
     week_row c ps ls zs given head r row (week_columns c ls h) columns
     (heads ∙ sym (ok_same (head_of (Weeks c) row) (week_head c row) head refl told)) epoch near

@@ -36,6 +36,8 @@ pub enum EncodeFault {
     },
     /// Its SISA index is a spare one, 126 to 254.
     SpareSisa,
+    /// No message has its kind.
+    NoMessage,
 }
 
 // The week of toe, counted from 1980-01-06.
@@ -90,6 +92,13 @@ pub(crate) fn epoch_fault(clock: &Clock, moment: Moment, columns: &[i64]) -> Opt
                 return Some(Reason::EpochFar);
             }
             None
+        }
+        Clock::Daily(step) => {
+            if moment.second().value() % *step == 0 {
+                None
+            } else {
+                Some(Reason::EpochStep)
+            }
         }
     }
 }
@@ -216,6 +225,7 @@ fn write_head(kind: &Kind, row: &Row, numbers: &mut [i64]) -> Result<(), EncodeF
             write_week_head(clock, row, kind.parts, numbers);
             Ok(())
         }
+        Clock::Daily(_) => Err(EncodeFault::NoMessage),
     }
 }
 

@@ -5,7 +5,7 @@ ghost use Rattle.nav_rows.specs.Kinds.{IsKind};
 ghost use Rattle.system_streams.specs.Readings.{beidou_kind, kind_at};
 
 use crate::kinds::Kinds;
-use nav_rows::{Kind, kind_d1, kind_d2, kind_fdma, kind_fnav, kind_navic, kind_qzss};
+use nav_rows::{Kind, kind_d1, kind_d2, kind_fdma, kind_fnav, kind_navic, kind_qzss, kind_sbas};
 
 impl Kinds {
     /// All of them.
@@ -17,6 +17,7 @@ impl Kinds {
             fnav: kind_fnav(),
             qzss: kind_qzss(),
             navic: kind_navic(),
+            sbas: kind_sbas(),
         }
     }
 
