@@ -53,6 +53,12 @@ items_in ks v (read ∷ reads) = numbered (line_in read) (reading_in ks v read) 
 abbrev pub file_items : Kinds → Version → List ℕ → List Numbered
 file_items ks v bytes = items_in ks v (records_in (file_reads (form_of v) bytes))
 
+-- those of GPS LNAV, Galileo I/NAV and their ionosphere parameters
+abbrev pub nav_items : List Numbered → List Numbered
+nav_items [] = []
+nav_items ((line, inl item) ∷ is) = (line, inl item) ∷ nav_items is
+nav_items ((line, inr x) ∷ is) = nav_items is
+
 -- ---- what is written of them
 
 -- an ephemeris, and no ionosphere parameters

@@ -21,6 +21,7 @@ titled_kind ks title =
     else if is_titled 69 (codes "FNAV") title then Some ks.fnav
     else if is_titled 74 (codes "LNAV") title then Some ks.qzss
     else if is_titled 73 (codes "LNAV") title then Some ks.navic
+    else if is_titled 83 (codes "SBAS") title then Some ks.sbas
     else None
 
 -- the data sources mean F/NAV: bits 0 and 2, of I/NAV, are clear, and bit 1 is set or, of the bits of the
@@ -55,6 +56,7 @@ lettered_kind ks first lines =
     else if get_or first 0 32 == 69 then (if is_fnav lines then Some ks.fnav else None)
     else if get_or first 0 32 == 74 then Some ks.qzss
     else if get_or first 0 32 == 73 then Some ks.navic
+    else if get_or first 0 32 == 83 then Some ks.sbas
     else None
 
 -- the kind of the lines of a record

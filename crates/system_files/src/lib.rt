@@ -24,6 +24,9 @@ mod text;
 mod version;
 
 pub use crate::counts::SystemCounts;
-pub use crate::laws::a_file_has_the_same_items_of_gps_and_galileo;
+pub use crate::laws::{
+    a_file_has_the_same_items_of_gps_and_galileo,
+    what_is_written_of_a_file_is_the_text_of_its_items,
+};
 pub use crate::run::run_system_file;
 pub use crate::version::Version;

@@ -42,6 +42,9 @@ fn titled_kind(kinds: &Kinds, title: &[u8; 80]) -> Option<Kind>
     if is_titled(title, b'I', b"LNAV") {
         return Some(kinds.navic);
     }
+    if is_titled(title, b'S', b"SBAS") {
+        return Some(kinds.sbas);
+    }
     None
 }
 
@@ -115,6 +118,9 @@ fn lettered_kind(kinds: &Kinds, first: &[u8; 80], lines: &[[u8; 80]]) -> Option<
     }
     if first[0] == b'I' {
         return Some(kinds.navic);
+    }
+    if first[0] == b'S' {
+        return Some(kinds.sbas);
     }
     None
 }
