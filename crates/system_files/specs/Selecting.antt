@@ -47,17 +47,25 @@ digit c = if is_decimal c then c - 48 else 0
 abbrev pub sat_number : List ℕ → ℕ
 sat_number line = 10 * digit (get_or line 1 32) + digit (get_or line 2 32)
 
--- the kind of a record of RINEX 3 with this first line, by its letter; of Galileo it is F/NAV if the data
--- sources say so, of BeiDou D1 or D2 by the satellite
+-- the kind that the letter of a system names alone
+abbrev pub single_kind : Kinds → ℕ → Option Kind
+single_kind ks letter =
+    if letter == 82 then Some ks.fdma
+    else if letter == 74 then Some ks.qzss
+    else if letter == 73 then Some ks.navic
+    else if letter == 83 then Some ks.sbas
+    else None
+
+-- of Galileo it is F/NAV if the data sources say so
+abbrev pub galileo_kind : Kinds → List (List ℕ) → Option Kind
+galileo_kind ks lines = if is_fnav lines then Some ks.fnav else None
+
+-- the kind of a record of RINEX 3 with this first line, by its letter; of BeiDou D1 or D2 by the satellite
 abbrev pub lettered_kind : Kinds → List ℕ → List (List ℕ) → Option Kind
 lettered_kind ks first lines =
-    if get_or first 0 32 == 82 then Some ks.fdma
-    else if get_or first 0 32 == 67 then Some (beidou_kind ks (sat_number first))
-    else if get_or first 0 32 == 69 then (if is_fnav lines then Some ks.fnav else None)
-    else if get_or first 0 32 == 74 then Some ks.qzss
-    else if get_or first 0 32 == 73 then Some ks.navic
-    else if get_or first 0 32 == 83 then Some ks.sbas
-    else None
+    if get_or first 0 32 == 67 then Some (beidou_kind ks (sat_number first))
+    else if get_or first 0 32 == 69 then galileo_kind ks lines
+    else single_kind ks (get_or first 0 32)
 
 -- the kind of the lines of a record
 abbrev pub kind_in : Kinds → Version → List (List ℕ) → Option Kind

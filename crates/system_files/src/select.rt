@@ -2,8 +2,9 @@
 
 ghost use Rattle.std.specs.Prelude.{◌≡◌, IfSome};
 ghost use Rattle.nav_rows.specs.Kinds.{IsKind};
-ghost use Rattle.system_files.specs.Selecting.{digit, is_fnav, is_fnav_number, kind_in};
-ghost use Rattle.system_files.specs.Selecting.{lettered_kind, sat_number, says_fnav, titled_kind};
+ghost use Rattle.system_files.specs.Selecting.{digit, galileo_kind, is_fnav, is_fnav_number};
+ghost use Rattle.system_files.specs.Selecting.{kind_in, lettered_kind, sat_number, says_fnav};
+ghost use Rattle.system_files.specs.Selecting.{single_kind, titled_kind};
 
 use crate::version::Version;
 use nav_rows::{Kind, is_titled};
@@ -96,33 +97,50 @@ fn sat_number(line: &[u8; 80]) -> u64
     10 * digit(line[1]) + digit(line[2])
 }
 
+// The kind that the letter of a system names alone.
+fn single_kind(kinds: &Kinds, letter: u8) -> Option<Kind>
+    ensures same { result ≡ single_kind kinds.now letter }
+    ensures kind { IfSome result IsKind }
+{
+    if letter == b'R' {
+        return Some(kinds.fdma);
+    }
+    if letter == b'J' {
+        return Some(kinds.qzss);
+    }
+    if letter == b'I' {
+        return Some(kinds.navic);
+    }
+    if letter == b'S' {
+        return Some(kinds.sbas);
+    }
+    None
+}
+
+// The kind of a record of Galileo in RINEX 3.
+fn galileo_kind(kinds: &Kinds, lines: &[[u8; 80]]) -> Option<Kind>
+    ensures same { result ≡ galileo_kind kinds.now lines.now }
+    ensures kind { IfSome result IsKind }
+{
+    if is_fnav(lines) {
+        Some(kinds.fnav)
+    } else {
+        None
+    }
+}
+
 // The kind of a record of RINEX 3, which has no title.
 fn lettered_kind(kinds: &Kinds, first: &[u8; 80], lines: &[[u8; 80]]) -> Option<Kind>
     ensures same { result ≡ lettered_kind kinds.now first.now lines.now }
     ensures kind { IfSome result IsKind }
 {
-    if first[0] == b'R' {
-        return Some(kinds.fdma);
-    }
     if first[0] == b'C' {
         return Some(kinds.beidou(sat_number(first)));
     }
     if first[0] == b'E' {
-        if is_fnav(lines) {
-            return Some(kinds.fnav);
-        }
-        return None;
+        return galileo_kind(kinds, lines);
     }
-    if first[0] == b'J' {
-        return Some(kinds.qzss);
-    }
-    if first[0] == b'I' {
-        return Some(kinds.navic);
-    }
-    if first[0] == b'S' {
-        return Some(kinds.sbas);
-    }
-    None
+    single_kind(kinds, first[0])
 }
 
 // The kind of the lines of a record; `None` of an unknown one.

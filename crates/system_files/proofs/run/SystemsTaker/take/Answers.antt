@@ -10,39 +10,39 @@ use Rattle.system_files.specs.Readings.{reading_in}
 use Rattle.system_files.proofs.Records.{counts_more, same_report, same_text}
 use Rattle.system_files.proofs.run.SystemsTaker.take.Goals as goal
 
-pub returns-in_err-tell_read-clause-output : goal.returns-in_err-tell_read-clause-output
-returns-in_err-tell_read-clause-output g c =
+pub returns-in_err-written-clause-output : goal.returns-in_err-written-clause-output
+returns-in_err-written-clause-output g c =
     let p = err_from_is_err_and c.from_residual.result c.from_residual.ensures.1 in
     let s = c.args.self.now in
     rw p.1 (λ reads start held so_far. grew_between (prefix_text s.to) (read_text s.kinds s.version s.to) reads c.args.read.now start _ _ so_far
-    (subst (λ (l : List ℕ). AppendsPrefix _ _ l) (same_text s.to _ _ _ _ c.line_in.ensures c.read_in.ensures.same) c.in_err-tell_read.ensures.part))
+    (subst (λ (l : List ℕ). AppendsPrefix _ _ l) (same_text s.to _ _ _ _ c.line_in.ensures c.read_in-given.ensures.same) c.in_err-written.ensures.part))
 
-pub returns-in_err-tell_read-clause-report : goal.returns-in_err-tell_read-clause-report
-returns-in_err-tell_read-clause-report g c =
+pub returns-in_err-written-clause-report : goal.returns-in_err-written-clause-report
+returns-in_err-written-clause-report g c =
     let p = err_from_is_err_and c.from_residual.result c.from_residual.ensures.1 in
     let s = c.args.self.now in
     rw p.1 (λ reads start held so_far. grew_prefix [] (read_report s.kinds s.version) reads c.args.read.now start _ _ so_far
-    (subst (λ (l : List ℕ). AppendsPrefix _ _ l) (same_report _ _ _ _ c.line_in.ensures c.read_in.ensures.same) c.in_err-tell_read.ensures.report_part))
+    (subst (λ (l : List ℕ). AppendsPrefix _ _ l) (same_report _ _ _ _ c.line_in.ensures c.read_in-given.ensures.same) c.in_err-written.ensures.report_part))
 
 pub returns-clause-output : goal.returns-clause-output
 returns-clause-output g c =
     let s = c.args.self.now in
     λ reads start held so_far. grew_more (prefix_text s.to) (read_text s.kinds s.version s.to) reads c.args.read.now start _ _ so_far
-    (subst (λ (l : List ℕ). Appends _ _ l) (same_text s.to _ _ _ _ c.line_in.ensures c.read_in.ensures.same) c.in_ok-tell_read.ensures.output)
+    (subst (λ (l : List ℕ). Appends _ _ l) (same_text s.to _ _ _ _ c.line_in.ensures c.read_in-given.ensures.same) c.in_ok-written.ensures.output)
 
 pub returns-clause-report : goal.returns-clause-report
 returns-clause-report g c =
     let s = c.args.self.now in
     λ reads start held so_far. grew_more [] (read_report s.kinds s.version) reads c.args.read.now start _ _ so_far
-    (subst (λ (l : List ℕ). Appends _ _ l) (same_report _ _ _ _ c.line_in.ensures c.read_in.ensures.same) c.in_ok-tell_read.ensures.report)
+    (subst (λ (l : List ℕ). Appends _ _ l) (same_report _ _ _ _ c.line_in.ensures c.read_in-given.ensures.same) c.in_ok-written.ensures.report)
 
 pub returns-clause-held : goal.returns-clause-held
 returns-clause-held g c =
     let s = c.args.self.now in
-    let written = c.in_ok-tell_read.written in λ reads held. (
+    let written = c.in_ok-written.written in λ reads held. (
       c.count_read.ensures.counts
-          ∙ ap (λ x. counted c.args.state.now written x) c.read_in.ensures.same
+          ∙ ap (λ x. counted c.args.state.now written x) c.read_in-given.ensures.same
           ∙ ap (λ n. counted n written (reading_in s.kinds s.version c.args.read.now)) held.0
-          ∙ counts_more s.kinds s.version s.to reads c.args.read.now written (c.in_ok-tell_read.ensures.has ∙ ap (is_unwritten s.to) c.read_in.ensures.same),
+          ∙ counts_more s.kinds s.version s.to reads c.args.read.now written (c.in_ok-written.ensures.has ∙ ap (is_unwritten s.to) c.read_in-given.ensures.same),
       c.count_read.ensures.counted,
     )
