@@ -60,12 +60,16 @@ single_kind ks letter =
 abbrev pub galileo_kind : Kinds → List (List ℕ) → Option Kind
 galileo_kind ks lines = if is_fnav lines then Some ks.fnav else None
 
--- the kind of a record of RINEX 3 with this first line, by its letter; of BeiDou D1 or D2 by the satellite
+-- the kind of a record that begins with this letter and this satellite; of BeiDou D1 or D2 by the satellite
+abbrev pub letter_kind : Kinds → ℕ → ℕ → List (List ℕ) → Option Kind
+letter_kind ks letter satellite lines =
+    if letter == 67 then Some (beidou_kind ks satellite)
+    else if letter == 69 then galileo_kind ks lines
+    else single_kind ks letter
+
+-- the kind of a record of RINEX 3 with this first line, which has no title
 abbrev pub lettered_kind : Kinds → List ℕ → List (List ℕ) → Option Kind
-lettered_kind ks first lines =
-    if get_or first 0 32 == 67 then Some (beidou_kind ks (sat_number first))
-    else if get_or first 0 32 == 69 then galileo_kind ks lines
-    else single_kind ks (get_or first 0 32)
+lettered_kind ks first lines = letter_kind ks (get_or first 0 32) (sat_number first) lines
 
 -- the kind of the lines of a record
 abbrev pub kind_in : Kinds → Version → List (List ℕ) → Option Kind

@@ -3,8 +3,8 @@
 ghost use Rattle.std.specs.Prelude.{◌≡◌, IfSome};
 ghost use Rattle.nav_rows.specs.Kinds.{IsKind};
 ghost use Rattle.system_files.specs.Selecting.{digit, galileo_kind, is_fnav, is_fnav_number};
-ghost use Rattle.system_files.specs.Selecting.{kind_in, lettered_kind, sat_number, says_fnav};
-ghost use Rattle.system_files.specs.Selecting.{single_kind, titled_kind};
+ghost use Rattle.system_files.specs.Selecting.{kind_in, letter_kind, lettered_kind, sat_number};
+ghost use Rattle.system_files.specs.Selecting.{says_fnav, single_kind, titled_kind};
 
 use crate::version::Version;
 use nav_rows::{Kind, is_titled};
@@ -129,18 +129,26 @@ fn galileo_kind(kinds: &Kinds, lines: &[[u8; 80]]) -> Option<Kind>
     }
 }
 
+// The kind of a record that begins with this letter and this satellite.
+fn letter_kind(kinds: &Kinds, letter: u8, satellite: u64, lines: &[[u8; 80]]) -> Option<Kind>
+    ensures same { result ≡ letter_kind kinds.now letter satellite lines.now }
+    ensures kind { IfSome result IsKind }
+{
+    if letter == b'C' {
+        return Some(kinds.beidou(satellite));
+    }
+    if letter == b'E' {
+        return galileo_kind(kinds, lines);
+    }
+    single_kind(kinds, letter)
+}
+
 // The kind of a record of RINEX 3, which has no title.
 fn lettered_kind(kinds: &Kinds, first: &[u8; 80], lines: &[[u8; 80]]) -> Option<Kind>
     ensures same { result ≡ lettered_kind kinds.now first.now lines.now }
     ensures kind { IfSome result IsKind }
 {
-    if first[0] == b'C' {
-        return Some(kinds.beidou(sat_number(first)));
-    }
-    if first[0] == b'E' {
-        return galileo_kind(kinds, lines);
-    }
-    single_kind(kinds, first[0])
+    letter_kind(kinds, first[0], sat_number(first), lines)
 }
 
 // The kind of the lines of a record; `None` of an unknown one.
