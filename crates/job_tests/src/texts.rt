@@ -138,7 +138,7 @@ static SENTENCES: [Sentence; 12] = [
     Sentence {
         refusal: Refusal::NoSuchConversion(Kind::Stream),
         status: 2,
-        text: "it is an RTCM 3 stream; that converts to rinex, rinex3, rtcm, frames",
+        text: "it is an RTCM 3 stream; that converts to rinex, rinex3, rtcm, list, count, frames",
     },
     Sentence {
         refusal: Refusal::NoSuchConversion(Kind::Gzip),
