@@ -91,7 +91,7 @@ rows=../../crates/nav_rows/src
 {
   printf '/* The names of the columns of rows. Made by bindings/abi.sh --write of crates/nav_rows. */\n#include "navbridge.h"\n\n'
   printf 'static const struct {\n    uint32_t message;\n    const char *names[NB_COLUMNS_MOST];\n} rows[] = {\n'
-  sed -n 's/^ *table: message!(FIELDS_\([0-9]*\), .*/\1/p; s/^ *links: &\([A-Z0-9_]*\),/\1/p' "$rows/kind.rt" | paste - - | sort | while read -r message links; do
+  sed -n 's/^ *table: message!(FIELDS_\([A-Z0-9]*\), .*/\1/p; s/^ *links: &\([A-Z0-9_]*\),/\1/p' "$rows/kind.rt" | paste - - | grep "^[0-9]" | sort | while read -r message links; do
     printf '    {%s,\n     {' "$message"
     # the columns of an orbit are those of a macro, which is given the field of the first
     awk -v links="$links" '

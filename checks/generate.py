@@ -180,8 +180,10 @@ def conversions(_):
         of.setdefault(it[1], set()).update(it[2].split(", "))
     names = [("RTCM 3 stream", "stream"), ("RINEX 4", "rinex"), ("RINEX 3.02 to 3.05", "rinex3"), ("capture", "capture")]
     columns = ["rinex", "rinex3", "rtcm", "list", "merged", "cover", "capture", "count", "frames"]
-    # navconvert converts streams of all systems, also to these
+    # navconvert converts streams and files of all systems, also to these
     of["stream"] |= {"list", "count"}
+    of["rinex"] |= {"count"}
+    of["rinex3"] |= {"count"}
     # a log is read as its capture
     rows = [("u-blox or Septentrio log", of["capture"] | {"capture"})] + [(name, of[it]) for name, it in names]
     made = table(["From, to", *(f"`{it}`" for it in columns)], [[name, *("x" if it in targets else "" for it in columns)] for name, targets in rows])
@@ -252,7 +254,7 @@ def systems(_):
 
 def records(_):
     path, rows = holder(r"^pub const FDMA: "), []
-    names = {"FDMA": "R FDMA", "D1": "C D1, D2", "FNAV": "E FNAV", "QZSS": "J LNAV", "NAVIC": "I LNAV"}
+    names = {"FDMA": "R FDMA", "D1": "C D1, D2", "FNAV": "E FNAV", "QZSS": "J LNAV", "NAVIC": "I LNAV", "SBAS": "S SBAS"}
     for name, title in names.items():
         lengths = [int(it) for it in found_in(path, rf"^pub const {name}_ROWS: \[usize; \d+\] = \[(.*?)\];").split(",")]
         columns = []

@@ -100,7 +100,7 @@ all() {
   try "a log of the other receiver" -f sbf log.ubx
   try "frames of a capture" -t frames station.navcap
   try "a capture of a stream" -t capture ephemerides.rtcm3
-  try "counts of RINEX" -t count orbits.rnx
+  try "frames of RINEX" -t frames orbits.rnx
   try "RINEX 4 and 3 in one file" -t list joined.rnx
   try "the cover of a capture" -t cover station.navcap
   try "a capture of a capture" -t capture station.navcap

@@ -38,6 +38,8 @@ run() {
 }
 # What is there, and what it should be
 is_same() { cmp -s "$2" "$3" || differs "$1" "$2 is not $3"; }
+# What navbridge makes of a file of which all systems are converted to RINEX 4: the records of GPS and Galileo I/NAV
+bridged_part() { awk '/^>/ { other = !/^> (EPH|ION) (G.. LNAV|E.. I.?NAV)/ } !other' "$1"; }
 # What is not there
 is_gone() { [ ! -e "$2" ] || differs "$1" "$2 is there"; }
 
@@ -62,8 +64,8 @@ run "a stream" 0 "s.nav" -f stream --week 2295 "${date[@]}" -t rinex3 -o s.nav e
 is_same "a stream" s.nav "$examples/expected/ephemerides.nav"
 run "frames" 0 "written" -f stream -t frames -o f.frames station.rtcm3
 is_same "frames" f.frames "$examples/expected/station.frames"
-run "version 3" 0 "v.rnx" "${date[@]}" -o v.rnx version3.nav
-is_same "version 3" v.rnx "$examples/version3.rnx"
+run "version 3" 0 "v.rnx: 4 ephemerides; nothing rejected, nothing skipped" "${date[@]}" -o v.rnx version3.nav
+is_same "version 3" <(bridged_part v.rnx) "$examples/version3.rnx"
 input=station.navcap run "standard input" 0 "-: 2 ephemerides, 2 ionosphere records" "${date[@]}" -
 is_same "standard input" out "$examples/station.rnx"
 run "into a folder, in quiet" 0 - -q -t rtcm -o out.d station.navcap
@@ -206,6 +208,8 @@ is_same "a check" out check.expected
 run "a check, in quiet" 1 - --check -q station.navcap
 [ ! -s out ] || differs "a check, in quiet" "it prints something"
 run "a check of a correct log" 0 "log.ubx: 2 ephemerides, 1 ionosphere record; nothing rejected" --check log.ubx
+awk '/END OF HEADER/ { body = 1; print; next } !body { print; next } /^E/ { n++; k = 0 } n == 1 && k++ < 3' version3.nav > short3.nav
+run "a check of a Galileo record that is cut" 1 "short3.nav: 0 ephemerides; 1 record rejected" --check short3.nav
 run "a check of several files" 1 "log.ubx: 2 ephem" --check -o checked.rnx station.navcap log.ubx
 is_gone "a check" checked.rnx
 cat > objects.py << 'END'
@@ -268,14 +272,53 @@ run "all systems as an object" 0 - --json --week 2295 "${date[@]}" -o json.all.r
 has "all systems as an object" out format,made,ephemerides,ionospheres,rejected,skipped,skipped_systems,clock_week '[["stream", 22, 22, 0, 7, 7, {"GLONASS": 0, "BeiDou": 0, "QZSS": 0, "NavIC": 0, "SBAS": 0, "GPS CNAV": 0, "Galileo F/NAV": 0}, null]]'
 # what navbridge makes of it is the part of GPS and Galileo I/NAV, in the same order
 "$program" --from stream --to rinex --week 2295 "${date[@]}" --leap 18 < systems.rtcm3 2> said | sed '1,/END OF HEADER/d' > bridged
-awk '/^>/ { ours = /^> EPH (G.. LNAV|E.. INAV)/ } ours' "$examples/expected/systems4.records" > part
+bridged_part "$examples/expected/systems4.records" > part
 tried=$((tried + 1))
 is_same "the part of navbridge in all systems" bridged part
 
+# ---- navigation files of all systems: those that were made of the stream, and one of SBAS
+cat > sbas.records << 'END'
+> EPH S33 SBAS
+S33 2024 01 02 01 59 28 3.259629011154D-08-2.728484105319D-12 1.799700000000D+05
+    -3.234347160000D+04-1.353125000000D-03 0.000000000000D+00 1.600000000000D+01
+     2.703414296000D+04-8.168750000000D-04 1.000000000000D-07 1.600000000000D+01
+    -6.145440000000D+01-1.600000000000D-05 3.125000000000D-07 1.320000000000D+02
+END
+cat all4.rnx sbas.records > every4.rnx
+cat all3.rnx <(tail -n +2 sbas.records) > every3.rnx
+for from in 4 3; do
+  for to in 4 3; do
+    it="all systems from RINEX $from to RINEX $to"
+    run "$it" 0 "every.rnx: " "${date[@]}" -t "rinex${to#4}" --overwrite -o every.rnx "every$from.rnx"
+    grep -qF "23 ephemerides" said || differs "$it" "not of 23 ephemerides"
+    grep -qF "; nothing rejected, nothing skipped" said || differs "$it" "something is rejected or skipped"
+    is_same "$it" every.rnx "every$to.rnx"
+  done
+  it="all systems from RINEX $from"
+  run "$it to RTCM" 0 "made of 23 ephemerides and ionosphere records, 1 not in the output format; nothing rejected, nothing skipped" -t rtcm -o - "every$from.rnx"
+  is_same "$it to RTCM" out all.rtcm3
+  run "$it to a list" 0 "made of 23 ephemerides" -t list -o - "every$from.rnx"
+  is_same "$it to a list" <(cut -d' ' -f2- out) <(cut -d' ' -f2- "$examples/expected/systems.list"; echo "EPH S33 SBAS 2295 179968")
+  run "$it to counts" 0 "made of 23 ephemerides" -t count -o - "every$from.rnx"
+  is_same "$it to counts" out <(printf '%s\n' "records 23" "refused 0" "passed 0" "items 23" "unwritten 0")
+done
+run "all systems of a file as an object" 0 - --json -t rtcm -o json.rtcm3 every4.rnx
+has "all systems of a file as an object" out format,made,unwritten,rejected,skipped '[["rinex", 23, 1, 0, 0]]'
+sed 's/^\(R.. 2024 01 02 01 45 0\)0/\11/' every4.rnx > amiss.rnx
+run "an ephemeris of a file that is rejected" 1 "records rejected" --check amiss.rnx
+grep -q "^amiss.rnx: line [0-9]*: step$" out || differs "an ephemeris of a file that is rejected" "$(cat out)"
+run "all systems of a file, a long name" 0 "SYST00CCC_R_20240020000_01D_MN.rnx: 23 ephemerides" "${date[@]}" --long-name SYST00CCC -o in every4.rnx
+is_same "all systems of a file, a long name" in/SYST00CCC_R_20240020000_01D_MN.rnx every4.rnx
+run "the command for all systems of a file" 0 - -n "${date[@]}" -o shown4.rnx every3.rnx
+PATH=$PWD/path:$PATH sh ./out 2> said || differs "the command for all systems of a file" "it fails"
+is_same "the command for all systems of a file" shown4.rnx every4.rnx
+
 # ---- what is skipped
 cp "$examples/rtklib_style.nav" .
-run "other systems in RINEX 4" 0 "skipped: 1 GLONASS, 1 BeiDou, 1 Galileo F/NAV records" "${date[@]}" -o skip.rnx rtklib_style.nav
-run "other systems in RINEX 3" 0 "v.list: made of 2 ephemerides and ionosphere records; skipped: 1 GLONASS, 1 Galileo F/NAV records" -t list -o v.list version3.nav
+run "other systems in RINEX 4" 0 "skip.rnx: 3 ephemerides; 3 records rejected" "${date[@]}" -o skip.rnx rtklib_style.nav
+sed 's/FDMA/L1OC/; s/^> EPH C06 D1/> EPH C06 CNV1/; s/FNAV/XNAV/' rtklib_style.nav > unread.nav
+run "other messages in RINEX 4" 0 "skip.rnx: 2 ephemerides; 1 record rejected; skipped: 1 GLONASS, 1 BeiDou, 1 other records" "${date[@]}" --overwrite -o skip.rnx unread.nav
+run "other systems in RINEX 3" 0 "v.list: made of 4 ephemerides and ionosphere records; nothing rejected, nothing skipped" -t list -o v.list version3.nav
 cat > other.py << 'END'
 import struct, sys
 def rtcm(number, size):
@@ -312,7 +355,7 @@ is_same "other messages in a stream" skip.report expected
 run "other systems in a log" 0 "skipped: 4 GLONASS, 1 BeiDou, 1 QZSS, 1 NavIC, 1 SBAS, 1 GPS CNAV, 1 Galileo F/NAV, 1 other messages" "${date[@]}" -o skip.rnx --overwrite other.ubx
 
 # ---- RINEX 3 that is merged, and joined files
-run "RINEX 3 to RINEX 4" 0 "four.rnx: 2 ephemerides" "${date[@]}" -o four.rnx version3.nav
+run "RINEX 3 to RINEX 4" 0 "four.rnx: 4 ephemerides" "${date[@]}" -o four.rnx version3.nav
 run "what merging that gives" 0 "four.merged: 2 ephemerides; 1 record rejected, 2 repeated;" "${date[@]}" -t merged -o four.merged one.rnx four.rnx
 run "RINEX 3 among files that are merged" 0 "three.merged: 2 ephemerides; 1 record rejected, 2 repeated; skipped: 2 GLONASS, 1 BeiDou, 2 Galileo F/NAV records" "${date[@]}" -t merged -o three.merged one.rnx version3.nav
 is_same "RINEX 3 among files that are merged" three.merged four.merged

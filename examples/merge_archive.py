@@ -176,12 +176,13 @@ VERSION_LINE = re.compile(rb" *\d+\.\d* [^\n]*")
 def headers_of(data):
     """Where headers begin: the first one, and those of files that were joined to it. A header that follows a line without an end
     begins in that line."""
-    begins, at = [0], data.find(LABEL, 61)
+    begins, at = [0], data.find(b"/", 61)  # one byte is found several times as fast as the label
     while at >= 0:
-        begin = at - 60
-        if begin > begins[-1] and VERSION_LINE.fullmatch(data, begin, at):
+        label = at - LABEL.index(b"/")
+        begin = label - 60
+        if begin > begins[-1] and data.startswith(LABEL, label) and VERSION_LINE.fullmatch(data, begin, label):
             begins.append(begin)
-        at = data.find(LABEL, at + 1)
+        at = data.find(b"/", at + 1)
     return begins
 
 
@@ -256,6 +257,12 @@ def source_of(text, known={}):
     return known[text]
 
 
+def message_at(data, begin, end):
+    """What source_of says of a Galileo record of version 3 between two places."""
+    sixth = SIXTH.match(data, begin, end)
+    return source_of(sixth[1].rstrip(b"\r")[23:42].ljust(19)) if sixth else "E no source"
+
+
 def records_of_3(data, begin, end):
     """The same of a version 3 file."""
     starts = [found.end() for found in START.finditer(data, begin - 1, end)]
@@ -267,8 +274,7 @@ def records_of_3(data, begin, end):
             passed[letter if letter.isascii() and letter.isalpha() else "other lines"] += times
     for at, following, system in zip(starts, [*starts[1:], end], systems):
         if system == GALILEO:
-            sixth = SIXTH.match(data, at, following)
-            passed[source_of(sixth[1].rstrip(b"\r")[23:42].ljust(19)) if sixth else "E no source"] += 1
+            passed[message_at(data, at, following)] += 1
     del passed["I/NAV"]
     return len(starts), passed
 
@@ -288,14 +294,15 @@ def last_record(data, form, begin, end):
 # a record of the other version, which has no header of its own: a title in version 3, in version 4 the first line of a record
 # that does not follow a title
 OTHERS = {3: re.compile(rb"> ?(?:EPH|STO|EOP|ION) "), 4: re.compile(rb"[A-Z][ \d]\d [12]\d{3}[ \d]")}
-TITLED = re.compile(rb"(\n>[^\n]*)?\n[A-Z][ \d]\d [12]\d{3}[ \d]")
+FIRST = re.compile(rb"\n" + OTHERS[4].pattern)  # begins with a fixed byte, which a search finds fast
+TITLED = re.compile(rb"\n>[^\n]*" + FIRST.pattern)
 
 
 def without_others(data, form, begin):
     """The bytes without records of the other version, how many these are, and the line of the first (of the bytes, from 0)."""
-    if form == 3 and data.find(b"\n>", begin - 1) < 0:
+    if form == 3 and data.find(b">", begin) < 0:
         return data, 0, 0
-    if form == 4 and b"" not in TITLED.findall(data, begin - 1):
+    if form == 4 and len(FIRST.findall(data, begin - 1)) == len(TITLED.findall(data, begin - 1)):
         return data, 0, 0
     kept, others, first, mine, behind_title = [data[:begin]], 0, 0, True, False
     for number, line in enumerate(io.BytesIO(data[begin:])):

@@ -396,7 +396,8 @@ typedef enum nb_rule {
     NB_SISA_INDEX = 2, /**< a SISA index, 0 to 125, or 255 for none; the record has metres */
     NB_FIT_FLAG = 3,   /**< a fit interval flag; the record has hours */
     NB_SENT_TIME = 4,  /**< a transmission time, s after the start of the week of toe; 999,900,000 if it is not known */
-    NB_CONSTANT = 5    /**< a constant of the record */
+    NB_CONSTANT = 5,   /**< a constant of the record */
+    NB_OR_UNKNOWN = 6  /**< as NB_NUMBER; 999,999,999 if it is not known */
 } nb_rule;
 
 /** The unit of a column: the value is integer * factor * 2^two * 10^ten. */

@@ -88,7 +88,7 @@ class Reading:
                 if it.health:
                     self.ill.add(satellite)
                 else:
-                    healthy.write(b"\n".join(it.lines) + b"\n")
+                    healthy.writelines(it.lines)
             if len(group) > 1:
                 self.compare(toe, satellite, group)
 

@@ -22,7 +22,6 @@ FIELDS = {
 }
 WHOLE = {"IODE", "IODnav", "Toe", "codes on L2", "data sources", "week", "L2 P flag", "health", "IODC", "fit interval"}
 FORMATS = {4: "rinex", 3: "rinex3"}
-EPOCH = re.compile(rb"^[GE][ \d]\d \d{4}(?: [ \d]\d){5}", re.M)
 Ephemeris = collections.namedtuple("Ephemeris", "satellite toe issue health lines")
 
 
@@ -47,7 +46,7 @@ def run(tool, to, source, result):
 
 
 def records(path):
-    """The records of a file that navbridge wrote: the number of the first line, and the lines."""
+    """The records of a file that navbridge wrote: the number of the first line, and the lines with their ends."""
     begun, lines = 0, []
     with open(path, "rb") as file:
         for number, line in enumerate(file, 1):
@@ -56,7 +55,7 @@ def records(path):
                     yield begun, lines
                 begun, lines = number, []
             if begun:
-                lines.append(line.rstrip(b"\r\n"))
+                lines.append(line)
     if lines:
         yield begun, lines
 
@@ -76,7 +75,7 @@ def ephemerides(merged, listed):
 
 def text_of(lines):
     """A record as it compares: without its title and its transmission time."""
-    return b"\n".join(lines[1:8]) + b"\n" + lines[8][23:42].rstrip()
+    return b"".join(lines[1:8]) + lines[8][23:42].rstrip()
 
 
 def numbers_of(lines):
@@ -103,51 +102,66 @@ def cover_of(path):
 # --- the second look: who wrote a file, which lines were rejected, which file has which version of an ephemeris
 
 LOOK = {}  # what the workers need, set before they start
+HEAD = 1 << 13  # bytes in which the line with the program is
+EPOCH = re.compile(rb"\n([GE][^\n]{22})")  # satellite and epoch
+# the same where navbridge reads the record, by version; Galileo's of version 3 are told apart by their sixth line
+EPOCHS = {4: re.compile(rb"\n>.EPH.(?:G...LNAV|E...INAV)[^\n]*" + EPOCH.pattern), 3: EPOCH}
 
 
-def producer_of(name):
-    """The program and the agency that a header names."""
+def content_of(name, whole):
+    """A file's bytes, unpacked: all, or so many that the header's first lines are there."""
     with open(name, "rb") as file:
-        data = file.read(1 << 14)
-        if data[:2] == b"\x1f\x8b":
-            data = zlib.decompressobj(31).decompress(data, 1 << 13)
-        elif data[:2] == b"\x1f\x9d":
-            data = merge.unpacked(data + file.read())[0][:1 << 13]
-    found = re.search(rb"^([^\r\n]{60})PGM / RUN BY / DATE", data, re.M)
+        data = file.read(-1 if whole else HEAD)
+        if data[:2] == b"\x1f\x8b" and not whole:
+            return zlib.decompressobj(31).decompress(data, HEAD)
+        return merge.unpacked(data + file.read())[0] if whole or data[:2] == b"\x1f\x9d" else data
+
+
+def producer_of(data):
+    """The program and the agency that a header names."""
+    found = re.search(rb"^([^\r\n]{60})PGM / RUN BY / DATE", data[:HEAD], re.M)
     text = found[1].decode("latin-1") if found else ""
     return [" ".join("".join(c if c.isprintable() else " " for c in part).split()) for part in (text[:20], text[20:40])]
 
 
 def sections_of(data):
-    """What is below each header of a file: version, how many lines are above, and the lines."""
+    """What is below each header of a file: version, how many lines are above, where it begins and ends."""
     begins = merge.headers_of(data)
     for begin, end in zip(begins, [*begins[1:], len(data)]):
         try:
             form, start = merge.version_of(data[begin:end])
         except merge.Unusable:
             continue
-        yield form, data.count(b"\n", 0, begin + start), data[begin + start:end].split(b"\n")
+        yield form, data.count(b"\n", 0, begin + start), begin + start, end
 
 
-def candidates(form, lines):
-    """The records that could be one of the wanted: where their lines begin and end. Those that navbridge skips are left out, and
-    a last one whose last line has no end."""
-    for at, line in enumerate(lines):
-        if line[:1] not in (b"G", b"E") or line[:23].replace(b" ", b"0") not in LOOK["epochs"]:
+def candidates(form, data, begin, end):
+    """The records of a section that could be one of the wanted: where each begins and ends. Those that navbridge skips are left out,
+    and a last one whose last line has no end."""
+    for found in EPOCHS[form].finditer(data, begin - 1, end):
+        if found[1].replace(b" ", b"0") not in LOOK["epochs"]:
             continue
-        begins = (lambda it: it[:1] == b">") if form == 4 else (lambda it: it[:1].strip(b" \r"))
-        end = next((it for it in range(at + 1, len(lines)) if begins(lines[it])), len(lines))
-        above = lines[at - 1] if at else b""
-        if end == len(lines) and lines[-1]:
+        start, at = found.start() + 1, found.start(1)
+        after = (merge.TITLE if form == 4 else merge.START).search(data, at, end)
+        stop = after.start() + 1 if after else end
+        if data[stop - 1:stop] != b"\n":
             continue
-        if form == 4:
-            title = above[1:14].ljust(13)
-            if above[:1] == b">" and title[1:4] + b" " + title[5:6] + b" " + title[9:13] in merge.TRIED:
-                yield at - 1, end
-        elif above[:1] != b">":
-            sixth = lines[at + 5].rstrip(b"\r") if at + 5 < end else b""
-            if line[:1] == b"G" or sixth and merge.source_of(sixth[23:42].ljust(19)) == "I/NAV":
-                yield at, end
+        titled = data[data.rfind(b"\n", 0, at - 1) + 1:at].startswith(b">")
+        if form == 4 or not titled and (data[at:at + 1] == b"G" or merge.message_at(data, at, stop) == "I/NAV"):
+            yield start, stop
+
+
+def give_wanted(call, number, form, above, data, begin, end):
+    """Hands the candidates of a section to navbridge; gives for each the lines that navbridge has before it, the file, and its line."""
+    given, texts, lines = [], [], call.lines
+    for start, stop in candidates(form, data, begin, end):
+        above += data.count(b"\n", begin, start)
+        given.append((lines, number, above + 1))
+        texts.append(data[start:stop])
+        lines += data.count(b"\n", start, stop)
+        begin = start
+    call.give(b"".join(texts), lines - call.lines)
+    return given
 
 
 def give_all(call, parts, number, form, above, lines):
@@ -179,19 +193,15 @@ def look_again(files):
 
         for number, name, for_rejected, for_versions in files:
             try:
-                producers.append((number, *producer_of(name)))
-                data = b""
-                if for_rejected or for_versions:
-                    with open(name, "rb") as file:
-                        data = merge.unpacked(file.read())[0]
+                data = content_of(name, for_rejected or for_versions)
             except (merge.Unusable, OSError, zlib.error):
                 continue
-            for form, above, lines in sections_of(data) if data else ():
+            producers.append((number, *producer_of(data)))
+            for form, above, begin, end in sections_of(data) if for_rejected or for_versions else ():
                 if for_rejected:
-                    rejected += give_all(call(form, "list"), parts[form], number, form, above, lines)
-                for begin, end in candidates(form, lines) if for_versions else ():
-                    given[form].append((call(form, "rinex").lines, number, above + begin + 1))
-                    calls[form, "rinex"].give(b"\n".join(lines[begin:end]) + b"\n", end - begin)
+                    rejected += give_all(call(form, "list"), parts[form], number, form, above, data[begin:end].split(b"\n"))
+                if for_versions:
+                    given[form] += give_wanted(call(form, "rinex"), number, form, above, data, begin, end)
         for (form, to), one in calls.items():
             status, refused, counts = one.end()
             if status:
@@ -233,15 +243,13 @@ def workers(jobs):
 def second_look(tool, rows, epochs, texts, work):
     """Looks again at all files that were read; epochs and texts are those of versions that contradict each other."""
     LOOK.update(program=tool.program, epochs=epochs, versions={text: at for at, text in enumerate(texts)}, work=work)
-    suspects = None if epochs else set()
-    parts = glob.glob(os.path.join(glob.escape(tool.parts), "*.files"))
-    if epochs and parts:  # only files of parts that have such an epoch
-        suspects = set()
-        for path in parts:
-            with open(path[:-len("files")] + "rnx", "rb") as file:
-                if any(found.replace(b" ", b"0") in epochs for found in EPOCH.findall(file.read())):
-                    suspects |= {row["name"] for row in merge.read_rows(path)[1]}
-    files = [(number, row["name"], bool(row["refused"]), suspects is None or row["name"] in suspects)
+    state = lambda row: (row["name"], row["size"], row["when"])
+    without = set()  # files of parts that have no such epoch
+    for part in glob.glob(os.path.join(glob.escape(tool.parts), "*.rnx")) if epochs else ():
+        with open(part, "rb") as file:
+            if epochs.isdisjoint(it.replace(b" ", b"0") for it in EPOCH.findall(file.read())):
+                without.update(map(state, merge.read_rows(part[:-len("rnx")] + "files")[1]))
+    files = [(number, row["name"], bool(row["refused"]), bool(epochs) and state(row) not in without)
              for number, row in enumerate(rows) if row["outcome"] in merge.READS]
     producers, rejected, versions = {}, [], []
     chunks = [files[at:at + 64] for at in range(0, len(files), 64)]

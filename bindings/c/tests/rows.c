@@ -58,7 +58,7 @@ static void row(int line, const uint8_t *payload, size_t n, const char *record) 
         const char *name = nb_row_name(&it, i);
         double number, value = nb_column_value(&column, it.columns[i]);
         want(islower((unsigned char)name[0]), line, "a name");
-        if (number_at(record, i, &number) && (column.rule == NB_NUMBER || column.rule == NB_CONSTANT))
+        if (number_at(record, i, &number) && (column.rule == NB_NUMBER || column.rule == NB_CONSTANT || column.rule == NB_OR_UNKNOWN))
             want(fabs(value - number) <= 1e-12 * fabs(number), line, name);
         other = it;
         other.columns[i] = INT64_MAX;

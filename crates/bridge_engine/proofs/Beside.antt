@@ -5,10 +5,10 @@ use Rattle.std.specs.Io.KnownBytes.{Appends, Consumes, IsAtEnd}
 use Rattle.std.proofs.KnownBytes.{Appends-nil}
 use Rattle.one_run.specs.declared.fault.BridgeFault.{BridgeFault}
 use Rattle.one_run.specs.declared.fault.BridgeFault.TheVariants.{ReadFault, WriteFault, ReportFault, NotThisForm, TooLong, NoMemory}
-use Rattle.nav_io.specs.Prefix.{AppendsPrefix}
+use Rattle.nav_io.specs.Prefix.{AppendsPrefix, IsPrefix}
 use Rattle.one_run.specs.Causes.{Faults, HasItsCause}
-use Rattle.one_run.specs.Runs.{Ended, IsAheadOf, Meaning, Says, Flushes, Texts, World, bytes_for, faults_in, world}
-use Rattle.one_run.proofs.Surface.{no_prefix, none_failed, nothing_told, read_failed, report_failed, write_failed}
+use Rattle.one_run.specs.Runs.{AppendsBetween, Ended, IsAheadOf, Meaning, Says, Flushes, Texts, World, bytes_for, faults_in, world}
+use Rattle.one_run.proofs.Surface.{no_prefix, none_failed, nothing_told, prefix_nil, read_failed, report_failed, write_failed}
 
 no_such : (b : Bool) → b ≡ true → b ≡ false → ⊥
 no_such b is not = cc
@@ -29,6 +29,15 @@ no_text o o' text is is' grew = sym (subst (λ (x : Option (List ℕ)). Appends 
 
 told_none : (o o' : Option (List ℕ)) (text : List ℕ) (u : Option (List ℕ)) → o ≡ Some [] → o' ≡ Some [] → Appends o o' text → Appends u u text
 told_none o o' text u is is' grew = subst (Appends u u) (sym (no_text o o' text is is' grew)) (Appends-nil u)
+
+-- nor need be more
+between_none : (o o' : Option (List ℕ)) (least whole : List ℕ) (u : Option (List ℕ)) → o ≡ Some [] → o' ≡ Some [] → AppendsBetween o o' least whole → AppendsBetween u u least whole
+between_none o o' least whole u is is' grew = record {
+  prefix = [];
+  within = prefix_nil whole;
+  no_less = subst (IsPrefix least) (no_text o o' grew.prefix is is' grew.grew) grew.no_less;
+  grew = Appends-nil u;
+}
 
 flushes_beside : {S T U V : Type 0} (o : Option Texts) (taken : List ℕ) (b a : World S T V) (report : U) (u : Option (List ℕ)) (failed : ℕ) → IsSilent b → IsSilent a
     → Flushes o taken b a → Flushes o taken (with_report b report u failed) (with_report a report u failed)
@@ -84,7 +93,7 @@ beside_report m b a report u failed (Err fault) none before after broke = record
   taken = broke.taken;
   consumes = broke.consumes;
   text = broke.text;
-  told = no_prefix u (m.whole.report broke.taken);
+  told = between_none b.reported a.reported (m.least.report broke.taken) (m.whole.report broke.taken) u before after broke.told;
   ahead = ahead_beside m.whole (bytes_for m b) b.written a.written b.reported a.reported u broke.ahead;
   no_counts = λ other. nothing_told m.rejections (bytes_for m b) u u refl;
   cause = cause_beside m broke.taken b a report u failed fault none broke.says broke.cause;

@@ -94,7 +94,7 @@ up_tail : (b : Bool) (l : List ℕ) (us ls : List (List ℕ)) → (if b then [] 
 up_tail true l us ls e = absurd cc
 up_tail false l us ls e = (refl, ap (drop 1) e)
 
-up_more : (f : Form) (ls : List (List ℕ)) (line : List ℕ) → up_to_next f ls ≡ ls → begins f line ≡ false → up_to_next f (ls ++ line ∷ []) ≡ ls ++ line ∷ []
+up_more : {R : Type 0} (f : Form R) (ls : List (List ℕ)) (line : List ℕ) → up_to_next f ls ≡ ls → begins f line ≡ false → up_to_next f (ls ++ line ∷ []) ≡ ls ++ line ∷ []
 up_more f [] line same other = ap (λ (b : Bool). if b then [] else line ∷ []) other
 up_more f (l ∷ ls) line same other =
     let tail = up_tail (begins f l) l (up_to_next f ls) ls same in
@@ -102,7 +102,7 @@ up_more f (l ∷ ls) line same other =
     ∙ ap (λ (us : List (List ℕ)). l ∷ us) (up_more f ls line tail.1 other)
 
 -- a further line of it
-pub one_longer : (f : Form) (ls : List (List ℕ)) (line : List ℕ) → AreOfOne f ls → (ls ≡ []) ⊎ (begins f line ≡ false) → AreOfOne f (ls ++ line ∷ [])
+pub one_longer : {R : Type 0} (f : Form R) (ls : List (List ℕ)) (line : List ℕ) → AreOfOne f ls → (ls ≡ []) ⊎ (begins f line ≡ false) → AreOfOne f (ls ++ line ∷ [])
 one_longer f [] line one other = refl
 one_longer f (l ∷ ls) line one (inl none) = absurd cc
 one_longer f (l ∷ ls) line one (inr other) = up_more f ls line one other
@@ -144,7 +144,7 @@ header_ends ls rest line number none is =
 -- ---- the ends that are found
 
 -- the line behind `at` begins the next record
-pub next_ends : (f : Form) (text line : List ℕ) (is_end : Bool) (at n : ℕ) → 0 < at → at ≤ length text → AreWhole (take at text) → AreOfOne f (lines_of (take at text))
+pub next_ends : {R : Type 0} (f : Form R) (text line : List ℕ) (is_end : Bool) (at n : ℕ) → 0 < at → at ≤ length text → AreWhole (take at text) → AreOfOne f (lines_of (take at text))
     → EndsAt (drop at text) n → line ≡ without_cr (take n (drop at text)) → begins f line ≡ true → EndsRecord f text is_end at
 next_ends f text line is_end at n some within whole one h is first = record {
   within = within;
@@ -156,7 +156,7 @@ next_ends f text line is_end at n some within whole one h is first = record {
 }
 
 -- the last line, which has no end, does
-pub last_ends : (f : Form) (text line : List ℕ) (is_end : Bool) (at : ℕ) → 0 < at → at < length text → AreWhole (take at text) → AreOfOne f (lines_of (take at text))
+pub last_ends : {R : Type 0} (f : Form R) (text line : List ℕ) (is_end : Bool) (at : ℕ) → 0 < at → at < length text → AreWhole (take at text) → AreOfOne f (lines_of (take at text))
     → ends (drop at text) ≡ false → line ≡ without_cr (drop at text) → begins f line ≡ true → is_end ≡ true → EndsRecord f text is_end at
 last_ends f text line is_end at some within whole one none is first end = record {
   within = omega (arith, within);
@@ -170,7 +170,7 @@ last_ends f text line is_end at some within whole one none is first end = record
 }
 
 -- no line that has ended does, and more bytes may come
-pub not_yet : (f : Form) (text : List ℕ) (is_end : Bool) (at : ℕ) → AreWhole (take at text) → AreOfOne f (lines_of (take at text)) → ends (drop at text) ≡ false
+pub not_yet : {R : Type 0} (f : Form R) (text : List ℕ) (is_end : Bool) (at : ℕ) → AreWhole (take at text) → AreOfOne f (lines_of (take at text)) → ends (drop at text) ≡ false
     → is_end ≡ false → EndsRecord f text is_end 0
 not_yet f text is_end at whole one none more = record {
   within = omega arith;
@@ -181,7 +181,7 @@ not_yet f text is_end at whole one none more = record {
   none = λ _ end. let both : true ≡ false = sym end ∙ more in absurd cc;
 }
 
-rest_one : (f : Form) (rest : List ℕ) (ls : List (List ℕ)) → AreOfOne f ls → ends rest ≡ false → (length rest ≡ 0) ⊎ ((ls ≡ []) ⊎ (begins f (without_cr rest) ≡ false))
+rest_one : {R : Type 0} (f : Form R) (rest : List ℕ) (ls : List (List ℕ)) → AreOfOne f ls → ends rest ≡ false → (length rest ≡ 0) ⊎ ((ls ≡ []) ⊎ (begins f (without_cr rest) ≡ false))
     → AreOfOne f (ls ++ lines_of rest)
 rest_one f rest ls one none (inr other) = by_length rest none other where
   by_length : (r : List ℕ) → ends r ≡ false → (ls ≡ []) ⊎ (begins f (without_cr r) ≡ false) → AreOfOne f (ls ++ lines_of r)
@@ -191,7 +191,7 @@ rest_one f [] ls one none (inl empty) = subst (AreOfOne f) (sym (append-nil ls))
 rest_one f (x ∷ rest) ls one none (inl empty) = absurd (omega (arith, empty))
 
 -- all is one record
-pub all_ends : (f : Form) (text : List ℕ) (is_end : Bool) (at : ℕ) → at ≤ length text → AreWhole (take at text) → AreOfOne f (lines_of (take at text)) → ends (drop at text) ≡ false
+pub all_ends : {R : Type 0} (f : Form R) (text : List ℕ) (is_end : Bool) (at : ℕ) → at ≤ length text → AreWhole (take at text) → AreOfOne f (lines_of (take at text)) → ends (drop at text) ≡ false
     → is_end ≡ true → (length text ≤ at) ⊎ ((at ≡ 0) ⊎ (begins f (without_cr (drop at text)) ≡ false)) → EndsRecord f text is_end (length text)
 all_ends f text is_end at within whole one none end other =
     let nil : List ℕ = [] in

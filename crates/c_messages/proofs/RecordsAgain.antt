@@ -8,10 +8,12 @@ use Rattle.nav_eph.specs.Ranges.{IsItem}
 use Rattle.nav_eph.specs.declared.items.NavItem.{NavItem}
 use Rattle.rinex_write.specs.Texts.{AreLines, item_lines, text_of}
 use Rattle.rinex_write.proofs.Surface.{item_shown}
-use Rattle.rinex_read.specs.Forms.{Form}
+use Rattle.rinex_read.specs.Forms.{Form, read_at}
 use Rattle.rinex_read.specs.Judging.{judged}
 use Rattle.rinex_read.specs.Lines.{lines_of}
 use Rattle.rinex_read.specs.RoundTrip.{StandFor}
+use Rattle.rinex_read.specs.declared.judged.ItemRead.{ItemRead}
+use Rattle.rinex_read.specs.declared.judged.ItemRead.TheVariants.{Item}
 use Rattle.rinex_read.specs.declared.judged.Judged.TheVariants as judgments
 
 shown_ends : (l : List ℕ) → AreShown l → ends l ≡ false
@@ -32,10 +34,10 @@ lines_again (l ∷ ls) h =
     ∙ ap (λ t. l ∷ t) (lines_again ls h.1)
 
 pub version4_again : ((item : NavItem) (more : List (List ℕ)) → IsItem item → judged (item_lines item ++ more) ≡ judgments.Item item)
-    → (item : NavItem) → IsItem item → judged (lines_of (text_of (item_lines item))) ≡ judgments.Item item
-version4_again law item is =
-    ap judged (lines_again (item_lines item) (item_shown item)) ∙ sym (ap judged (append-nil (item_lines item))) ∙ law item [] is
+    → (item : NavItem) → IsItem item → read_at 1 (judged (lines_of (text_of (item_lines item)))) ≡ Item 1 item
+version4_again law item is = ap (read_at 1) (
+    ap judged (lines_again (item_lines item) (item_shown item)) ∙ sym (ap judged (append-nil (item_lines item))) ∙ law item [] is)
 
-pub stands_again : (f : Form) (lines : List (List ℕ)) (item : NavItem) → StandFor f lines item → f.judged (lines_of (text_of lines)) ≡ judgments.Item item
+pub stands_again : (f : Form ItemRead) (lines : List (List ℕ)) (item : NavItem) → StandFor f lines item → f.judged 1 (lines_of (text_of lines)) ≡ Item 1 item
 stands_again f lines item h =
-    ap f.judged (lines_again lines h.are.shown) ∙ sym (ap f.judged (append-nil lines)) ∙ h.judged []
+    ap (f.judged 1) (lines_again lines h.are.shown) ∙ sym (ap (f.judged 1) (append-nil lines)) ∙ h.judged 1 []

@@ -7,12 +7,12 @@ use Rattle.rinex_read.specs.Lines.{ended_lines, lines_of}
 use Rattle.rinex_read.specs.declared.judged.HeaderFault.TheVariants.{NotRinexNav}
 
 -- no line after the first begins a record
-abbrev pub AreOfOne : Form → List (List ℕ) → Type 0
+abbrev pub AreOfOne : {R : Type 0} → Form R → List (List ℕ) → Type 0
 AreOfOne f [] = Unit {0}
 AreOfOne f (l ∷ ls) = up_to_next f ls ≡ ls
 
 -- the first line begins a record
-abbrev pub BeginsOne : Form → List (List ℕ) → Type 0
+abbrev pub BeginsOne : {R : Type 0} → Form R → List (List ℕ) → Type 0
 BeginsOne f [] = ⊥
 BeginsOne f (l ∷ ls) = begins f l ≡ true
 
@@ -21,7 +21,7 @@ abbrev pub MayFollow : Bool → List ℕ → Type 0
 MayFollow is_end following = is_end ≡ true → following ≡ []
 
 -- So many bytes of a text are its first record: the lines up to the next that begins one, whatever follows, or up to the end.
-pub record EndsRecord (f : Form) (text : List ℕ) (is_end : Bool) (size : ℕ) : Type 0 where
+pub record EndsRecord {R : Type 0} (f : Form R) (text : List ℕ) (is_end : Bool) (size : ℕ) : Type 0 where
   pub within : size ≤ length text
   -- its lines are the first of the file, and those after it the others
   pub lines : 0 < size → (following : List ℕ) → MayFollow is_end following

@@ -3,8 +3,8 @@ use Rattle.std.specs.Prelude.{◌≡◌, ◌⊎◌, ℕ, ◌==◌, if◌then◌e
 use Rattle.rinex_read.specs.Lines.{lines_of}
 use Rattle.rinex_read.specs.Forms.{rinex4}
 use Rattle.rinex_read.specs.Form3.{rinex3}
-use Rattle.rinex_read.specs.declared.judged.Judged.{Judged}
-use Rattle.rinex_read.specs.declared.judged.Judged.TheVariants as judgments
+use Rattle.rinex_read.specs.declared.judged.ItemRead.{ItemRead}
+use Rattle.rinex_read.specs.declared.judged.ItemRead.TheVariants.{Item, Refused, PassedOver}
 use Rattle.rinex_read.specs.declared.reason.Reason.{Reason}
 use Rattle.rinex_read.specs.declared.reason.Reason.TheVariants.{BadSat, Short, NotANumber, Blank, OutOfRange, NoSuchDate, Week, Fit, EpochStep, EpochFar}
 use Rattle.c_records.specs.declared.item_raw.ItemRaw.{ItemRaw}
@@ -14,9 +14,9 @@ use Rattle.c_records.specs.Items.{raw_item}
 abbrev pub IsVersion : ℕ → Type 0
 IsVersion version = (version ≡ 3) ⊎ (version ≡ 4)
 
--- how the lines of a text are judged as one record of a file of that version
-abbrev pub judged_in : ℕ → List ℕ → Judged
-judged_in version text = if version == 4 then rinex4.judged (lines_of text) else rinex3.judged (lines_of text)
+-- what the lines of a text give as one record of a file of that version
+abbrev pub read_in : ℕ → List ℕ → ItemRead
+read_in version text = if version == 4 then rinex4.judged 1 (lines_of text) else rinex3.judged 1 (lines_of text)
 
 -- the number of a reason
 abbrev pub reason_status : Reason → ℕ
@@ -32,7 +32,7 @@ reason_status EpochStep = 40
 reason_status EpochFar = 41
 
 -- the item of a record is put and the result is 0, or nothing is put and the result states why
-abbrev pub PutsRead : Judged → ItemRaw → ItemRaw → ℕ → Type 0
-PutsRead (judgments.Item item) old new status = (status ≡ 0) × (new ≡ raw_item item old)
-PutsRead (judgments.Refused reason) old new status = (status ≡ reason_status reason) × (new ≡ old)
-PutsRead judgments.PassedOver old new status = (status ≡ 42) × (new ≡ old)
+abbrev pub PutsRead : ItemRead → ItemRaw → ItemRaw → ℕ → Type 0
+PutsRead (Item line item) old new status = (status ≡ 0) × (new ≡ raw_item item old)
+PutsRead (Refused line reason) old new status = (status ≡ reason_status reason) × (new ≡ old)
+PutsRead (PassedOver line) old new status = (status ≡ 42) × (new ≡ old)

@@ -11,9 +11,9 @@ ghost use Rattle.nav_eph.specs.declared.items.GpsEph.{GpsEph};
 ghost use Rattle.nav_eph.specs.declared.items.NavItem.{NavItem};
 ghost use Rattle.nav_eph.specs.declared.items.NavItem.TheVariants.{Gal as GalItem, Gps as GpsItem};
 ghost use Rattle.lnav_subframe.specs.Reading.{subframe_of};
-ghost use Rattle.rinex_read.specs.declared.judged.Judged.TheVariants as judgments;
+ghost use Rattle.rinex_read.specs.declared.judged.ItemRead.TheVariants.{Item};
 ghost use Rattle.c_messages.specs.Pages as pages;
-ghost use Rattle.c_messages.specs.RecordReads.{judged_in};
+ghost use Rattle.c_messages.specs.RecordReads.{read_in};
 ghost use Rattle.c_messages.specs.RecordWrites.{record_text};
 ghost use Rattle.c_messages.specs.Subframes as subframes;
 ghost use Rattle.c_messages.specs.declared.page_raw.PageBits.{PageBits};
@@ -63,11 +63,11 @@ pub fn pages_come_back()
 /// ephemeris.
 pub fn records_come_back()
     ensures version4 { (item : NavItem) → IsItem item →
-        judged_in 4 (record_text 4 item) ≡ judgments.Item item }
+        read_in 4 (record_text 4 item) ≡ Item 1 item }
     ensures gps { (e : GpsEph) → IsItem (GpsItem e) →
-        judged_in 3 (record_text 3 (GpsItem e)) ≡ judgments.Item (GpsItem e) }
+        read_in 3 (record_text 3 (GpsItem e)) ≡ Item 1 (GpsItem e) }
     ensures galileo { (e : GalEph) → IsItem (GalItem e) →
-        judged_in 3 (record_text 3 (GalItem e)) ≡ judgments.Item (GalItem e) }
+        read_in 3 (record_text 3 (GalItem e)) ≡ Item 1 (GalItem e) }
 {
     rinex_read::records_are_read();
     rinex_read::records3_are_read();

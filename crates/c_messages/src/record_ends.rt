@@ -11,25 +11,25 @@ ghost use Rattle.c_messages.specs.RecordReads.{IsVersion};
 
 use crate::text_lines::without_end;
 use nav_io::first_end;
-use rinex_read::{FileForm, Rinex3, Rinex4};
+use rinex_read::{FileForm, ItemRead, Rinex3, Rinex4};
 
 // Whether a line begins a record.
-fn begins<F: FileForm>(line: &[u8]) -> bool
-    ensures { result ≡ begins F.form line.now }
+fn begins<R, F: FileForm<R>>(form: &F, line: &[u8]) -> bool
+    ensures { result ≡ begins (F.form form.now) line.now }
 {
     match line {
-        [first, ..] => F::starts(*first),
-        [] => F::starts(b' '),
+        [first, ..] => form.starts(*first),
+        [] => form.starts(b' '),
     }
 }
 
 // How many bytes the first record has.
-fn size_in<F: FileForm>(text: &[u8], is_end: bool) -> usize
-    ensures { EndsRecord F.form text.now is_end result }
+fn size_in<R, F: FileForm<R>>(form: &F, text: &[u8], is_end: bool) -> usize
+    ensures { EndsRecord (F.form form.now) text.now is_end result }
 {
     let mut at = 0;
     'lines: while let Some(end) = first_end(&text[at..]) {
-        if at > 0 && begins::<F>(without_end(&text[at..at + end])) {
+        if at > 0 && begins::<R, F>(form, without_end(&text[at..at + end])) {
             return at;
         }
         at += end + 1;
@@ -37,7 +37,7 @@ fn size_in<F: FileForm>(text: &[u8], is_end: bool) -> usize
     if !is_end {
         return 0;
     }
-    if at > 0 && at < text.len() && begins::<F>(without_end(&text[at..])) {
+    if at > 0 && at < text.len() && begins::<R, F>(form, without_end(&text[at..])) {
         return at;
     }
     text.len()
@@ -53,8 +53,8 @@ pub fn record_size(text: &[u8], version: u32, is_end: bool) -> usize
     ensures none { (IsVersion version → ⊥) → result ≡ 0 }
 {
     match version {
-        3 => size_in::<Rinex3>(text, is_end),
-        4 => size_in::<Rinex4>(text, is_end),
+        3 => size_in::<ItemRead, Rinex3>(&Rinex3, text, is_end),
+        4 => size_in::<ItemRead, Rinex4>(&Rinex4, text, is_end),
         _ => 0,
     }
 }

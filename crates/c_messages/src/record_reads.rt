@@ -2,22 +2,22 @@
 
 ghost use Rattle.std.specs.Prelude.{◌≡◌};
 ghost use Rattle.rinex_read.specs.Lines.{lines_of};
-ghost use Rattle.c_messages.specs.RecordReads.{IsVersion, PutsRead, judged_in, reason_status};
+ghost use Rattle.c_messages.specs.RecordReads.{IsVersion, PutsRead, read_in, reason_status};
 
 use crate::text_lines::lines_in;
 use c_records::reasons::NO_VERSION;
 use c_records::{ItemRaw, put_item};
-use rinex_read::{FileForm, Judged, Reason, Rinex3, Rinex4};
+use rinex_read::{FileForm, ItemRead, Reason, Rinex3, Rinex4};
 
 // The record is of another kind.
 const PASSED_OVER: u32 = 42;
 
-// How the lines of a text are judged by a form.
-fn judged_by<F: FileForm>(text: &[u8]) -> Judged
-    ensures { result ≡ F.form.judged (lines_of text.now) }
+// What the lines of a text give as a record of a format.
+fn read_by<F: FileForm<ItemRead>>(form: &F, text: &[u8]) -> ItemRead
+    ensures { result ≡ (F.form form.now).judged 1 (lines_of text.now) }
 {
-    F::looks_at_kept();
-    F::judge(&lines_in(text))
+    form.looks_at_kept();
+    form.judge(1, &lines_in(text))
 }
 
 // The number of a reason.
@@ -39,16 +39,16 @@ fn status_of(reason: &Reason) -> u32
 }
 
 // Puts the item of a record.
-fn put_judged(judged: &Judged, into: &mut ItemRaw) -> u32
-    ensures { PutsRead judged.now into.old into.new result }
+fn put_read(read: &ItemRead, into: &mut ItemRaw) -> u32
+    ensures { PutsRead read.now into.old into.new result }
 {
-    match judged {
-        Judged::Item(item) => {
+    match read {
+        ItemRead::Item { item, .. } => {
             put_item(item, into);
             0
         }
-        Judged::Refused(reason) => status_of(reason),
-        Judged::PassedOver => PASSED_OVER,
+        ItemRead::Refused { reason, .. } => status_of(reason),
+        ItemRead::PassedOver { .. } => PASSED_OVER,
     }
 }
 
@@ -58,14 +58,14 @@ fn put_judged(judged: &Judged, into: &mut ItemRaw) -> u32
 /// 0; or the number of the first reason for which it is rejected, 32 to 41, 42 for a record of
 /// another kind, or 24 if there is no such version; and then nothing is put.
 pub fn read_record(text: &[u8], version: u32, into: &mut ItemRaw) -> u32
-    ensures read { IsVersion version → PutsRead (judged_in version text.now) into.old into.new result }
+    ensures read { IsVersion version → PutsRead (read_in version text.now) into.old into.new result }
     ensures version { (IsVersion version → ⊥) → (result ≡ 24) × (into.new ≡ into.old) }
 {
     if version == 4 {
-        return put_judged(&judged_by::<Rinex4>(text), into);
+        return put_read(&read_by(&Rinex4, text), into);
     }
     if version == 3 {
-        return put_judged(&judged_by::<Rinex3>(text), into);
+        return put_read(&read_by(&Rinex3, text), into);
     }
     NO_VERSION
 }

@@ -8,7 +8,7 @@ use Rattle.rtcm_frame.specs.Writing.{frame_bytes}
 use Rattle.rinex_write.specs.Columns.{AreFields}
 use Rattle.rinex_write.specs.declared.columns.Column.{Column}
 use Rattle.rinex_write.specs.declared.columns.Rule.{Rule}
-use Rattle.rinex_write.specs.declared.columns.Rule.TheVariants.{Plain, OrZero, OrLeast, Ura, Sisa, Fit, Sent, Unread}
+use Rattle.rinex_write.specs.declared.columns.Rule.TheVariants.{Plain, OrZero, OrLeast, OrUnknown, Ura, Sisa, Fit, Sent, Unread}
 use Rattle.nav_rows.specs.Rows.{RowValue, record_text, row_in}
 use Rattle.nav_rows.specs.Encoding.{message_of}
 use Rattle.nav_rows.specs.declared.encode.EncodeFault.{EncodeFault}
@@ -85,6 +85,7 @@ encode_status (encodings.Epoch reason) = reason_status reason
 encode_status (encodings.Frame fault) = frame_status fault
 encode_status (encodings.OutOfRange field) = if field == 1 then 19 else 28
 encode_status encodings.SpareSisa = 21
+encode_status encodings.NoMessage = 25
 
 -- the frame of a message is in the buffer and the result is 0; or nothing is put, and the result is
 -- the number of the error
@@ -110,6 +111,7 @@ rule_number Sisa = 2
 rule_number Fit = 3
 rule_number Sent = 4
 rule_number (Unread n) = 5
+rule_number (OrUnknown low high) = 6
 
 abbrev pub number_of_flag : Bool → ℕ
 number_of_flag true = 1

@@ -20,6 +20,7 @@ fn rule_number(rule: &Rule) -> u32
         Rule::Fit => 3,
         Rule::Sent => 4,
         Rule::Unread { .. } => 5,
+        Rule::OrUnknown { .. } => 6,
     }
 }
 

@@ -54,6 +54,7 @@ fn encode_status(fault: &EncodeFault) -> u32
         EncodeFault::Frame(fault) => frame_status(fault),
         EncodeFault::OutOfRange { field } => { if *field == 1 { 19 } else { 28 } }
         EncodeFault::SpareSisa => 21,
+        EncodeFault::NoMessage => 25,
     }
 }
 

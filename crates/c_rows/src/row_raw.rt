@@ -33,6 +33,7 @@ pub struct ColumnRaw {
     /// 1 if the integer is in semicircles, and the number in radians.
     pub is_angle: u32,
     /// What the integer is: 0 the number itself; 1 a URA index, 2 a SISA index, 3 the fit interval
-    /// flag; 4 a time of transmission, 999,900,000 if it is not known; 5 a constant.
+    /// flag; 4 a time of transmission, 999,900,000 if it is not known; 5 a constant; 6 the number
+    /// itself, 999,999,999 if it is not known.
     pub rule: u32,
 }

@@ -14,7 +14,7 @@ use c_records::put;
 use c_records::reasons::NO_ITEM;
 use gnss_week::Moment;
 use nav_rows::{Kind, Row, write_record};
-use rinex_write::{Column, Rule};
+use rinex_write::{Column, NOT_KNOWN, Rule};
 
 // Whether a number is a field by a rule.
 fn is_field(rule: &Rule, number: &i64) -> bool
@@ -24,6 +24,9 @@ fn is_field(rule: &Rule, number: &i64) -> bool
         Rule::Plain { low, high } => *low <= *number && *number <= *high,
         Rule::OrZero { low, high } => *low <= *number && *number <= *high,
         Rule::OrLeast { low, high } => *low <= *number && *number <= *high,
+        Rule::OrUnknown { low, high } => {
+            (*low <= *number && *number <= *high) || *number == NOT_KNOWN
+        }
         Rule::Ura => 0 <= *number && *number <= 15,
         Rule::Sisa => (0 <= *number && *number <= 125) || *number == 255,
         Rule::Fit => 0 <= *number && *number <= 1,

@@ -4,6 +4,5 @@ mod Marks
 mod PageLemmas
 mod PushLemmas
 mod RunLemmas
-pub mod Surface
 mod TakeLemmas
 mod TextWords

@@ -21,7 +21,7 @@ use Rattle.captures.specs.declared.counts.Said.{Said}
 use Rattle.one_run.specs.declared.fault.BridgeFault.{BridgeFault}
 use Rattle.one_run.specs.declared.fault.BridgeFault.TheVariants.{ReadFault, WriteFault, ReportFault, TooLong, NoMemory, NotThisForm}
 use Rattle.outlets.specs.Targets.{back_text, prefix_text}
-use Rattle.captures.specs.Captures.{Capture, accepted_line, capture_in, capture_meaning, capture_of, capture_with, counts_in, counts_of, counts_text, least_output, output_of, periods, refusals_text, report_of_capture, flushed_output, flushed_report, flushed_text, target_meaning, target_of, texts_of}
+use Rattle.captures.specs.Captures.{Capture, accepted_line, capture_in, capture_meaning, capture_of, capture_with, counts_in, counts_of, counts_text, least_output, least_report, output_of, periods, refusals_text, report_of_capture, flushed_output, flushed_report, flushed_text, target_meaning, target_of, texts_of}
 use Rattle.captures.specs.declared.hearing.Hearing.{Hearing}
 use Rattle.captures.specs.Conversions.{ConvertsAll, ConversionBroke, ConversionSays}
 use Rattle.captures.specs.Converts.{AcceptsHead, CaptureAhead, CapturePrefix, GivesHead, GivesNoHead, RejectionsPrefix, Stop, StopSays, closed_texts, no_tally}
@@ -30,10 +30,10 @@ use Rattle.captures.specs.Reports.{count_in, is_late, is_malformed, is_refused_e
 use Rattle.one_run.specs.Causes.{Faults, HasItsCause, faults_of}
 use Rattle.one_run.specs.Runs.{AppendsBetween, Broke, Done, Leaves, Says, World}
 use Rattle.captures.specs.Flushed.{said_of, with_counts}
-use Rattle.captures.proofs.CapturePrefixes.{Follow, accepts_first, capture_by, capture_lines, prefix_all, prefix_head, prefixes_of, known_lines, last_all, last_prefix, last_texts, least_prefix, least_none, lines_follow, nothing_part, output_is, refuses_first, refuses_none, rejections_of, report_prefix, report_is, flushed_is, flushed_report_is}
+use Rattle.captures.proofs.CapturePrefixes.{Follow, accepts_first, capture_by, capture_lines, prefix_all, prefix_head, prefixes_of, known_lines, last_all, last_prefix, last_texts, least_prefix, least_none, least_reported, lines_follow, none_reported, nothing_part, output_is, refuses_first, refuses_none, rejections_of, report_prefix, report_is, flushed_is, flushed_report_is}
 use Rattle.captures.proofs.Converting.{all_lines, ended_lines}
-use Rattle.one_run.proofs.Surface.{nothing_told, taken_all}
-use Rattle.captures.proofs.Prefixes.{LogLaws, appends_behind, appends_longer, appends_whole, prefix_behind, prefix_more, prefix_nil, prefix_trans}
+use Rattle.one_run.proofs.Surface.{between_behind, between_within, nothing_told, prefix_of, prefix_same, taken_all}
+use Rattle.captures.proofs.Prefixes.{LogLaws, appends_whole, prefix_behind, prefix_more, prefix_nil, prefix_trans}
 use Rattle.captures.proofs.Writing.{texts_prefix}
 
 -- lines of which none was read
@@ -130,7 +130,7 @@ head_part to week left left1 written written_new reported old new head fresh h (
         no_less = subst (λ (l : List ℕ). IsPrefix l prefix) (sym (least_none to week t recent)) (prefix_nil prefix);
         grew = text;
       };
-      report = ([], prefix_nil (report_of_capture week t), Appends-nil reported);
+      report = none_reported week reported t recent;
       ahead = (
         prefix_head to week head h.line left written written_new reported h.accepted (known_lines left left1 old new (h.line ∷ []) h.gives.reads fresh.rest fresh.ended) (prefix, within, text),
         last_prefix to week left left1 written written_new (prefix, within, text),
@@ -158,14 +158,14 @@ convert_prefix : (to : Target) (week : Option ℕ) (left left1 left2 written wri
 convert_prefix to week None left1 left2 written written1 written2 reported reported2 middle new hearing head line fault accepted begun p k = tt
 convert_prefix to week (Some bytes) left1 left2 written written1 written2 reported reported2 middle new hearing head line fault accepted begun p k =
     let text = p.text k.0 k.2 in
-    prefixes_of to week head line (p.given ++ p.last) k.0 bytes written written1 written2 reported reported2 accepted k.1 begun (text.prefix, text.within, text.grew) p.report
+    prefixes_of to week head line (p.given ++ p.last) k.0 bytes written written1 written2 reported reported2 accepted k.1 begun (text.prefix, text.within, text.grew) (prefix_of reported reported2 _ _ p.report)
 
 convert_rejections : (to : Target) (week : Option ℕ) (left left1 left2 written1 written2 reported reported2 : Option (List ℕ)) (middle new : LinesState) (hearing : Hearing) (head : Accepted) (line : Line) (fault : BridgeFault) → accepted_line week line ≡ Some head
     → (p : ConversionBroke to head [] left1 left2 middle new hearing written1 written2 reported reported2 fault)
     → Follow left new (line ∷ (p.given ++ p.last)) → RejectionsPrefix week left reported reported2
 convert_rejections to week None left1 left2 written1 written2 reported reported2 middle new hearing head line fault accepted p k = tt
 convert_rejections to week (Some bytes) left1 left2 written1 written2 reported reported2 middle new hearing head line fault accepted p k =
-    rejections_of week head line (p.given ++ p.last) k.0 bytes reported reported2 accepted k.1 p.report
+    rejections_of week head line (p.given ++ p.last) k.0 bytes reported reported2 accepted k.1 (prefix_of reported reported2 _ _ p.report)
 
 -- what the fault says besides
 convert_says : (to : Target) (week : Option ℕ) (left left1 left2 written written1 written2 reported reported2 : Option (List ℕ)) (old middle new : LinesState) (hearing : Hearing) (head : Accepted) (given last : List Line) (fault : BridgeFault) → IsFresh old
@@ -213,7 +213,9 @@ convert_stops laws to week left left1 left2 written written1 written2 reported r
     let back = back_text to (counts_text (counts_of c)) in
     let recent = recent_head h.line a p.reads.taken h.gives.prefix middle.rest (length (p.given ++ p.last)) (held_none old.rest a fresh.rest ∙ h.gives.split) (h.gives.short few)
     (fresh_lines left left1 old middle (h.line ∷ []) h.gives.reads fresh) p.recent in
-    let least = least_prefix laws to week head h.line p.given p.last more t h.accepted p.few (fresh_lines left left2 old new (h.line ∷ (p.given ++ p.last)) reads fresh) (omega (arith, recent)) in
+    let lines = fresh_lines left left2 old new (h.line ∷ (p.given ++ p.last)) reads fresh in
+    let least = least_prefix laws to week head h.line p.given p.last more t h.accepted p.few lines (omega (arith, recent)) in
+    let least_told = least_reported week head h.line p.given p.last more t h.accepted p.few lines (omega (arith, recent)) in
     record {
       taken = t;
       consumes = reads.consumes;
@@ -224,8 +226,9 @@ convert_stops laws to week left left1 left2 written written1 written2 reported r
         no_less = prefix_trans (least_output to week t) (prefix_text to ++ closed) (prefix_text to ++ text.prefix) least (prefix_behind (prefix_text to) closed text.prefix text.no_less);
         grew = Appends-trans written written1 written2 (prefix_text to) text.prefix begun text.grew;
       };
-      report = subst (AppendsPrefix reported reported2) (sym (report_is week t c capture))
-          (appends_longer reported reported2 (line_report (log_of head.window (p.given ++ p.last))) (line_report (log_of head.window c.lines) ++ counts_text (counts_of c))
+      report = subst (AppendsBetween reported reported2 (least_report week t)) (sym (report_is week t c capture))
+          (between_within reported reported2 (least_report week t) (line_report (log_of head.window p.given)) (line_report (log_of head.window (p.given ++ p.last)))
+          (line_report (log_of head.window c.lines) ++ counts_text (counts_of c)) least_told
           (prefix_trans (line_report (log_of head.window (p.given ++ p.last))) (line_report (log_of head.window c.lines)) (line_report (log_of head.window c.lines) ++ counts_text (counts_of c))
           (report_prefix head.window (p.given ++ p.last) more) (prefix_more (line_report (log_of head.window c.lines)) (counts_text (counts_of c)))) p.report);
       ahead = (
@@ -307,6 +310,7 @@ end_stops laws to week left left2 written written2 written3 reported reported2 r
     let lines : lines_by false t.taken ≡ (t.line ∷ (t.given ++ [])) ++ [] = t.lines ∙ ap (λ (l : List Line). t.line ∷ l) (sym nil) ∙ sym (append-nil (t.line ∷ (t.given ++ []))) in
     let recent = recent_lines t.taken t.taken [] (t.line ∷ (t.given ++ [])) (sym (append-nil t.taken)) (omega arith) lines in
     let least = least_prefix laws to week head t.line t.given [] [] t.taken t.accepted (omega arith) lines recent in
+    let least_told = least_reported week head t.line t.given [] [] t.taken t.accepted (omega arith) lines recent in
     let prefix = texts_prefix to (closed_of head.week head.window (watermark_after head.window t.given) (parts_of head.window t.given)) (periods_of head.week head.window (parts_of head.window (t.given ++ [])))
     (laws.prefix head.week head.window t.given []) in
     let below : IsPrefix closed texts = subst (λ (l : List Line). IsPrefix closed (texts_of to (periods_of head.week head.window (parts_of head.window l)))) nil prefix in
@@ -320,8 +324,11 @@ end_stops laws to week left left2 written written2 written3 reported reported2 r
           (prefix_trans (prefix_text to ++ closed) (prefix_text to ++ texts) ((prefix_text to ++ texts) ++ behind.0) (prefix_behind (prefix_text to) closed texts below) (prefix_more (prefix_text to ++ texts) behind.0));
       grew = Appends-trans written written2 written3 (prefix_text to ++ texts) behind.0 t.text behind.2;
     } in
-    let report_text : AppendsPrefix reported reported3 (report_of_capture week t.taken) = subst (AppendsPrefix reported reported3) (sym (report_is week t.taken c capture))
-    (appends_behind reported reported2 reported3 (line_report (log_of head.window t.given)) (counts_text (counts_of c)) t.report told) in
+    let all_told = line_report (log_of head.window t.given) ++ counts_text (counts_of c) in
+    let report_text : AppendsBetween reported reported3 (least_report week t.taken) (report_of_capture week t.taken) =
+    subst (AppendsBetween reported reported3 (least_report week t.taken)) (sym (report_is week t.taken c capture))
+    (between_within reported reported3 (least_report week t.taken) (line_report (log_of head.window t.given)) all_told all_told least_told (prefix_same all_told)
+    (between_behind reported reported2 reported3 (line_report (log_of head.window t.given)) (counts_text (counts_of c)) t.report told)) in
     let wrote : AppendsPrefix written written3 (output_of to week t.taken) = (text.prefix, text.within, text.grew) in
     let same = Consumes-all left left2 t.taken [] t.taken t.consumes t.end refl in
     record {
@@ -329,7 +336,7 @@ end_stops laws to week left left2 written written2 written3 reported reported2 r
       consumes = t.consumes;
       text = text;
       report = report_text;
-      ahead = (prefix_all to week left written written3 reported reported3 t.taken same wrote report_text, last_all to week left left2 written written3 t.taken t.consumes t.end wrote);
+      ahead = (prefix_all to week left written written3 reported reported3 t.taken same wrote (prefix_of reported reported3 _ _ report_text), last_all to week left left2 written written3 t.taken t.consumes t.end wrote);
       no_counts = λ other. taken_all left left2 t.taken (λ bytes. AppendsPrefix reported reported3 (refusals_text (capture_of week bytes))) t.consumes t.end
           (subst (λ (o : Option Capture). AppendsPrefix reported reported3 (refusals_text o)) (sym capture)
           (subst (λ (u : Option (List ℕ)). AppendsPrefix reported u (line_report (log_of head.window t.given))) (sym (untold other))

@@ -17,8 +17,9 @@ use Rattle.one_run.specs.declared.fault.BridgeFault.{BridgeFault}
 use Rattle.outlets.specs.declared.target.Target.{Target}
 use Rattle.outlets.specs.declared.target.Target.TheVariants.{Rinex, Rinex3, Rtcm, ToList, Count}
 use Rattle.outlets.specs.Targets.{back_text, prefix_text}
-use Rattle.captures.specs.Captures.{Capture, accepted_line, capture_in, capture_of, capture_with, counts_in, counts_of, counts_text, least_output, output_of, periods, refusals_text, report_of_capture, flushed_output, flushed_report, flushed_text, texts_of, whole_report, whole_text, without_last}
+use Rattle.captures.specs.Captures.{Capture, accepted_line, capture_in, capture_of, capture_with, counts_in, counts_of, counts_text, least_output, least_report, output_of, periods, refusals_text, report_of_capture, flushed_output, flushed_report, flushed_text, texts_of, whole_report, whole_text, without_last}
 use Rattle.captures.specs.Converts.{AcceptsHead, CapturePrefix, CountsLast, Refuses, Stop, StopSays}
+use Rattle.one_run.specs.Runs.{AppendsBetween}
 use Rattle.one_run.proofs.Surface.{nothing_told}
 use Rattle.captures.specs.Notes.{line_report}
 use Rattle.captures.proofs.Prefixes.{LogLaws, appends_behind, appends_longer, prefix_behind, prefix_more, prefix_nil, prefix_trans}
@@ -65,6 +66,10 @@ without_short (y ∷ z ∷ zs) few = absurd (omega (arith, few))
 
 -- ---- the least
 
+abbrev first_or : Line → List Line → Line
+first_or d [] = d
+first_or d (z ∷ zs) = z
+
 -- what is closed by a prefix of the lines is a prefix of what is closed by them
 pub flushed_prefix : (laws : LogLaws) (to : Target) (week : Option ℕ) (head : Accepted) (line : Line) (given last lines : List Line) → accepted_line week line ≡ Some head → length last ≤ 1
     → IsPrefixOf lines (line ∷ (given ++ last))
@@ -84,10 +89,26 @@ flushed_prefix laws to week head line given last (x ∷ y ∷ ys) e few (rest, w
     (texts_prefix to closed (closed_of head.week head.window (watermark_after head.window (less ++ prefix.0)) (parts_of head.window (less ++ prefix.0))) (laws.rise head.week head.window less prefix.0)) in
     subst (λ (c : Option Capture). IsPrefix (flushed_text to c) (prefix_text to ++ texts_of to more)) (sym (capture_lines week head x less accepted))
     (prefix_behind (prefix_text to) (texts_of to closed) (texts_of to more) rises)
-  where
-    first_or : Line → List Line → Line
-    first_or d [] = d
-    first_or d (z ∷ zs) = z
+
+-- the report of lines is a prefix of that of more
+pub report_prefix : (window : ℕ) (lines more : List Line) → IsPrefix (line_report (log_of window lines)) (line_report (log_of window (lines ++ more)))
+report_prefix window lines more =
+    let behind = log_from window (known_of window lines) (2 + length lines) (line_items_of more) in
+    (line_report behind, ap line_report (log_more window lines more) ∙ report_append (log_of window lines) behind)
+
+-- what is reported of a prefix of the lines is a prefix of what is reported of them
+refusals_prefix : (week : Option ℕ) (head : Accepted) (line : Line) (given last lines : List Line) → accepted_line week line ≡ Some head → length last ≤ 1
+    → IsPrefixOf lines (line ∷ (given ++ last)) → IsPrefix (refusals_text (capture_in week (without_last lines))) (line_report (log_of head.window given))
+refusals_prefix week head line given last [] e few prefix = prefix_nil _
+refusals_prefix week head line given last (x ∷ []) e few prefix = prefix_nil _
+refusals_prefix week head line given last (x ∷ y ∷ ys) e few (rest, whole) =
+    let same : line ≡ x = ap (λ (l : List Line). first_or line l) whole in
+    let tail : IsPrefixOf (y ∷ ys) (given ++ last) = (rest, ap (drop 1) whole) in
+    let less = without_last (y ∷ ys) in
+    let prefix = without_one y ys given last few tail in
+    let accepted : accepted_line week x ≡ Some head = ap (accepted_line week) (sym same) ∙ e in
+    let grows = subst (λ (l : List Line). IsPrefix (line_report (log_of head.window less)) (line_report (log_of head.window l))) (sym prefix.1) (report_prefix head.window less prefix.0) in
+    subst (λ (c : Option Capture). IsPrefix (refusals_text c) (line_report (log_of head.window given))) (sym (capture_lines week head x less accepted)) grows
 
 -- the lines that have ended before the last 4,096 bytes are a prefix of all
 recent_prefix : (t : List ℕ) (lines : List Line) (more : List Line) → lines_by false t ≡ lines ++ more → length (lines_by true (take (length t - 4096) t)) ≤ length lines
@@ -109,6 +130,26 @@ pub least_none : (to : Target) (week : Option ℕ) (t : List ℕ) → length (li
 unfolding least_output
 least_none to week t few = ap (λ (l : List Line). flushed_text to (capture_in week l)) (without_short (lines_by true (take (length t - 4096) t)) few)
 
+pub least_reported : (week : Option ℕ) (head : Accepted) (line : Line) (given last more : List Line) (t : List ℕ) → accepted_line week line ≡ Some head → length last ≤ 1
+    → lines_by false t ≡ (line ∷ (given ++ last)) ++ more → length (lines_by true (take (length t - 4096) t)) ≤ length (line ∷ (given ++ last))
+    → IsPrefix (least_report week t) (line_report (log_of head.window given))
+unfolding least_report
+least_reported week head line given last more t e few all recent =
+    refusals_prefix week head line given last (lines_by true (take (length t - 4096) t)) e few (recent_prefix t (line ∷ (given ++ last)) more all recent)
+
+-- nothing was reported, where no line need be
+pub none_reported : (week : Option ℕ) (reported : Option (List ℕ)) (t : List ℕ) → length (lines_by true (take (length t - 4096) t)) ≤ 1
+    → AppendsBetween reported reported (least_report week t) (report_of_capture week t)
+unfolding least_report
+none_reported week reported t few = record {
+  prefix = [];
+  within = prefix_nil (report_of_capture week t);
+  no_less =
+      let none = ap (λ (l : List Line). refusals_text (capture_in week l)) (without_short (lines_by true (take (length t - 4096) t)) few) in
+      subst (λ (l : List ℕ). IsPrefix l []) (sym none) (prefix_nil []);
+  grew = Appends-nil reported;
+}
+
 -- ---- the whole
 
 pub output_is : (to : Target) (week : Option ℕ) (t : List ℕ) (c : Capture) → capture_of week t ≡ Some c
@@ -127,12 +168,6 @@ flushed_is to week t lines e = ap (λ (l : List Line). flushed_text to (capture_
 pub flushed_report_is : (week : Option ℕ) (t : List ℕ) (lines : List Line) → lines_by true t ≡ lines → flushed_report week t ≡ refusals_text (capture_in week lines)
 unfolding flushed_report
 flushed_report_is week t lines e = ap (λ (l : List Line). refusals_text (capture_in week l)) e
-
--- the report of lines is a prefix of that of more
-pub report_prefix : (window : ℕ) (lines more : List Line) → IsPrefix (line_report (log_of window lines)) (line_report (log_of window (lines ++ more)))
-report_prefix window lines more =
-    let behind = log_from window (known_of window lines) (2 + length lines) (line_items_of more) in
-    (line_report behind, ap line_report (log_more window lines more) ∙ report_append (log_of window lines) behind)
 
 -- ---- counts are written at the end alone
 
@@ -246,7 +281,7 @@ nothing_part to week left left_new written reported t fault consumes few says = 
     no_less = ([], sym (append-nil (least_output to week t) ∙ least_none to week t few));
     grew = Appends-nil written;
   };
-  report = ([], prefix_nil (report_of_capture week t), Appends-nil reported);
+  report = none_reported week reported t few;
   ahead = (prefix_nothing to week left written reported, last_nothing to week left left_new written written (Appends-nil written));
   no_counts = λ other. nothing_told (λ bytes. refusals_text (capture_of week bytes)) left reported reported refl;
   says = says;

@@ -5,7 +5,6 @@ use Rattle.std.proofs.lemmas.Bool.{true≢false}
 use Rattle.std.specs.Io.KnownBytes.{Appends}
 use Rattle.std.proofs.KnownBytes.{Appends-nil}
 use Rattle.nav_io.specs.Causes.{Rose}
-use Rattle.nav_io.specs.Prefix.{AppendsPrefix}
 use Rattle.nav_io.specs.Lines.{Line, ends, lines_by, pieces}
 use Rattle.nav_io.specs.LinesState.{LinesState, Reads, GivesEnd}
 use Rattle.nav_io.specs.LineAnswers.{Breaks}
@@ -35,7 +34,8 @@ use Rattle.captures.specs.Converts.{closed_texts, no_tally, period_texts}
 use Rattle.captures.specs.Hearings.{Finished, IsNew, IsStepFault, Stands, StepBroke}
 use Rattle.captures.specs.Notes.{GivesItem, KeepsHalves, line_report, tallied, total}
 use Rattle.captures.specs.Flushed.{IsWriting, said_of}
-use Rattle.captures.proofs.Prefixes.{LogLaws, appends_whole, written_closed}
+use Rattle.one_run.proofs.Surface.{between_whole}
+use Rattle.captures.proofs.Prefixes.{LogLaws, written_closed}
 
 -- ---- the lines of what was held and taken
 
@@ -120,10 +120,10 @@ between_number to head past left left1 left2 old middle state h start written to
 -- ---- ends
 
 reported_nil : (window : ℕ) (past given : List Line) (told reported : Option (List ℕ)) → Appends told reported (line_report (log_of window (past ++ given)))
-    → AppendsPrefix told reported (line_report (log_of window (past ++ (given ++ []))))
+    → AppendsBetween told reported (line_report (log_of window (past ++ given))) (line_report (log_of window (past ++ (given ++ []))))
 reported_nil window past given told reported text =
-    subst (λ (l : List Line). AppendsPrefix told reported (line_report (log_of window (past ++ l)))) (sym (append-nil given))
-    (appends_whole told reported (line_report (log_of window (past ++ given))) text)
+    let all = line_report (log_of window (past ++ given)) in
+    subst (λ (l : List Line). AppendsBetween told reported all (line_report (log_of window (past ++ l)))) (sym (append-nil given)) (between_whole told reported all text)
 
 -- the input ended so
 broke_lines : (laws : LogLaws) (to : Target) (head : Accepted) (past : List Line) (left left1 left2 : Option (List ℕ)) (old middle state : LinesState) (h : Hearing) (start written told reported : Option (List ℕ)) (fault : LineFault)
@@ -207,7 +207,8 @@ broke_step to head past left left1 left2 old middle state h new start written wr
           (all_lines left left2 old state (b.given ++ gives.line ∷ []) reads);
       text = λ more none.
           subst (λ (l : List Line). AppendsBetween start written_new (closed_texts to head (past ++ b.given)) (period_texts to head (l ++ more))) (append_assoc past b.given (gives.line ∷ [])) (broke.text more);
-      report = subst (λ (l : List Line). AppendsPrefix told reported_new (line_report (log_of head.window l))) (append_assoc past b.given (gives.line ∷ [])) broke.report;
+      report = subst (λ (l : List Line). AppendsBetween told reported_new (line_report (log_of head.window (past ++ b.given))) (line_report (log_of head.window l)))
+          (append_assoc past b.given (gives.line ∷ [])) broke.report;
       says = step_says to head (past ++ b.given) (gives.line ∷ []) state new start written_new told reported_new before now fault broke.cause;
     }
 

@@ -29,6 +29,7 @@ use Rattle.captures.specs.Hearings.{IsNew, Stands}
 use Rattle.captures.specs.Notes.{line_report}
 use Rattle.captures.specs.Pushed.{CaptureRunState, CutSays, HasRead, IsBehind, IsCutShort, IsPushed, IsReady, IsWaiting, IsWhole, unread}
 use Rattle.captures.proofs.CaptureEnds.{IsFresh, converted_form, counts_are}
+use Rattle.one_run.proofs.Surface.{prefix_of}
 use Rattle.captures.proofs.CapturePrefixes.{capture_by, capture_lines, flushed_is, flushed_report_is, output_is, report_is, report_prefix}
 use Rattle.captures.proofs.Converting.{stands_start}
 use Rattle.captures.proofs.Prefixes.{LogLaws, appends_behind, appends_longer, prefix_behind, prefix_more, prefix_nil, prefix_same, prefix_trans}
@@ -243,7 +244,7 @@ went_cut laws to week left left_new lines lines_new h low bytes start written be
       };
       report = subst (AppendsPrefix begun reported) (sym (report_is week whole c capture))
           (appends_longer begun reported told (all_told ++ counts_text (counts_of c))
-          (prefix_trans told all_told (all_told ++ counts_text (counts_of c)) (report_prefix head.window some more) (prefix_more all_told (counts_text (counts_of c)))) p.report);
+          (prefix_trans told all_told (all_told ++ counts_text (counts_of c)) (report_prefix head.window some more) (prefix_more all_told (counts_text (counts_of c)))) (prefix_of begun reported _ _ p.report));
       says = says (subst (λ (x : Option Capture). IsSome x) (sym capture) refl);
     }
 

@@ -8,7 +8,7 @@ use Rattle.nav_io.specs.Prefix.{AppendsPrefix}
 use Rattle.nav_vectors.specs.Text.{capture_text}
 use Rattle.one_run.specs.Causes.{Faults, HasItsCause, faults_of}
 use Rattle.one_run.specs.Runs.{Broke, Done, Ended, Says, World, faults_in}
-use Rattle.one_run.proofs.Surface.{none_failed, report_failed, write_failed}
+use Rattle.one_run.proofs.Surface.{between, none_failed, report_failed, write_failed}
 use Rattle.one_run.specs.declared.fault.BridgeFault.{BridgeFault}
 use Rattle.one_run.specs.declared.fault.BridgeFault.TheVariants.{ReadFault, WriteFault, ReportFault, TooLong, NoMemory, NotThisForm}
 use Rattle.outlets.specs.declared.target.Target.TheVariants.{Count}
@@ -65,8 +65,8 @@ broke_by : {S T U : Type 0} (to : SeedTo) (seed n r : ℕ) (b a : World S T U) (
 broke_by to seed n r b a fault unread silent reports text told no_counts reads cause = record {
   taken = [];
   consumes = refl;
-  text = record { prefix = text.0; within = text.1; no_less = (text.0, refl); grew = text.2 };
-  told = told;
+  text = between b.written a.written (seed_output to seed n r) text;
+  told = between b.reported a.reported (seed_report to seed n r) told;
   ahead = (text, told);
   no_counts = no_counts;
   cause = seed_cause b a fault reads cause;

@@ -29,7 +29,9 @@ use Rattle.captures.specs.Converts.{Counted, closed_texts, no_tally, period_text
 use Rattle.captures.specs.Hearings.{Finished, IsOpenAt, IsStepFault, Stands, StandsAt, StepBroke, Takes, Unheard}
 use Rattle.captures.specs.Notes.{KeepsHalves, line_report, tallied, total}
 use Rattle.captures.specs.Flushed.{HasRoom, IsWriting, Flushed, said_of}
-use Rattle.captures.proofs.Prefixes.{LogLaws, appends_behind, appends_whole, counts_low, periods_low, written_between, written_closed}
+use Rattle.one_run.proofs.Surface.{between_behind, between_whole, between_within, prefix_same}
+use Rattle.captures.proofs.Prefixes.{LogLaws, counts_low, periods_low, written_between, written_closed}
+use Rattle.captures.proofs.CapturePrefixes.{report_prefix}
 use Rattle.captures.proofs.Logs.{halves_line, known_line, known_of, log_line, parts_append, parts_line, report_append, square_next, tally_append}
 
 -- ---- before the line
@@ -148,8 +150,9 @@ broke_item laws to head number lines line item h start written told reported rep
     let both = unheard_cause reported reported_new writes before now log fault own in
     record {
       text = λ more. written_closed laws head.week head.window to lines ((line ∷ []) ++ more) ((lines ++ line ∷ []) ++ more) start written (append_assoc lines (line ∷ []) more) s.flushed.text;
-      report = subst (AppendsPrefix told reported_new) (sym (ap line_report (log_line head.window number lines line e) ∙ report_append (log_of head.window lines) log))
-          (appends_behind told reported reported_new (line_report (log_of head.window lines)) (line_report log) s.report both.0);
+      report = subst (AppendsBetween told reported_new (line_report (log_of head.window lines)))
+          (sym (ap line_report (log_line head.window number lines line e) ∙ report_append (log_of head.window lines) log))
+          (between_behind told reported reported_new (line_report (log_of head.window lines)) (line_report log) s.report both.0);
       cause = both.1;
     }
 
@@ -253,7 +256,9 @@ broke_writing laws to head before watermark lines line h start written written_n
       (subst (λ (n : ℕ). ClosedBetween head.week head.window to (parts_of head.window (lines ++ line ∷ [])) n (watermark_after head.window (lines ++ line ∷ [])) start written_new) was
       (subst (λ (n : ℕ). ClosedBetween head.week head.window to (parts_of head.window (lines ++ line ∷ [])) before n start written_new) is
       (closed_at _ _ _ _ to (parts_of head.window (lines ++ line ∷ [])) before watermark start written_new s.week s.window wrote)));
-  report = appends_whole told reported (line_report (log_of head.window (lines ++ line ∷ []))) s.report;
+  report =
+      let all = line_report (log_of head.window (lines ++ line ∷ [])) in
+      between_within told reported (line_report (log_of head.window lines)) all all all (report_prefix head.window lines (line ∷ [])) (prefix_same all) (between_whole told reported all s.report);
   cause = writing_cause reports failed now fault cause;
 }
 

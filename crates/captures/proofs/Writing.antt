@@ -20,7 +20,7 @@ use Rattle.slot_assembly.proofs.Surface.{Gives, HasValues, gives_start, gives_mo
 use Rattle.outlets.specs.declared.target.Target.{Target}
 use Rattle.captures.specs.declared.counts.Said.{Said}
 use Rattle.outlets.specs.Targets.{period_text}
-use Rattle.outlets.specs.Times.{times_of, times_with}
+use Rattle.outlets.specs.Times.{times_with}
 use Rattle.outlets.specs.declared.times.Times.{Times}
 use Rattle.outlets.proofs.Surface.{times_behind}
 use Rattle.captures.specs.Captures.{texts_of, verdicts, is_whole, is_partial, is_contradicted, is_nohealth, is_again}

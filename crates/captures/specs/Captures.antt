@@ -178,10 +178,17 @@ without_last [] = []
 without_last (line ∷ []) = []
 without_last (line ∷ more ∷ lines) = line ∷ without_last (more ∷ lines)
 
--- the least that was written of the bytes taken, at an error other than of a read: what the
--- complete lines before the last 4,096 bytes close, without the last of these lines
+-- the complete lines before the last 4,096 bytes, without the last of these lines
+abbrev pub early_lines : List ℕ → List Line
+early_lines bytes = without_last (lines_by true (take (length bytes - 4096) bytes))
+
+-- the least that was written of the bytes taken, at an error other than of a read: what these lines close
 unfoldable pub least_output : Target → Option ℕ → List ℕ → List ℕ
-least_output to week bytes = flushed_text to (capture_in week (without_last (lines_by true (take (length bytes - 4096) bytes))))
+least_output to week bytes = flushed_text to (capture_in week (early_lines bytes))
+
+-- the least that was reported of them: the refusals of these lines
+unfoldable pub least_report : Option ℕ → List ℕ → List ℕ
+least_report week bytes = refusals_text (capture_in week (early_lines bytes))
 
 -- the form that is written
 abbrev pub target_of : CaptureTo → Target
@@ -206,7 +213,7 @@ target_meaning to week = record {
   counts = λ bytes. counts_in (capture_of week bytes);
   whole = record { output = output_of to week; report = report_of_capture week };
   rejections = λ bytes. refusals_text (capture_of week bytes);
-  least = least_output to week;
+  least = record { output = least_output to week; report = least_report week };
   flushed = Some (record { output = flushed_output to week; report = flushed_report week });
 }
 

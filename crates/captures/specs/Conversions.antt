@@ -1,7 +1,6 @@
 -- What becomes of a capture whose next lines are read from a source, after some lines. Private functions cite these.
 use Rattle.std.specs.Prelude.{◌≡◌, ℕ, ◌+◌, ◌-◌, ◌^◌, ◌<◌, ◌≤◌, true, false, List, [], ◌++◌, length, take, Option, Result, MatchResult}
 use Rattle.std.specs.Io.KnownBytes.{Appends}
-use Rattle.nav_io.specs.Prefix.{AppendsPrefix}
 use Rattle.nav_io.specs.Lines.{Line, ends, lines_by}
 use Rattle.nav_io.specs.LinesState.{LinesState, Reads}
 use Rattle.periods.specs.PeriodsOf.{periods_of}
@@ -65,7 +64,7 @@ ConversionSays to head lines last new h start written told reported NoMemory = U
 -- An error. The lines `given` were processed, and `last`, at most one, perhaps in part; no more
 -- lines are complete before the last 4,096 bytes. A prefix was written of what these lines, those
 -- before and any that follow give, no less than what `given` close; and a prefix of the report of
--- these lines was reported.
+-- these lines was reported, no less than that of `given`.
 pub record ConversionBroke (to : Target) (head : Accepted) (past : List Line) (left left_new : Option (List ℕ)) (old new : LinesState) (h : Hearing) (start written told reported : Option (List ℕ)) (fault : BridgeFault) : Type 0 where
   pub given : List Line
   pub last : List Line
@@ -74,7 +73,7 @@ pub record ConversionBroke (to : Target) (head : Accepted) (past : List Line) (l
   pub recent : length (lines_by true (take (length (old.rest ++ reads.taken) - 4096) (old.rest ++ reads.taken))) ≤ length (given ++ last)
   pub text : (more : List Line) → (new.ended ≡ true → new.rest ≡ [] → more ≡ [])
       → AppendsBetween start written (closed_texts to head (past ++ given)) (period_texts to head ((past ++ (given ++ last)) ++ more))
-  pub report : AppendsPrefix told reported (line_report (log_of head.window (past ++ (given ++ last))))
+  pub report : AppendsBetween told reported (line_report (log_of head.window (past ++ given))) (line_report (log_of head.window (past ++ (given ++ last))))
   pub says : ConversionSays to head (past ++ given) last new h start written told reported fault
 
 -- the further lines were processed, and the periods that were left were written

@@ -13,7 +13,7 @@ use Rattle.outlets.specs.declared.target.Target.TheVariants.{Count}
 use Rattle.captures.specs.declared.counts.Tally.{Tally}
 use Rattle.one_run.specs.declared.fault.BridgeFault.{BridgeFault}
 use Rattle.one_run.specs.declared.fault.BridgeFault.TheVariants.{ReadFault, WriteFault, ReportFault, TooLong, NoMemory, NotThisForm}
-use Rattle.captures.specs.Captures.{accepted_line, capture_of, counts_in, least_output, output_of, refusals_text, report_of_capture, flushed_output, flushed_report, texts_of}
+use Rattle.captures.specs.Captures.{accepted_line, capture_of, counts_in, least_output, least_report, output_of, refusals_text, report_of_capture, flushed_output, flushed_report, texts_of}
 use Rattle.captures.specs.declared.accept.Accepted.{Accepted}
 use Rattle.captures.specs.Notes.{KeepsHalves, tallied, total}
 use Rattle.one_run.specs.Runs.{AppendsBetween}
@@ -92,12 +92,12 @@ StopSays to week left taken written written_new reported reported_new WriteFault
 StopSays to week left taken written written_new reported reported_new ReportFault = AcceptsHead week left
 StopSays to week left taken written written_new reported reported_new NoMemory = AcceptsHead week left
 
--- the run broke off: a prefix was written of what the bytes taken give, no less than the least, and a prefix was reported
+-- the run broke off: a prefix was written and reported of what the bytes taken give, no less than the least
 pub record Stop (to : Target) (week : Option ℕ) (left left_new written written_new reported reported_new : Option (List ℕ)) (fault : BridgeFault) : Type 0 where
   pub taken : List ℕ
   pub consumes : Consumes left left_new taken
   pub text : AppendsBetween written written_new (least_output to week taken) (output_of to week taken)
-  pub report : AppendsPrefix reported reported_new (report_of_capture week taken)
+  pub report : AppendsBetween reported reported_new (least_report week taken) (report_of_capture week taken)
   pub ahead : CaptureAhead to week left left_new written written_new reported reported_new
   pub no_counts : (fault ≡ ReportFault → ⊥) → RejectionsPrefix week left reported reported_new
   pub says : StopSays to week left taken written written_new reported reported_new fault

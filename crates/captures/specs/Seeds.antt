@@ -52,6 +52,6 @@ seed_meaning to seed n r = record {
   counts = λ bytes. Some (seed_counts to seed n r);
   whole = record { output = λ bytes. seed_output to seed n r; report = λ bytes. seed_report to seed n r };
   rejections = λ bytes. seed_rejections to seed n r;
-  least = no_least;
+  least = record { output = no_least; report = no_least };
   flushed = None;
 }

@@ -28,7 +28,8 @@ use std::alloc::Global;
 /// - `NotThisForm` exactly if the first line is not accepted; nothing is written then.
 /// - `ReadFault`, `WriteFault`, `ReportFault` only if the error count of the input, the output or
 ///   the report rose, or is at its maximum. After a failed read exactly what the complete lines
-///   close was written, and exactly their refusals reported.
+///   close was written, and exactly their refusals reported. After any error at least this was
+///   done of the lines that are complete before the last 4,096 of these bytes, without the last.
 /// - `TooLong` only if 4,294,967,295 bytes were read and there was one more.
 /// - `NoMemory` if out of memory.
 pub fn run_capture<S: Source, T: Sink, U: Sink>(

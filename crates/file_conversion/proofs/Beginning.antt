@@ -1,7 +1,7 @@
 -- From a source that was looked at to the conversion that is begun.
-use Rattle.std.proofs.Common.{◌≡◌, ℕ, true, List, Option, None, Some, Result, Err, sym, ap, subst, ◌∙◌, refl}
+use Rattle.std.proofs.Common.{◌≡◌, ℕ, Bool, true, false, List, Option, None, Some, Result, Err, sym, ap, subst, ◌∙◌, refl}
 use Rattle.std.specs.Option.{option_map}
-use Rattle.std.specs.Prelude.{IfSome}
+use Rattle.std.specs.Prelude.{IfSome, if◌then◌else◌}
 use Rattle.std.specs.Io.KnownBytes.{Keeps}
 use Rattle.nav_io.specs.Causes.{Rose}
 use Rattle.bridge_engine.specs.declared.job.Job.TheVariants as jobs
@@ -61,18 +61,22 @@ file4_reads plan targets.Rinex = refl
 file4_reads plan targets.Rinex3 = refl
 file4_reads plan targets.Rtcm = refl
 file4_reads plan targets.List = refl
-file4_reads plan targets.Count = tt
+file4_reads plan targets.Count = refl
 file4_reads plan targets.Frames = tt
 file4_reads plan targets.Merged = refl
 file4_reads plan targets.Cover = refl
 file4_reads plan targets.Capture = refl
 
+either_reads : (b : Bool) (one other : Option Task) → Reads one → Reads other → Reads (if b then one else other)
+either_reads true one other first second = first
+either_reads false one other first second = second
+
 file3_reads : (plan : Plan) (target : Target) → Reads (file3_task plan target)
-file3_reads plan targets.Rinex = refl
+file3_reads plan targets.Rinex = either_reads plan.merges _ _ refl refl
 file3_reads plan targets.Rinex3 = refl
 file3_reads plan targets.Rtcm = refl
 file3_reads plan targets.List = refl
-file3_reads plan targets.Count = tt
+file3_reads plan targets.Count = refl
 file3_reads plan targets.Frames = tt
 file3_reads plan targets.Merged = tt
 file3_reads plan targets.Cover = tt

@@ -5,7 +5,7 @@ use Rattle.std.specs.Prelude.{IfErr, IfOk, IfSome, IsSome, OnErr, OnOk}
 use Rattle.nav_io.specs.Causes.{Rose}
 use Rattle.one_run.specs.declared.fault.BridgeFault.{BridgeFault}
 use Rattle.one_run.specs.declared.fault.BridgeFault.TheVariants.{NoMemory}
-use Rattle.bridge_engine.specs.declared.done.Done.{Done}
+use Rattle.file_conversion.specs.declared.done.Done.{Done}
 use Rattle.whole_file.specs.declared.kinds.Kind.{Kind}
 use Rattle.whole_file.specs.Files.{Opens, Stays}
 use Rattle.whole_file.specs.Steps.{BrokeOff, Lacks, bytes_of}

@@ -1,5 +1,5 @@
 -- What a run that ended well has written and counted, and that it ends well where nothing fails.
-use Rattle.std.proofs.Common.{◌≡◌, ◌⊎◌, inl, inr, ◌^◌, ◌<◌, ◌≤◌, ℕ, Bool, true, false, List, [], ◌++◌, length, Option, None, Some, Result, Ok, Err, refl, sym, ap, subst, ◌∙◌, arith, length-append}
+use Rattle.std.proofs.Common.{◌≡◌, ◌⊎◌, inl, inr, ◌^◌, ◌<◌, ◌≤◌, ℕ, Bool, true, false, List, [], length, Option, None, Some, Result, Ok, Err, refl, sym, ap, subst, ◌∙◌, arith, length-append}
 use Rattle.std.proofs.lemmas.Bool.{cases_lt}
 use Rattle.std.specs.Option.{option_map}
 use Rattle.std.specs.Prelude.{IfErr, IfOk, IfSome, IsErr, IsErrOf, IsOk, IsSome, OnOk, if◌then◌else◌}
@@ -13,7 +13,7 @@ use Rattle.one_run.specs.declared.fault.BridgeFault.TheVariants.{ReadFault, Writ
 use Rattle.whole_file.specs.Steps.{EndsFor, RoseFor, error_counts}
 use Rattle.file_conversion.specs.Tasks.{accepts, breaks_by, cause_in}
 use Rattle.file_conversion.specs.declared.table.Task.TheVariants.{Copied}
-use Rattle.bridge_engine.specs.declared.done.Done.{Done}
+use Rattle.file_conversion.specs.declared.done.Done.{Done}
 
 -- ---- a run that reads its input
 
@@ -40,11 +40,7 @@ turned : {C D : Type 0} (f : Option C → Option D) (counts : List ℕ → Optio
 turned f counts done None all = tt
 turned f counts done (Some bytes) is = ap f (sym is)
 
-pub counts_by : {C S T U : Type 0} (m : Meaning C) (b a : World S T U) (done : C) → m.reads ≡ true
-    → Ended m b a (Ok done) → IfSome b.left (λ bytes. Some done ≡ m.counts bytes)
-counts_by m b a done reads ended = turned (λ counts. counts) m.counts done b.left (counted m b a (Ok done) reads ended)
-
--- the same of what a function reads of the counts
+-- and what a function reads of them
 pub counts_read : {C D S T U : Type 0} (f : C → D) (m : Meaning C) (b a : World S T U) (done : C) → m.reads ≡ true
     → Ended m b a (Ok done) → IfSome b.left (λ bytes. Some (f done) ≡ option_map f (m.counts bytes))
 counts_read f m b a done reads ended = turned (option_map f) m.counts done b.left (counted m b a (Ok done) reads ended)

@@ -11,3 +11,4 @@ pub mod Long
 pub mod KindTexts
 pub mod Says
 pub mod Causes
+pub mod Counted

@@ -1,6 +1,6 @@
 -- The format under which a file is read, and what is made and counted of it.
 use Rattle.std.specs.Prelude.{◌≡◌, ◌<◌, ◌^◌, ℕ, List, length, Option, None, Some, IfSome}
-use Rattle.bridge_engine.specs.declared.done.Done.{Done}
+use Rattle.file_conversion.specs.declared.done.Done.{Done}
 use Rattle.whole_file.specs.Kinds.{form_of, kind_of}
 use Rattle.whole_file.specs.declared.kinds.Kind.{Kind}
 use Rattle.whole_file.specs.Files.{Publishes, Puts}

@@ -1,6 +1,6 @@
 -- How a conversion begins and ends.
 use Rattle.std.specs.Prelude.{◌≡◌, ◌⊎◌, ◌≤◌, ℕ, List, Option, None, Some, Result, Ok, Err, IfErr, IfSome, IsSome, OnOk}
-use Rattle.bridge_engine.specs.declared.done.Done.{Done}
+use Rattle.file_conversion.specs.declared.done.Done.{Done}
 use Rattle.one_run.specs.declared.fault.BridgeFault.{BridgeFault}
 use Rattle.one_run.specs.declared.fault.BridgeFault.TheVariants.{NoMemory}
 use Rattle.whole_file.specs.declared.kinds.Kind.{Kind}

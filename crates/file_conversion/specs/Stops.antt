@@ -1,7 +1,7 @@
 -- How a conversion ended, by how its step did, and why a file is not converted.
 use Rattle.std.specs.Prelude.{ℕ, Option, None, Result, Ok, Err}
 use Rattle.std.specs.Result.{result_err}
-use Rattle.bridge_engine.specs.declared.done.Done.{Done}
+use Rattle.file_conversion.specs.declared.done.Done.{Done}
 use Rattle.one_run.specs.declared.fault.BridgeFault.{BridgeFault}
 use Rattle.whole_file.specs.declared.kinds.Kind.{Kind}
 use Rattle.whole_file.specs.declared.step.Named.{Named}

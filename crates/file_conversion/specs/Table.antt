@@ -1,23 +1,23 @@
 -- The conversions of files: what is done with a file of a format, for each target.
-use Rattle.std.specs.Prelude.{ℕ, Option, None, Some, option_map, unwrap_or}
+use Rattle.std.specs.Prelude.{ℕ, Option, None, Some, option_map, unwrap_or, if◌then◌else◌}
 use Rattle.rinex_write.specs.declared.words.HeaderWords.{HeaderWords}
 use Rattle.captures.specs.declared.target.CaptureTo.{CaptureTo}
 use Rattle.captures.specs.declared.target.CaptureTo.TheVariants as captures
 use Rattle.outlets.specs.declared.target.Target.{Target as Outlet}
 use Rattle.outlets.specs.declared.target.Target.TheVariants as outlets
-use Rattle.nav_files.specs.declared.target.RinexTo.{RinexTo}
 use Rattle.nav_files.specs.declared.target.RinexTo.TheVariants as files
 use Rattle.bridge_engine.specs.declared.job.Job.TheVariants as jobs
+use Rattle.system_files.specs.declared.version.Version.{Version}
+use Rattle.system_files.specs.declared.version.Version.TheVariants.{Four, Three}
 use Rattle.whole_file.specs.declared.kinds.Kind.{Kind}
 use Rattle.whole_file.specs.declared.kinds.Kind.TheVariants as kinds
 use Rattle.file_conversion.specs.declared.table.Plan.{Plan}
 use Rattle.file_conversion.specs.declared.table.Task.{Task}
-use Rattle.file_conversion.specs.declared.table.Task.TheVariants.{Copied, Does, Systems}
+use Rattle.file_conversion.specs.declared.table.Task.TheVariants.{Copied, Does, Systems, SystemFile}
 use Rattle.file_conversion.specs.declared.targets.Target.{Target}
 use Rattle.file_conversion.specs.declared.targets.Target.TheVariants.{Rinex, Rinex3, Rtcm, List as ToList, Count, Frames, Merged, Cover, Capture}
 
--- the targets of a capture, of the ephemerides of all systems in a stream, and of a navigation file,
--- with this header if they have one
+-- the targets of a capture, and of the ephemerides of all systems, with this header if they have one
 abbrev pub capture_to : Target → HeaderWords → Option CaptureTo
 capture_to Rinex header = Some (captures.Rinex header)
 capture_to Rinex3 header = Some (captures.Rinex3 header)
@@ -26,20 +26,13 @@ capture_to ToList header = Some captures.ToList
 capture_to Count header = Some captures.Count
 capture_to _ header = None
 
-abbrev pub stream_to : Target → HeaderWords → Option Outlet
-stream_to Rinex header = Some (outlets.Rinex header)
-stream_to Rinex3 header = Some (outlets.Rinex3 header)
-stream_to Rtcm header = Some outlets.Rtcm
-stream_to ToList header = Some outlets.ToList
-stream_to Count header = Some outlets.Count
-stream_to _ header = None
-
-abbrev pub file_to : Target → HeaderWords → Option RinexTo
-file_to Rinex header = Some (files.Rinex header)
-file_to Rinex3 header = Some (files.Rinex3 header)
-file_to Rtcm header = Some files.Rtcm
-file_to ToList header = Some files.ToList
-file_to _ header = None
+abbrev pub systems_to : Target → HeaderWords → Option Outlet
+systems_to Rinex header = Some (outlets.Rinex header)
+systems_to Rinex3 header = Some (outlets.Rinex3 header)
+systems_to Rtcm header = Some outlets.Rtcm
+systems_to ToList header = Some outlets.ToList
+systems_to Count header = Some outlets.Count
+systems_to _ header = None
 
 -- the week that is named, or else that of the clock
 abbrev pub week_of : Plan → ℕ
@@ -58,19 +51,25 @@ log_task plan _ = capture_task plan plan.week
 abbrev pub stream_task : Plan → Target → Option Task
 stream_task plan Frames = Some (Does jobs.StreamToFrames)
 stream_task plan target =
-    option_map (λ to. Systems (record { kinds = plan.kinds; week = week_of plan; to = to })) (stream_to target plan.header)
+    option_map (λ to. Systems (record { kinds = plan.kinds; week = week_of plan; to = to })) (systems_to target plan.header)
 
--- a navigation file of RINEX 4
+-- a navigation file of this version: its ephemerides of all systems
+abbrev pub system_task : Plan → Version → Target → Option Task
+system_task plan version target =
+    option_map (λ to. SystemFile (record { kinds = plan.kinds; version = version; to = to })) (systems_to target plan.header)
+
+-- one of RINEX 4
 abbrev pub file4_task : Plan → Target → Option Task
 file4_task plan Merged = Some (Does (jobs.Merge plan.header))
 file4_task plan Cover = Some (Does jobs.Cover)
 file4_task plan Capture = Some (Does (jobs.SendRinex (week_of plan)))
-file4_task plan target = option_map (λ to. Does (jobs.Rinex to)) (file_to target plan.header)
+file4_task plan target = system_task plan Four target
 
--- and one of RINEX 3
+-- and one of RINEX 3, of which GPS LNAV and Galileo I/NAV alone are merged
 abbrev pub file3_task : Plan → Target → Option Task
 file3_task plan Capture = Some (Does (jobs.SendRinex3 (week_of plan)))
-file3_task plan target = option_map (λ to. Does (jobs.Rinex3 to)) (file_to target plan.header)
+file3_task plan Rinex = if plan.merges then Some (Does (jobs.Rinex3 (files.Rinex plan.header))) else system_task plan Three Rinex
+file3_task plan target = system_task plan Three target
 
 -- What is done with a file that is read under a format, if there is a conversion of it. A capture
 -- that names no week always gets one, and a capture that names its week gets one only if one is

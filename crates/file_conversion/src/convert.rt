@@ -15,10 +15,10 @@ ghost use Rattle.file_conversion.specs.Steps.{IsLack, IsMissing, IsNotOpened, Is
 ghost use Rattle.file_conversion.specs.Steps.{TellsForm};
 
 use crate::begun::{Begun, begin};
+use crate::done::Done;
 use crate::ends::{Observers, Outcome, Sourced, ended};
 use crate::stops::Stop;
 use crate::table::Plan;
-use bridge_engine::Done;
 use nav_io::{Sink, Source};
 use receiver_log::Refused;
 use std::alloc::Global;

@@ -7,7 +7,8 @@ ghost use Rattle.whole_file.specs.Steps.{EndsFor, error_counts};
 ghost use Rattle.file_conversion.specs.Tasks.{accepts, breaks_by, cause_in};
 ghost use Rattle.file_conversion.specs.declared.table.Task.TheVariants.{Copied};
 
-use bridge_engine::{BridgeFault, Done};
+use crate::done::Done;
+use bridge_engine::BridgeFault;
 use nav_io::{Failed, MOST_TAKEN, Sink, Source, read_piece};
 
 /// Writes what a source gives, and counts nothing.

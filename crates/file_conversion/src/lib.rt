@@ -14,8 +14,8 @@
 //!   navigation file by the convention of RINEX 3 and 4 (RINEX 4.02, 5.2).
 //!
 //! A log of a receiver is converted as its capture, and to a capture it is that capture
-//! itself. Of a stream the ephemerides of all systems are converted; every other file as `navbridge`
-//! converts it.
+//! itself. Of a stream and of a navigation file the ephemerides of all systems are converted; every
+//! other file, and those that are merged, as `navbridge` converts them.
 //!
 //! ```rust
 //! let mut folder = HostFolder::new(rt.alloc(), &rt);
@@ -30,6 +30,7 @@ mod begun;
 mod convert;
 mod copies;
 mod digits;
+mod done;
 mod ends;
 mod form;
 mod long;
@@ -47,6 +48,7 @@ mod telling;
 
 pub use crate::convert::{convert_one, convert_source};
 pub use crate::copies::copy;
+pub use crate::done::Done;
 pub use crate::ends::{Observers, Outcome, Sourced};
 pub use crate::form::fits;
 pub use crate::long::{is_site, long_name};
@@ -55,7 +57,7 @@ pub use crate::refusals::refusal_of;
 pub use crate::says::{Refusal, STANDARD_OUTPUT, kind_text};
 pub use crate::shown::Shown;
 pub use crate::stops::{Made, Stop};
-pub use crate::table::{Plan, SystemsJob, Task, is_converted, task_for};
+pub use crate::table::{Plan, SystemFileJob, SystemsJob, Task, is_converted, task_for};
 pub use crate::targets::{Target, ending_of, kind_named, target_named, to_word};
 pub use crate::telling::{Teller, finish};
 pub use system_streams::Kinds;

@@ -153,7 +153,8 @@ pub fn kind_text(kind: Kind) -> &'static str
 fn advice_of(kind: Kind) -> &'static str {
     match kind {
         Kind::Rinex2 => "only versions 3 and 4 are read",
-        Kind::Observations | Kind::Hatanaka | Kind::OtherRinex => "it has no orbits to convert",
+        Kind::OtherRinex => "only those are read",
+        Kind::Observations | Kind::Hatanaka => "it has no orbits to convert",
         Kind::Nmea => "if it has UBX messages or SBF blocks too, name the format with --from",
         Kind::Gzip | Kind::Compress => "unpack it: gzip -dc FILE | navconvert -o OUT -",
         Kind::Zip => "unpack it: unzip -p FILE | navconvert -o OUT -",

@@ -3,7 +3,8 @@
 ghost use Rattle.std.specs.Prelude.{◌≡◌};
 ghost use Rattle.file_conversion.specs.Stops.{stopped_by};
 
-use bridge_engine::{BridgeFault, Done};
+use crate::done::Done;
+use bridge_engine::BridgeFault;
 use whole_file::{FileFault, Kind, Named, StepFault};
 
 /// An output, and what the conversion for it has counted, if one was done.

@@ -1,15 +1,16 @@
 //! The table of conversions: what is done with a file of a format, for each target.
 
 ghost use Rattle.std.specs.Prelude.{◌≡◌, IfSome, true};
-ghost use Rattle.file_conversion.specs.Table.{capture_task, capture_to, file_to, file3_task};
-ghost use Rattle.file_conversion.specs.Table.{file4_task, stream_task, stream_to, task_for};
-ghost use Rattle.file_conversion.specs.Table.{log_task, week_of};
+ghost use Rattle.file_conversion.specs.Table.{capture_task, capture_to, file3_task, file4_task};
+ghost use Rattle.file_conversion.specs.Table.{log_task, stream_task, system_task, systems_to};
+ghost use Rattle.file_conversion.specs.Table.{task_for, week_of};
 ghost use Rattle.file_conversion.specs.Tasks.{reads_input};
 
 use crate::targets::Target;
 use bridge_engine::{CaptureJob, CaptureTo, Job, RinexTo};
 use gnss_week::RefWeek;
 use rinex_write::HeaderWords;
+use system_files::Version;
 use system_streams::Kinds;
 use whole_file::Kind;
 
@@ -26,8 +27,10 @@ pub struct Plan {
     pub clock_week: RefWeek,
     /// The date and the leap seconds of a header.
     pub header: HeaderWords,
-    /// The kinds of ephemerides that are read of a stream.
+    /// The kinds of ephemerides that are read of a stream or a navigation file.
     pub kinds: Kinds,
+    /// Whether what is made of a file of RINEX 3 is merged: it has GPS LNAV and Galileo I/NAV alone.
+    pub merges: bool,
 }
 
 /// A conversion of the ephemerides of all systems in a stream.
@@ -41,6 +44,17 @@ pub struct SystemsJob {
     pub to: outlets::Target,
 }
 
+/// A conversion of the ephemerides of all systems in a navigation file.
+#[derive(Clone, Copy)]
+pub struct SystemFileJob {
+    /// The kinds of ephemerides.
+    pub kinds: Kinds,
+    /// The version of the file.
+    pub version: Version,
+    /// What is made of them.
+    pub to: outlets::Target,
+}
+
 /// What is done with a file.
 #[derive(Clone, Copy)]
 pub enum Task {
@@ -50,6 +64,8 @@ pub enum Task {
     Does(Job),
     /// The ephemerides of all systems in a stream are converted.
     Systems(SystemsJob),
+    /// Those in a navigation file are.
+    SystemFile(SystemFileJob),
 }
 
 /// What is done with a file that is read under this format, if there is a conversion of it.
@@ -98,6 +114,7 @@ pub fn is_converted(kind: Kind, target: Target) -> bool {
                     leap: 0,
                 },
                 kinds: Kinds::all(),
+                merges: false,
             };
             task_for(&plan, kind).is_some()
         }
@@ -140,7 +157,7 @@ fn stream_task(plan: &Plan) -> Option<Task>
 {
     match plan.target {
         Target::Frames => Some(Task::Does(Job::StreamToFrames)),
-        target => match stream_to(target, plan.header) {
+        target => match systems_to(target, plan.header) {
             None => None,
             Some(to) => Some(Task::Systems(SystemsJob {
                 kinds: plan.kinds,
@@ -159,10 +176,7 @@ fn file4_task(plan: &Plan) -> Option<Task>
         Target::Merged => Some(Task::Does(Job::Merge(plan.header))),
         Target::Cover => Some(Task::Does(Job::Cover)),
         Target::Capture => Some(Task::Does(Job::SendRinex(week_of(plan)))),
-        target => match file_to(target, plan.header) {
-            None => None,
-            Some(to) => Some(Task::Does(Job::Rinex(to))),
-        },
+        _ => system_task(plan, Version::Four),
     }
 }
 
@@ -172,10 +186,22 @@ fn file3_task(plan: &Plan) -> Option<Task>
 {
     match plan.target {
         Target::Capture => Some(Task::Does(Job::SendRinex3(week_of(plan)))),
-        target => match file_to(target, plan.header) {
-            None => None,
-            Some(to) => Some(Task::Does(Job::Rinex3(to))),
-        },
+        Target::Rinex if plan.merges => Some(Task::Does(Job::Rinex3(RinexTo::Rinex(plan.header)))),
+        _ => system_task(plan, Version::Three),
+    }
+}
+
+// What is done with a navigation file of a version whose ephemerides of all systems are converted.
+fn system_task(plan: &Plan, version: Version) -> Option<Task>
+    ensures { result ≡ system_task plan.now version plan.now.target }
+{
+    match systems_to(plan.target, plan.header) {
+        None => None,
+        Some(to) => Some(Task::SystemFile(SystemFileJob {
+            kinds: plan.kinds,
+            version,
+            to,
+        })),
     }
 }
 
@@ -193,9 +219,9 @@ fn capture_to(target: Target, header: HeaderWords) -> Option<CaptureTo>
     }
 }
 
-// The target of the ephemerides of a stream.
-fn stream_to(target: Target, header: HeaderWords) -> Option<outlets::Target>
-    ensures { result ≡ stream_to target header }
+// The target of ephemerides of all systems.
+fn systems_to(target: Target, header: HeaderWords) -> Option<outlets::Target>
+    ensures { result ≡ systems_to target header }
 {
     match target {
         Target::Rinex => Some(outlets::Target::Rinex(header)),
@@ -203,19 +229,6 @@ fn stream_to(target: Target, header: HeaderWords) -> Option<outlets::Target>
         Target::Rtcm => Some(outlets::Target::Rtcm),
         Target::List => Some(outlets::Target::ToList),
         Target::Count => Some(outlets::Target::Count),
-        _ => None,
-    }
-}
-
-// The target of a navigation file.
-fn file_to(target: Target, header: HeaderWords) -> Option<RinexTo>
-    ensures { result ≡ file_to target header }
-{
-    match target {
-        Target::Rinex => Some(RinexTo::Rinex(header)),
-        Target::Rinex3 => Some(RinexTo::Rinex3(header)),
-        Target::Rtcm => Some(RinexTo::Rtcm),
-        Target::List => Some(RinexTo::ToList),
         _ => None,
     }
 }

@@ -1,18 +1,22 @@
 //! The run of a task.
 
 ghost use Rattle.std.specs.Prelude.{◌≡◌, ◌<◌, ◌^◌, IfErr, IfOk, IfSome, IsSome, OnOk, Some};
-ghost use Rattle.std.specs.Prelude.{length, true};
+ghost use Rattle.std.specs.Prelude.{length, option_map, true};
 ghost use Rattle.std.specs.Io.KnownBytes.{Appends};
 ghost use Rattle.nav_io.specs.Causes.{Rose};
 ghost use Rattle.whole_file.specs.Steps.{EndsFor, error_counts};
 ghost use Rattle.bridge_engine.specs.Meanings.{done_of, meaning_of};
-ghost use Rattle.file_conversion.specs.Tasks.{breaks_by, cause_in, reads_input, systems_of};
+ghost use Rattle.file_conversion.specs.Tasks.{breaks_by, cause_in, reads_input};
+ghost use Rattle.file_conversion.specs.Tasks.{system_file_of, systems_of};
+ghost use Rattle.file_conversion.specs.declared.done.Done.TheVariants as dones;
 
 use crate::copies::copy;
-use crate::table::{SystemsJob, Task};
-use bridge_engine::{BridgeFault, Done, Job, run_job};
+use crate::done::Done;
+use crate::table::{SystemFileJob, SystemsJob, Task};
+use bridge_engine::{BridgeFault, Job, run_job};
 use nav_io::{Sink, Source};
 use std::alloc::Global;
+use system_files::run_system_file;
 use system_streams::run_systems;
 use whole_file::Conversion;
 
@@ -57,6 +61,7 @@ impl<U: Sink> Conversion for TaskRun<U> {
         match &self.task {
             Task::Does(job) => do_job(self.alloc, job, input, output, &mut self.report),
             Task::Systems(job) => do_systems(self.alloc, job, input, output, &mut self.report),
+            Task::SystemFile(job) => do_system_file(job, input, output, &mut self.report),
             Task::Copied => copy(input, output),
         }
     }
@@ -75,7 +80,7 @@ fn do_job<S: Source, T: Sink, U: Sink>(
         Appends (T.written output.old) (T.written output.new)
         ((meaning_of job.now).whole.output bytes))) }
     ensures counts { IfOk result (λ done. IfSome (S.left input.old) (λ bytes.
-        done ≡ (done_of job.now).counts bytes)) }
+        done ≡ option_map dones.Job ((done_of job.now).counts bytes))) }
     ensures complete { IfSome (S.left input.old) (λ bytes.
         IsSome ((done_of job.now).counts bytes) × (length bytes < 2 ^ 32)
         → ¬ Rose (S.faults input.old) (S.faults input.new)
@@ -91,7 +96,7 @@ fn do_job<S: Source, T: Sink, U: Sink>(
         breaks_by (IsSome ((done_of job.now).counts bytes)) bytes fault)) }
 {
     match run_job(alloc, job, input, output, report) {
-        Ok(done) => Ok(Some(done)),
+        Ok(done) => Ok(Some(Done::Job(done))),
         Err(fault) => Err(fault),
     }
 }
@@ -125,6 +130,38 @@ fn do_systems<S: Source, T: Sink, U: Sink>(
 {
     match run_systems(alloc, &job.kinds, job.week, &job.to, input, output, report) {
         Ok(counts) => Ok(Some(Done::Stream(counts))),
+        Err(fault) => Err(fault),
+    }
+}
+
+// Converts those in a navigation file.
+fn do_system_file<S: Source, T: Sink, U: Sink>(
+    job: &SystemFileJob,
+    input: &mut S,
+    output: &mut T,
+    report: &mut U,
+) -> Result<Option<Done>, BridgeFault>
+    ensures text { OnOk result (IfSome (S.left input.old) (λ bytes.
+        Appends (T.written output.old) (T.written output.new)
+        ((system_file_of job.now).whole.output bytes))) }
+    ensures counts { IfOk result (λ done. IfSome (S.left input.old) (λ bytes.
+        done ≡ option_map dones.File ((system_file_of job.now).counts bytes))) }
+    ensures complete { IfSome (S.left input.old) (λ bytes.
+        IsSome ((system_file_of job.now).counts bytes) × (length bytes < 2 ^ 32)
+        → ¬ Rose (S.faults input.old) (S.faults input.new)
+        → ¬ Rose (T.faults output.old) (T.faults output.new)
+        → ¬ Rose (U.faults report.old) (U.faults report.new)
+        → IfErr result (λ fault. fault ≡ BridgeFault.NoMemory)) }
+    ensures accepts { OnOk result (IfSome (S.left input.old) (λ bytes.
+        IsSome ((system_file_of job.now).counts bytes) × (length bytes < 2 ^ 32))) }
+    ensures causes { EndsFor cause_in
+        (error_counts (S.faults input.old) (T.faults output.old) (U.faults report.old))
+        (error_counts (S.faults input.new) (T.faults output.new) (U.faults report.new)) result }
+    ensures breaks { IfErr result (λ fault. IfSome (S.left input.old) (λ bytes.
+        breaks_by (IsSome ((system_file_of job.now).counts bytes)) bytes fault)) }
+{
+    match run_system_file(&job.kinds, job.version, &job.to, input, output, report) {
+        Ok(counts) => Ok(Some(Done::File(counts))),
         Err(fault) => Err(fault),
     }
 }

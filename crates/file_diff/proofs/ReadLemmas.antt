@@ -18,23 +18,23 @@ use Rattle.rinex_read.specs.declared.judged.HeaderFault.{HeaderFault}
 use Rattle.rinex_read.specs.declared.judged.HeaderState.{HeaderState}
 use Rattle.rinex_read.specs.declared.judged.HeaderState.TheVariants.{NotRinexNav, OtherVersion, Passed}
 use Rattle.rinex_read.specs.declared.judged.ItemRead.{ItemRead}
-use Rattle.rinex_read.specs.declared.judged.ItemRead.TheVariants.{Item, Refused, PassedOver, End}
+use Rattle.rinex_read.specs.declared.judged.ItemRead.TheVariants.{Item, Refused, PassedOver}
 use Rattle.nav_io.specs.declared.lines.LineFault.{LineFault}
 use Rattle.nav_io.specs.declared.lines.LineFault.TheVariants as lines
 use Rattle.one_run.specs.Causes.{fault_by}
 use Rattle.one_run.specs.declared.fault.BridgeFault.{BridgeFault}
 use Rattle.one_run.specs.declared.fault.BridgeFault.TheVariants.{ReadFault, NotThisForm, TooLong, NoMemory}
-use Rattle.file_diff.specs.Mirrors.{AtEnd, BreaksAfter, HeaderFaultOf, IsRecord, NoHeader, ReadsAll, ReadsSome, counted, item_in, sum_of, with_items}
+use Rattle.file_diff.specs.Mirrors.{AtEnd, BreaksAfter, HeaderFaultOf, NoHeader, ReadsAll, ReadsSome, counted, item_in, sum_of, with_items}
 use Rattle.file_diff.specs.Numbers.{by_numbers}
 use Rattle.file_diff.specs.Reading.{IsFile, IsTooLong, compared, counts_of, has_ionosphere, is_ephemeris, is_passed, is_refused}
 use Rattle.file_diff.specs.declared.counts.ReadCounts.{ReadCounts}
 
 -- before the header the file is still to come whole
-abbrev pub Begins : Form → Type 0
+abbrev pub Begins : Form ItemRead → Type 0
 Begins f = (s : RecordsState) (bytes : List ℕ) → IsNew s → file_to_come f s bytes ≡ file_reads f bytes
 
 -- steps of a reader, one after another
-abbrev pub Follow : Form → Type 0
+abbrev pub Follow : Form ItemRead → Type 0
 Follow f = (left middle left_new : Option (List ℕ)) (old now new : RecordsState) (some more : List ItemRead)
     → Steps f left middle old now some → Steps f middle left_new now new more → Steps f left left_new old new (some ++ more)
 
@@ -44,15 +44,15 @@ no_end : (s : RecordsState) → s.lines.ended ≡ false → s.lines.ended ≡ tr
 no_end s more ended = cc
 
 -- after the header its records are to come
-passed_file : (f : Form) (s : RecordsState) (bytes : List ℕ) → s.header ≡ Passed → file_to_come f s bytes ≡ Ok (records_to_come f s bytes)
+passed_file : (f : Form ItemRead) (s : RecordsState) (bytes : List ℕ) → s.header ≡ Passed → file_to_come f s bytes ≡ Ok (records_to_come f s bytes)
 passed_file f s bytes passed = rw passed refl
 
 -- the end of a file: nothing more is to come
-none_left : (f : Form) (s : RecordsState) → s.kept ≡ [] → s.lines.rest ≡ [] → records_to_come f s [] ≡ []
+none_left : (f : Form ItemRead) (s : RecordsState) → s.kept ≡ [] → s.lines.rest ≡ [] → records_to_come f s [] ≡ []
 none_left f s kept rest = rw (kept, rest) refl
 
 -- the bytes of a file that was read to its end
-file_whole : (f : Form) (left l1 l2 : Option (List ℕ)) (s0 s1 s2 : RecordsState) (given : List ItemRead)
+file_whole : (f : Form ItemRead) (left l1 l2 : Option (List ℕ)) (s0 s1 s2 : RecordsState) (given : List ItemRead)
     → Begins f → IsNew s0 → (header : PassesHeader f left l1 s0 s1) → (steps : Steps f l1 l2 s1 s2 given) → AtEnd s2
     → file_reads f (header.steps.reads.taken ++ steps.reads.taken) ≡ Ok given
 file_whole f left l1 l2 s0 s1 s2 given begins new header steps end =
@@ -67,7 +67,7 @@ file_whole f left l1 l2 s0 s1 s2 given begins new header steps end =
     ∙ ap (λ (l : List ItemRead). Ok l) (append-nil given)
 
 -- at the end of the lines the input is at its end
-ends_there : (f : Form) (left l1 l2 : Option (List ℕ)) (s0 s1 s2 : RecordsState) (given : List ItemRead)
+ends_there : (f : Form ItemRead) (left l1 l2 : Option (List ℕ)) (s0 s1 s2 : RecordsState) (given : List ItemRead)
     → IsNew s0 → (header : PassesHeader f left l1 s0 s1) → (steps : Steps f l1 l2 s1 s2 given) → s2.lines.ended ≡ true → IsAtEnd l2
 ends_there f left l1 l2 s0 s1 s2 given new header steps ended = ends_from (steps.reads.at_end ended) where
   first : (s0.lines.ended ≡ true) ⊎ IsAtEnd l1 → IsAtEnd l1
@@ -79,7 +79,7 @@ ends_there f left l1 l2 s0 s1 s2 given new header steps ended = ends_from (steps
   ends_from (inl early) = subst IsAtEnd (sym (steps.reads.after_end early).2) (first (header.steps.reads.at_end early))
 
 -- a file that was read
-pub file_read : (f : Form) (all : Bool) (left l1 l2 : Option (List ℕ)) (s0 s1 s2 : RecordsState) (items items_new : List NavItem) (counts : ReadCounts)
+pub file_read : (f : Form ItemRead) (all : Bool) (left l1 l2 : Option (List ℕ)) (s0 s1 s2 : RecordsState) (items items_new : List NavItem) (counts : ReadCounts)
     → Begins f → IsNew s0 → PassesHeader f left l1 s0 s1 → ReadsAll f all l1 l2 s1 s2 items items_new counts → items ≡ []
     → IsFile f all left l2 items_new counts
 file_read f all left l1 l2 s0 s1 s2 items items_new counts begins new header read empty =
@@ -97,24 +97,13 @@ file_read f all left l1 l2 s0 s1 s2 items items_new counts begins new header rea
 
 -- ---- records after records
 
-pub gives_record : (f : Form) (read : ItemRead) (left left_new : Option (List ℕ)) (old new : RecordsState)
-    → IsRecord read → GivesRead f read left left_new old new → GivesRecord f left left_new old new read
-gives_record f (Item line item) left left_new old new is gives = gives
-gives_record f (Refused line reason) left left_new old new is gives = gives
-gives_record f (PassedOver line) left left_new old new is gives = gives
-gives_record f End left left_new old new is gives = absurd is
-
 -- a record that was given
-pub some_read : (f : Form) (o : Option ItemRead) (read : ItemRead) (left left_new : Option (List ℕ)) (old new : RecordsState)
-    → o ≡ Some read → IfSome o (λ r. IsRecord r × GivesRead f r left left_new old new) → GivesRecord f left left_new old new read
-some_read f o read left left_new old new is gives =
-    let both = subst (λ (x : Option ItemRead). IfSome x (λ r. IsRecord r × GivesRead f r left left_new old new)) is gives in
-    gives_record f read left left_new old new both.0 both.1
+pub some_read : (f : Form ItemRead) (o : Option ItemRead) (read : ItemRead) (left left_new : Option (List ℕ)) (old new : RecordsState) → o ≡ Some read → GivesRead f o left left_new old new → GivesRecord f left left_new old new read
+some_read f o read left left_new old new is gives = subst (λ (x : Option ItemRead). GivesRead f x left left_new old new) is gives
 
 -- no record was left
-pub none_read : (f : Form) (o : Option ItemRead) (left left_new : Option (List ℕ)) (old new : RecordsState)
-    → o ≡ None → IfNone o (GivesNone f left left_new old new) → GivesNone f left left_new old new
-none_read f o left left_new old new is none = subst (λ (x : Option ItemRead). IfNone x (GivesNone f left left_new old new)) is none
+pub none_read : (f : Form ItemRead) (o : Option ItemRead) (left left_new : Option (List ℕ)) (old new : RecordsState) → o ≡ None → GivesRead f o left left_new old new → GivesNone f left left_new old new
+none_read f o left left_new old new is gives = subst (λ (x : Option ItemRead). GivesRead f x left left_new old new) is gives
 
 held_few : (kept : List (List ℕ)) → held_count kept ≤ 1
 held_few [] = omega arith
@@ -125,11 +114,9 @@ items_more : (reads : List ItemRead) (read : ItemRead) → items_of (reads ++ re
 items_more [] (Item line item) = refl
 items_more [] (Refused line reason) = refl
 items_more [] (PassedOver line) = refl
-items_more [] End = refl
 items_more (Item line item ∷ rs) read = ap (λ (l : List NavItem). item ∷ l) (items_more rs read)
 items_more (Refused line reason ∷ rs) read = items_more rs read
 items_more (PassedOver line ∷ rs) read = items_more rs read
-items_more (End ∷ rs) read = items_more rs read
 
 -- the set with the item of a record more
 set_more : (all : Bool) (items : List NavItem) (reads : List ItemRead) (read : ItemRead)
@@ -161,7 +148,6 @@ one_kind (Item line (kinds.Gal e)) = omega arith
 one_kind (Item line (kinds.Ion e)) = omega arith
 one_kind (Refused line reason) = omega arith
 one_kind (PassedOver line) = omega arith
-one_kind End = omega arith
 
 by_first : (kind : ItemRead → ℕ) (r : ItemRead) (rs : List ItemRead) → sum_by kind (r ∷ rs) ≡ (0 + kind r) + sum_by kind rs
 by_first kind r rs = sum_by-append kind (r ∷ []) rs
@@ -174,7 +160,7 @@ few_counted : (given : List ItemRead) → sum_of (counts_of given) ≤ length gi
 few_counted given = omega (arith, few_by given, sum-map is_refused given, sum-map is_passed given, sum-map has_ionosphere given)
 
 -- no record was read
-pub some_start : (f : Form) (all : Bool) (left : Option (List ℕ)) (s : RecordsState) (items : List NavItem) (counts : ReadCounts)
+pub some_start : (f : Form ItemRead) (all : Bool) (left : Option (List ℕ)) (s : RecordsState) (items : List NavItem) (counts : ReadCounts)
     → Steps f left left s s [] → counts ≡ counts_of [] → ReadsSome f all left left s s items items counts
 some_start f all left s items counts none start = record {
   given = [];
@@ -185,7 +171,7 @@ some_start f all left s items counts none start = record {
 }
 
 -- a record more was read
-pub some_more : (f : Form) (all : Bool) (left l1 l2 : Option (List ℕ)) (s0 s1 s2 : RecordsState) (items items1 items2 : List NavItem) (counts counts1 : ReadCounts) (read : ItemRead)
+pub some_more : (f : Form ItemRead) (all : Bool) (left l1 l2 : Option (List ℕ)) (s0 s1 s2 : RecordsState) (items items1 items2 : List NavItem) (counts counts1 : ReadCounts) (read : ItemRead)
     → Follow f → ReadsSome f all left l1 s0 s1 items items1 counts → GivesRecord f l1 l2 s1 s2 read
     → items2 ≡ with_items items1 (compared all (item_in read)) → counts1 ≡ counted counts read
     → ReadsSome f all left l2 s0 s2 items items2 counts1
@@ -198,12 +184,12 @@ some_more f all left l1 l2 s0 s1 s2 items items1 items2 counts counts1 read foll
 }
 
 -- there is room for one
-pub room_for : (f : Form) (all : Bool) (left l1 : Option (List ℕ)) (s0 s1 : RecordsState) (items items1 : List NavItem) (counts : ReadCounts)
+pub room_for : (f : Form ItemRead) (all : Bool) (left l1 : Option (List ℕ)) (s0 s1 : RecordsState) (items items1 : List NavItem) (counts : ReadCounts)
     → ReadsSome f all left l1 s0 s1 items items1 counts → sum_of counts + 1 < 2 ^ 64
 room_for f all left l1 s0 s1 items items1 counts far = omega (arith, far.few, held_few s0.kept, few_counted far.given, ap sum_of far.counted)
 
 -- all were read
-pub all_read : (f : Form) (all : Bool) (left l1 l2 : Option (List ℕ)) (s0 s1 s2 : RecordsState) (items items1 : List NavItem) (counts : ReadCounts)
+pub all_read : (f : Form ItemRead) (all : Bool) (left l1 l2 : Option (List ℕ)) (s0 s1 s2 : RecordsState) (items items1 : List NavItem) (counts : ReadCounts)
     → Follow f → ReadsSome f all left l1 s0 s1 items items1 counts → GivesNone f l1 l2 s1 s2 → ReadsAll f all left l2 s0 s2 items items1 counts
 all_read f all left l1 l2 s0 s1 s2 items items1 counts follow far none = record {
   given = far.given;
@@ -216,7 +202,7 @@ all_read f all left l1 l2 s0 s1 s2 items items1 counts follow far none = record 
 -- ---- the reader breaks off
 
 -- after records that were read
-pub breaks_later : (f : Form) (all : Bool) (left l1 l2 : Option (List ℕ)) (s0 s1 s2 : RecordsState) (items items1 : List NavItem) (counts : ReadCounts) (fault : BridgeFault)
+pub breaks_later : (f : Form ItemRead) (all : Bool) (left l1 l2 : Option (List ℕ)) (s0 s1 s2 : RecordsState) (items items1 : List NavItem) (counts : ReadCounts) (fault : BridgeFault)
     → Follow f → ReadsSome f all left l1 s0 s1 items items1 counts → BreaksAfter f l1 l2 s1 s2 fault → BreaksAfter f left l2 s0 s2 fault
 breaks_later f all left l1 l2 s0 s1 s2 items items1 counts fault follow far b = record {
   given = far.given ++ b.given;
@@ -226,7 +212,7 @@ breaks_later f all left l1 l2 s0 s1 s2 items items1 counts fault follow far b = 
 }
 
 -- where there was no memory for an item
-pub breaks_taking : (f : Form) (all : Bool) (left l1 l2 : Option (List ℕ)) (s0 s1 s2 : RecordsState) (items items1 : List NavItem) (counts : ReadCounts) (read : ItemRead) (fault : BridgeFault)
+pub breaks_taking : (f : Form ItemRead) (all : Bool) (left l1 l2 : Option (List ℕ)) (s0 s1 s2 : RecordsState) (items items1 : List NavItem) (counts : ReadCounts) (read : ItemRead) (fault : BridgeFault)
     → Follow f → ReadsSome f all left l1 s0 s1 items items1 counts → GivesRecord f l1 l2 s1 s2 read → fault ≡ NoMemory → BreaksAfter f left l2 s0 s2 fault
 breaks_taking f all left l1 l2 s0 s1 s2 items items1 counts read fault follow far gives kind = record {
   given = far.given ++ read ∷ [];
@@ -235,7 +221,7 @@ breaks_taking f all left l1 l2 s0 s1 s2 items items1 counts read fault follow fa
   form = λ is. let none : NoMemory ≡ NotThisForm = sym kind ∙ is in cc;
 }
 
-pub long_records : (f : Form) (left l1 l2 : Option (List ℕ)) (s0 s1 s2 : RecordsState) (fault : BridgeFault) → IsNew s0 → PassesHeader f left l1 s0 s1
+pub long_records : (f : Form ItemRead) (left l1 l2 : Option (List ℕ)) (s0 s1 s2 : RecordsState) (fault : BridgeFault) → IsNew s0 → PassesHeader f left l1 s0 s1
     → BreaksAfter f l1 l2 s1 s2 fault → fault ≡ TooLong → IsTooLong left l2
 long_records f left l1 l2 s0 s1 s2 fault new header b is = record {
   taken = header.steps.reads.taken ++ b.steps.reads.taken;

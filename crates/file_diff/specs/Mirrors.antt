@@ -10,7 +10,7 @@ use Rattle.one_run.specs.declared.fault.BridgeFault.TheVariants.{ReadFault, NotT
 use Rattle.rinex_read.specs.States.{HeaderSteps, RecordsState, Steps, lines_left}
 use Rattle.rinex_read.specs.declared.judged.HeaderState.TheVariants.{NotRinexNav, OtherVersion}
 use Rattle.rinex_read.specs.declared.judged.ItemRead.{ItemRead}
-use Rattle.rinex_read.specs.declared.judged.ItemRead.TheVariants.{Item, Refused, PassedOver, End}
+use Rattle.rinex_read.specs.declared.judged.ItemRead.TheVariants.{Item, Refused, PassedOver}
 use Rattle.file_diff.specs.Numbers.{by_numbers}
 use Rattle.file_diff.specs.Reading.{compared, counts_of, has_ionosphere, is_passed, is_refused}
 use Rattle.file_diff.specs.declared.counts.ReadCounts.{ReadCounts}
@@ -29,7 +29,6 @@ abbrev pub item_in : ItemRead → List NavItem
 item_in (Item line item) = item ∷ []
 item_in (Refused line reason) = []
 item_in (PassedOver line) = []
-item_in End = []
 
 -- a set with more items
 abbrev pub with_items : List NavItem → List NavItem → List NavItem
@@ -47,13 +46,6 @@ counted c read = record {
 abbrev pub sum_of : ReadCounts → ℕ
 sum_of c = c.refused + c.passed + c.ionospheres
 
--- a record, not the end of the file
-abbrev pub IsRecord : ItemRead → Type 0
-IsRecord (Item line item) = Unit {0}
-IsRecord (Refused line reason) = Unit {0}
-IsRecord (PassedOver line) = Unit {0}
-IsRecord End = ⊥
-
 -- the state of the header at an error
 abbrev pub HeaderFaultOf : BridgeFault → RecordsState → Type 0
 HeaderFaultOf ReadFault new = Unit {0}
@@ -62,19 +54,19 @@ HeaderFaultOf NotThisForm new = (new.header ≡ NotRinexNav) ⊎ (new.header ≡
 HeaderFaultOf _ new = ⊥
 
 -- The header is rejected, whatever bytes follow, or the reader breaks off in it.
-pub record NoHeader (f : Form) (left left_new : Option (List ℕ)) (old new : RecordsState) (fault : BridgeFault) : Type 0 where
+pub record NoHeader (f : Form ItemRead) (left left_new : Option (List ℕ)) (old new : RecordsState) (fault : BridgeFault) : Type 0 where
   pub steps : HeaderSteps f left left_new old new
   pub by : HeaderFaultOf fault new
 
 -- The reader breaks off after records.
-pub record BreaksAfter (f : Form) (left left_new : Option (List ℕ)) (old new : RecordsState) (fault : BridgeFault) : Type 0 where
+pub record BreaksAfter (f : Form ItemRead) (left left_new : Option (List ℕ)) (old new : RecordsState) (fault : BridgeFault) : Type 0 where
   pub given : List ItemRead
   pub steps : Steps f left left_new old new given
   pub long : fault ≡ TooLong → new.lines.taken ≡ 2 ^ 32
   pub form : fault ≡ NotThisForm → ⊥
 
 -- These records were read, their items added, and the records counted.
-pub record ReadsSome (f : Form) (all : Bool) (left left_new : Option (List ℕ)) (old new : RecordsState) (items items_new : List NavItem) (counts : ReadCounts) : Type 0 where
+pub record ReadsSome (f : Form ItemRead) (all : Bool) (left left_new : Option (List ℕ)) (old new : RecordsState) (items items_new : List NavItem) (counts : ReadCounts) : Type 0 where
   pub given : List ItemRead
   pub steps : Steps f left left_new old new given
   pub added : items_new ≡ with_items items (compared all (items_of given))
@@ -89,7 +81,7 @@ pub record AtEnd (s : RecordsState) : Type 0 where
   pub low : s.lines.taken < 2 ^ 32
 
 -- The same of all records of a file.
-pub record ReadsAll (f : Form) (all : Bool) (left left_new : Option (List ℕ)) (old new : RecordsState) (items items_new : List NavItem) (counts : ReadCounts) : Type 0 where
+pub record ReadsAll (f : Form ItemRead) (all : Bool) (left left_new : Option (List ℕ)) (old new : RecordsState) (items items_new : List NavItem) (counts : ReadCounts) : Type 0 where
   pub given : List ItemRead
   pub steps : Steps f left left_new old new given
   pub added : items_new ≡ with_items items (compared all (items_of given))

@@ -7,7 +7,7 @@ use Rattle.nav_eph.specs.declared.items.NavItem.TheVariants.{Gps, Gal, Ion}
 use Rattle.rinex_read.specs.Files.{file_reads, items_of}
 use Rattle.rinex_read.specs.Forms.{Form}
 use Rattle.rinex_read.specs.declared.judged.ItemRead.{ItemRead}
-use Rattle.rinex_read.specs.declared.judged.ItemRead.TheVariants.{Item, Refused, PassedOver, End}
+use Rattle.rinex_read.specs.declared.judged.ItemRead.TheVariants.{Item, Refused, PassedOver}
 use Rattle.file_diff.specs.Numbers.{set_of}
 use Rattle.file_diff.specs.declared.counts.ReadCounts.{ReadCounts}
 
@@ -26,14 +26,12 @@ abbrev pub is_refused : ItemRead → ℕ
 is_refused (Item line item) = 0
 is_refused (Refused line reason) = 1
 is_refused (PassedOver line) = 0
-is_refused End = 0
 
 -- 1 for a skipped record, else 0
 abbrev pub is_passed : ItemRead → ℕ
 is_passed (Item line item) = 0
 is_passed (Refused line reason) = 0
 is_passed (PassedOver line) = 1
-is_passed End = 0
 
 -- 1 for an ionosphere item, else 0
 abbrev pub is_ionosphere : NavItem → ℕ
@@ -46,7 +44,6 @@ abbrev pub has_ionosphere : ItemRead → ℕ
 has_ionosphere (Item line item) = is_ionosphere item
 has_ionosphere (Refused line reason) = 0
 has_ionosphere (PassedOver line) = 0
-has_ionosphere End = 0
 
 -- the counts of records
 abbrev pub counts_of : List ItemRead → ReadCounts
@@ -57,7 +54,7 @@ counts_of reads = record {
 }
 
 -- The file was read to its end: the set of its items that are compared, and the counts of its records.
-pub record IsFile (f : Form) (all : Bool) (left left_new : Option (List ℕ)) (items : List NavItem) (counts : ReadCounts) : Type 0 where
+pub record IsFile (f : Form ItemRead) (all : Bool) (left left_new : Option (List ℕ)) (items : List NavItem) (counts : ReadCounts) : Type 0 where
   pub taken : List ℕ
   pub consumes : Consumes left left_new taken
   pub end : IsAtEnd left_new

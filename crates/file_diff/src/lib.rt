@@ -19,7 +19,7 @@
 //!
 //! ```rust
 //! let mut first = FileItems::new(rt.alloc());
-//! read_items::<Rinex4, _>(true, &mut first, &mut ReadSource::new(file))?;
+//! read_items(&Rinex4, true, &mut first, &mut ReadSource::new(file))?;
 //! let same = write_differences(&first, &second, &mut WriteSink::new(rt.stdout()))?;
 //! ```
 #![tactic(auto)]

@@ -1,12 +1,12 @@
 //! A navigation file, read as a set of items.
 
 ghost use Rattle.std.specs.Prelude.{◌≡◌, ◌+◌, ◌^◌, ◌<◌, ◌∷◌, []};
-ghost use Rattle.std.specs.Prelude.{IfErr, IfNone, IfOk, IfSome, IsErr, IsErrOf, IsTrue, OnOk};
+ghost use Rattle.std.specs.Prelude.{IfErr, IfOk, IfSome, IsErr, IsErrOf, IsTrue, OnOk};
 ghost use Rattle.one_run.specs.Causes.{HasItsCause, fault_by, faults_of};
 ghost use Rattle.rinex_read.specs.Files.{file_reads};
-ghost use Rattle.rinex_read.specs.States.{GivesNone, GivesRead, IsNew, PassesHeader};
+ghost use Rattle.rinex_read.specs.States.{GivesRead, IsNew, PassesHeader};
 ghost use Rattle.rinex_read.specs.declared.judged.HeaderState.TheVariants.{Passed};
-ghost use Rattle.file_diff.specs.Mirrors.{BreaksAfter, IsRecord, NoHeader, ReadsAll};
+ghost use Rattle.file_diff.specs.Mirrors.{BreaksAfter, NoHeader, ReadsAll};
 ghost use Rattle.file_diff.specs.Mirrors.{counted, item_in, sum_of, with_items};
 ghost use Rattle.file_diff.specs.Reading.{IsFile, IsTooLong, compared, counts_of};
 ghost use Rattle.file_diff.specs.Reading.{is_ephemeris, is_ionosphere};
@@ -65,7 +65,6 @@ fn take_read(all: bool, read: &ItemRead, items: &mut FileItems) -> Result<(), Br
         },
         ItemRead::Refused { .. } => Ok(()),
         ItemRead::PassedOver { .. } => Ok(()),
-        ItemRead::End => Ok(()),
     }
 }
 
@@ -92,26 +91,26 @@ fn count_read(read: &ItemRead, counts: &mut ReadCounts)
         ItemRead::Item { item, .. } => count_item(item, counts),
         ItemRead::Refused { .. } => counts.refused += 1,
         ItemRead::PassedOver { .. } => counts.passed += 1,
-        ItemRead::End => {}
     }
 }
 
 // Reads the header.
-fn pass_header<F: FileForm, S: Source>(
-    records: &mut RecordReader<F>,
+fn pass_header<F: FileForm<ItemRead>, S: Source>(
+    form: &F,
+    records: &mut RecordReader,
     input: &mut S,
 ) -> Result<(), BridgeFault>
     requires first { IsNew records.old }
-    ensures header { OnOk result (PassesHeader F.form (S.left input.old) (S.left input.new)
+    ensures header { OnOk result (PassesHeader (F.form form.now) (S.left input.old) (S.left input.new)
         records.old records.new) }
-    ensures broken { IfErr result (NoHeader F.form (S.left input.old) (S.left input.new)
+    ensures broken { IfErr result (NoHeader (F.form form.now) (S.left input.old) (S.left input.new)
         records.old records.new) }
     ensures cause { HasItsCause (faults_of (S.faults input.old) 0 0)
         (faults_of (S.faults input.new) 0 0) result }
     ensures never { IsTrue (S.never_fails input.old)
         → (IsErrOf result BridgeFault.ReadFault → ⊥) × IsTrue (S.never_fails input.new) }
 {
-    match records.read_header(input) {
+    match records.read_header(form, input) {
         Ok(()) => Ok(()),
         Err(HeaderFault::NotRinexNav) => Err(BridgeFault::NotThisForm),
         Err(HeaderFault::Version) => Err(BridgeFault::NotThisForm),
@@ -120,51 +119,50 @@ fn pass_header<F: FileForm, S: Source>(
 }
 
 // Reads the next record; `None` at the end of the file.
-fn next_read<F: FileForm, S: Source>(
-    records: &mut RecordReader<F>,
+fn next_read<F: FileForm<ItemRead>, S: Source>(
+    form: &F,
+    records: &mut RecordReader,
     input: &mut S,
 ) -> Result<Option<ItemRead>, BridgeFault>
     requires header { records.old.header ≡ Passed }
-    ensures read { IfOk result (λ given. IfSome given (λ read. IsRecord read
-        × GivesRead F.form read (S.left input.old) (S.left input.new) records.old records.new)) }
-    ensures none { IfOk result (λ given. IfNone given
-        (GivesNone F.form (S.left input.old) (S.left input.new) records.old records.new)) }
+    ensures read { IfOk result (λ given.
+        GivesRead (F.form form.now) given (S.left input.old) (S.left input.new) records.old records.new) }
     ensures header { records.new.header ≡ Passed }
-    ensures broken { IfErr result (λ fault. BreaksAfter F.form (S.left input.old) (S.left input.new)
+    ensures broken { IfErr result (λ fault. BreaksAfter (F.form form.now) (S.left input.old) (S.left input.new)
         records.old records.new fault) }
     ensures cause { HasItsCause (faults_of (S.faults input.old) 0 0)
         (faults_of (S.faults input.new) 0 0) result }
     ensures never { IsTrue (S.never_fails input.old)
         → (IsErrOf result BridgeFault.ReadFault → ⊥) × IsTrue (S.never_fails input.new) }
 {
-    match records.next_item(input) {
-        Ok(ItemRead::End) => Ok(None),
-        Ok(read) => Ok(Some(read)),
+    match records.next_item(form, input) {
+        Ok(read) => Ok(read),
         Err(fault) => Err(fault_of(fault)),
     }
 }
 
 // Reads the records after the header.
-fn read_records<F: FileForm, S: Source>(
+fn read_records<F: FileForm<ItemRead>, S: Source>(
+    form: &F,
     all: bool,
-    records: &mut RecordReader<F>,
+    records: &mut RecordReader,
     items: &mut FileItems,
     counts: &mut ReadCounts,
     input: &mut S,
 ) -> Result<(), BridgeFault>
     requires header { records.old.header ≡ Passed }
     requires counts { counts.old ≡ counts_of [] }
-    ensures all { OnOk result (ReadsAll F.form all (S.left input.old) (S.left input.new)
+    ensures all { OnOk result (ReadsAll (F.form form.now) all (S.left input.old) (S.left input.new)
         records.old records.new items.old items.new counts.new) }
-    ensures broken { IfErr result (BreaksAfter F.form (S.left input.old) (S.left input.new)
+    ensures broken { IfErr result (BreaksAfter (F.form form.now) (S.left input.old) (S.left input.new)
         records.old records.new) }
     ensures cause { HasItsCause (faults_of (S.faults input.old) 0 0)
         (faults_of (S.faults input.new) 0 0) result }
     ensures never { IsTrue (S.never_fails input.old) → IsErrOf result BridgeFault.ReadFault → ⊥ }
 {
-    steps_compose::<F>();
+    steps_compose::<ItemRead, F>(form);
     'records: loop {
-        match next_read::<F, S>(records, input) {
+        match next_read::<F, S>(form, records, input) {
             Err(fault) => return Err(fault),
             Ok(None) => return Ok(()),
             Ok(Some(read)) => {
@@ -186,30 +184,31 @@ fn read_records<F: FileForm, S: Source>(
 /// - `NoMemory` where memory for the items is missing.
 ///
 /// Then some of the items are in the set.
-pub fn read_items<F: FileForm, S: Source>(
+pub fn read_items<F: FileForm<ItemRead>, S: Source>(
+    form: &F,
     all: bool,
     items: &mut FileItems,
     input: &mut S,
 ) -> Result<ReadCounts, BridgeFault>
     requires { items.old ≡ [] }
-    ensures file { IfOk result (IsFile F.form all (S.left input.old) (S.left input.new) items.new) }
+    ensures file { IfOk result (IsFile (F.form form.now) all (S.left input.old) (S.left input.new) items.new) }
     ensures form { IsErrOf result BridgeFault.NotThisForm → IfSome (S.left input.old) (λ bytes.
-        IsErr (file_reads F.form bytes)) }
+        IsErr (file_reads (F.form form.now) bytes)) }
     ensures long { IsErrOf result BridgeFault.TooLong → IsTooLong (S.left input.old)
         (S.left input.new) }
     ensures cause { HasItsCause (faults_of (S.faults input.old) 0 0)
         (faults_of (S.faults input.new) 0 0) result }
     ensures never { IsTrue (S.never_fails input.old) → IsErrOf result BridgeFault.ReadFault → ⊥ }
 {
-    readers_begin_with_the_file::<F>();
-    steps_compose::<F>();
-    let mut records: RecordReader<F> = RecordReader::new();
+    readers_begin_with_the_file::<ItemRead, F>(form);
+    steps_compose::<ItemRead, F>(form);
+    let mut records = RecordReader::new();
     let mut counts = ReadCounts {
         refused: 0,
         passed: 0,
         ionospheres: 0,
     };
-    pass_header::<F, S>(&mut records, input)?;
-    read_records::<F, S>(all, &mut records, items, &mut counts, input)?;
+    pass_header::<F, S>(form, &mut records, input)?;
+    read_records::<F, S>(form, all, &mut records, items, &mut counts, input)?;
     Ok(counts)
 }

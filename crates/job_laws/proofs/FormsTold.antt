@@ -50,14 +50,14 @@ capture_told week bytes some = go (lines_by false bytes) refl some where
 
 -- ---- a navigation file
 
-header_by : {C : Type 0} (f : Form) (count : List ItemRead → C) (body : Result Body HeaderFault) (navigation version : Bool)
+header_by : {C R : Type 0} (f : Form R) (count : List R → C) (body : Result Body HeaderFault) (navigation version : Bool)
     → IsSome (counted_in count (reads_behind f (cond navigation (cond version body (Err Version)) (Err NotRinexNav))))
     → (navigation ≡ true) × (version ≡ true)
 header_by f count body true true some = (refl, refl)
 header_by f count body true false some = absurd (never some)
 header_by f count body false version some = absurd (never some)
 
-file_told : {C : Type 0} (f : Form) (count : List ItemRead → C) (kind : Kind) (bytes : List ℕ)
+file_told : {C R : Type 0} (f : Form R) (count : List R → C) (kind : Kind) (bytes : List ℕ)
     → ((line : List ℕ) (lines : List (List ℕ)) → lines_of bytes ≡ line ∷ lines → is_navigation line ≡ true → is_version f line ≡ true → kind_of bytes ≡ kind)
     → IsSome (counted_in count (file_reads f bytes)) → kind_of bytes ≡ kind
 file_told f count kind bytes told some = go (lines_of bytes) refl some where

@@ -1,18 +1,19 @@
 -- The text of a column says the field that the reader takes of it.
-use Rattle.std.proofs.Common.{◌≡◌, ℕ, zero, suc, ◌+◌, ◌<◌, ◌≤◌, ◌==◌, ◌&&◌, ◌||◌, nat_le, Bool, true, false, if◌then◌else◌, List, [], ◌∷◌, length, get_or, Result, Ok, Err, refl, ap, sym, ◌∙◌, subst, inl, inr, ⊎_elim, ◌↔◌, arith, ℤ, pos, negsuc, ◌≤ℤ◌, int_le, unsigned_abs, eq-eqb, ne_eqb, eqb-true, le-leb}
+use Rattle.std.proofs.Common.{◌≡◌, ℕ, zero, suc, ◌+◌, ◌<◌, ◌≤◌, ◌==◌, ◌&&◌, ◌||◌, nat_le, Bool, true, false, if◌then◌else◌, List, [], ◌∷◌, length, get_or, Result, Ok, Err, refl, ap, sym, ◌∙◌, subst, inl, inr, ⊎_elim, ◌↔◌, arith, ℤ, pos, negsuc, ◌≤ℤ◌, int_le, unsigned_abs, eq-eqb, ne_eqb, eqb-true, le-leb, lit≤}
 use Rattle.std.proofs.lemmas.Bool.{and_parts, cases_lt, leb-true, leb-false}
 use Rattle.std.proofs.lemmas.Int.{ints}
 use Rattle.scaled_decimal.specs.Fractions.{Fraction}
-use Rattle.scaled_decimal.specs.ScaleValue.{IsScale}
+use Rattle.scaled_decimal.specs.ScaleValue.{size_of, IsScale}
+use Rattle.scaled_decimal.proofs.Surface.{is_scale}
 use Rattle.scaled_decimal.specs.NumberReading.{AreBlanks, StandsFor, NumberSeen, blank, unread, number, seen}
 use Rattle.rinex_write.specs.declared.columns.Rule.{Rule}
-use Rattle.rinex_write.specs.declared.columns.Rule.TheVariants.{Plain, OrZero, OrLeast, Ura, Sisa, Fit, Sent, Unread}
+use Rattle.rinex_write.specs.declared.columns.Rule.TheVariants.{Plain, OrZero, OrLeast, OrUnknown, Ura, Sisa, Fit, Sent, Unread}
 use Rattle.rinex_write.specs.Accuracies.{first_from, ura_greatest, ura_of, sisa_value, sisa_from, sisa_of}
-use Rattle.rinex_write.specs.Columns.{IsField}
+use Rattle.rinex_write.specs.Columns.{IsField, not_known}
 use Rattle.rinex_read.specs.declared.reason.Reason.{Reason}
 use Rattle.rinex_read.specs.declared.reason.Reason.TheVariants as reasons
-use Rattle.rinex_read.specs.Fields.{in_range, flag_of, sent_or_unknown, taken}
-use Rattle.job_laws.specs.RinexRecords.{IsLeast, IsUraOf, IsSisaOf, IsFlagOf, IsWithin, Means, IsBlank, Encodes}
+use Rattle.rinex_read.specs.Fields.{in_range, flag_of, sent_or_unknown, taken, whole, is_beyond, or_unknown}
+use Rattle.job_laws.specs.RinexRecords.{IsLeast, IsUraOf, IsSisaOf, IsFlagOf, IsWithin, Means, IsBlank, IsBeyond, Encodes}
 use Rattle.job_laws.proofs.RinexTexts.{bound, go_on, if_ok}
 
 -- what is known of texts
@@ -32,6 +33,10 @@ le_false a b h = go (int_le a b) refl
     go : (t : Bool) → int_le a b ≡ t → t ≡ false
     go true e = absurd (h (le_from a b e))
     go false e = refl
+
+-- the scale of integers is one
+whole_scale : IsScale (size_of whole)
+whole_scale = is_scale whole (inl (lit≤ tt, lit≤ tt, omega (arith, ints), omega (arith, ints), omega (arith, ints), omega (arith, ints)))
 
 range-says : (low high w z : ℤ) → in_range low high w ≡ Ok z → IsWithin low high w × (w ≡ z)
 range-says low high w z h =
@@ -189,6 +194,7 @@ number-taken : (r : Rule) (unit : Fraction) (text : List ℕ) (w z : ℤ) → St
 number-taken (Plain low high) unit text w z stands h = plain-says unit text low high w z stands h
 number-taken (OrZero low high) unit text w z stands h = inl (plain-says unit text low high w z stands h)
 number-taken (OrLeast low high) unit text w z stands h = inl (plain-says unit text low high w z stands h)
+number-taken (OrUnknown low high) unit text w z stands h = inl (plain-says unit text low high w z stands h)
 number-taken Ura unit text w z stands h =
     let b = bound (in_range (negsuc 99999999) (pos 100000000) w) (λ v. Ok (ura_of v)) z h in
     let is = range-says (negsuc 99999999) (pos 100000000) w b.value b.is in
@@ -226,6 +232,7 @@ blank-taken : (r : Rule) (unit : Fraction) (text : List ℕ) (z : ℤ) → AreBl
 blank-taken (Plain low high) unit text z are h = absurd (cc)
 blank-taken (OrZero low high) unit text z are h = let is : pos 0 ≡ z = cc in inr (are, sym is)
 blank-taken (OrLeast low high) unit text z are h = let is : low ≡ z = cc in inr (are, sym is)
+blank-taken (OrUnknown low high) unit text z are h = let is : not_known ≡ z = cc in inr (inr (are, sym is))
 blank-taken Ura unit text z are h = let is : pos 15 ≡ z = cc in inr (are, sym is)
 blank-taken Sisa unit text z are h = let is : pos 255 ≡ z = cc in inr (are, sym is)
 blank-taken Fit unit text z are h = let is : pos 0 ≡ z = cc in inr (are, sym is)
@@ -236,6 +243,7 @@ unread-taken : (r : Rule) (unit : Fraction) (text : List ℕ) (z : ℤ) → take
 unread-taken (Plain low high) unit text z h = absurd (cc)
 unread-taken (OrZero low high) unit text z h = absurd (cc)
 unread-taken (OrLeast low high) unit text z h = absurd (cc)
+unread-taken (OrUnknown low high) unit text z h = absurd (cc)
 unread-taken Ura unit text z h = absurd (cc)
 unread-taken Sisa unit text z h = absurd (cc)
 unread-taken Fit unit text z h = absurd (cc)
@@ -243,13 +251,65 @@ unread-taken Sent unit text z h = absurd (cc)
 unread-taken (Unread n) unit text z h = let is : n ≡ z = cc in sym is
 
 -- a field that is taken of a text is said by it
-pub taken-says : Seen → (r : Rule) (unit : Fraction) (text : List ℕ) (z : ℤ) → IsScale unit → taken r (seen unit text) ≡ Ok z → Encodes r unit text z
+taken-says : Seen → (r : Rule) (unit : Fraction) (text : List ℕ) (z : ℤ) → IsScale unit → taken r (seen unit text) ≡ Ok z → Encodes r unit text z
 taken-says laws r unit text z good h = go (seen unit text) refl h
   where
     go : (v : NumberSeen) → seen unit text ≡ v → taken r v ≡ Ok z → Encodes r unit text z
     go blank e t = blank-taken r unit text z ((laws.blanks unit text).0 e) t
     go unread e t = unread-taken r unit text z t
     go (number w) e t = number-taken r unit text w z ((laws.numbers unit text w good).0 e) t
+
+-- what is taken of a text that is out of range
+out-says : (low high w : ℤ) → in_range low high w ≡ Err reasons.OutOfRange → IsWithin low high w → ⊥
+out-says low high w e within = let no : Ok w ≡ Err reasons.OutOfRange = sym (range-read low high w within) ∙ e in cc
+
+range-out : (low high w : ℤ) → (IsWithin low high w → ⊥) → in_range low high w ≡ Err reasons.OutOfRange
+range-out low high w outside = go (int_le low w) (int_le w high) refl refl
+  where
+    go : (a b : Bool) → int_le low w ≡ a → int_le w high ≡ b → (if a && b then Ok w else Err reasons.OutOfRange) ≡ Err reasons.OutOfRange
+    go true true p q = absurd (outside (le_from low w p, le_from w high q))
+    go true false p q = refl
+    go false b p q = refl
+
+-- a number that is not known is said by a text out of range
+beyond-says : Seen → (unit : Fraction) (text : List ℕ) (low high z : ℤ) → IsScale unit → taken (OrUnknown low high) (seen unit text) ≡ Err reasons.OutOfRange
+    → (if is_beyond (seen (size_of whole) text) then Ok not_known else Err reasons.OutOfRange) ≡ Ok z → Encodes (OrUnknown low high) unit text z
+beyond-says laws unit text low high z good out h = inner (seen unit text) refl out
+  where
+    outer : (w : ℤ) → StandsFor unit text w → (IsWithin low high w → ⊥) → (u : NumberSeen) → seen (size_of whole) text ≡ u
+        → (if is_beyond u then Ok not_known else Err reasons.OutOfRange) ≡ Ok z → Encodes (OrUnknown low high) unit text z
+    outer w stands outside blank e t = absurd (cc)
+    outer w stands outside unread e t = absurd (cc)
+    outer w stands outside (number v) e t = go (int_le not_known v) refl t
+      where
+        go : (b : Bool) → int_le not_known v ≡ b → (if b then Ok not_known else Err reasons.OutOfRange) ≡ Ok z → Encodes (OrUnknown low high) unit text z
+        go true p s =
+            let same : not_known ≡ z = cc in
+            let beyond : IsBeyond unit text low high = record {
+              number = w;
+              text_is = stands;
+              outside = outside;
+              units = v;
+              units_are = (laws.numbers (size_of whole) text v whole_scale).0 e;
+              from = le_from not_known v p;
+            } in
+            inr (inl (beyond, sym same))
+        go false p s = absurd (cc)
+
+    inner : (v : NumberSeen) → seen unit text ≡ v → taken (OrUnknown low high) v ≡ Err reasons.OutOfRange → Encodes (OrUnknown low high) unit text z
+    inner blank e t = absurd (cc)
+    inner unread e t = absurd (cc)
+    inner (number w) e t = outer w ((laws.numbers unit text w good).0 e) (out-says low high w t) (seen (size_of whole) text) refl h
+
+-- a field is said by its text
+pub field-says : Seen → (r : Rule) (unit : Fraction) (text : List ℕ) (z : ℤ) → IsScale unit
+    → or_unknown r (seen (size_of whole) text) (taken r (seen unit text)) ≡ Ok z → Encodes r unit text z
+field-says laws r unit text z good h = go r (taken r (seen unit text)) refl h
+  where
+    go : (q : Rule) (t : Result ℤ Reason) → taken q (seen unit text) ≡ t → or_unknown q (seen (size_of whole) text) t ≡ Ok z → Encodes q unit text z
+    go q (Ok y) e t = taken-says laws q unit text z good (e ∙ t)
+    go (OrUnknown low high) (Err reasons.OutOfRange) e t = beyond-says laws unit text low high z good e t
+    go q (Err f) e t = absurd (cc)
 
 means-read : Seen → (unit : Fraction) (text : List ℕ) (low high : ℤ) (Meaning : ℤ → Type 0) → IsScale unit → (h : Means unit text low high Meaning)
     → (seen unit text ≡ number h.number) × (in_range low high h.number ≡ Ok h.number)
@@ -264,32 +324,50 @@ plain-read laws unit text low high z take rule good h =
 blank-read : Seen → (unit : Fraction) (text : List ℕ) (z other : ℤ) (take : NumberSeen → Result ℤ Reason) → take blank ≡ Ok other → IsBlank text z other → take (seen unit text) ≡ Ok z
 blank-read laws unit text z other take rule h = ap take ((laws.blanks unit text).1 h.0) ∙ rule ∙ ap Ok (sym h.1)
 
--- a field that is said is taken
-pub says-read : Seen → (r : Rule) (unit : Fraction) (text : List ℕ) (z : ℤ) → IsScale unit → Encodes r unit text z → taken r (seen unit text) ≡ Ok z
-says-read laws (Plain low high) unit text z good h = plain-read laws unit text low high z (taken (Plain low high)) (λ w. refl) good h
-says-read laws (OrZero low high) unit text z good (inl h) = plain-read laws unit text low high z (taken (OrZero low high)) (λ w. refl) good h
-says-read laws (OrZero low high) unit text z good (inr h) = blank-read laws unit text z (pos 0) (taken (OrZero low high)) refl h
-says-read laws (OrLeast low high) unit text z good (inl h) = plain-read laws unit text low high z (taken (OrLeast low high)) (λ w. refl) good h
-says-read laws (OrLeast low high) unit text z good (inr h) = blank-read laws unit text z low (taken (OrLeast low high)) refl h
+-- what is taken is kept
+kept : (r : Rule) (unit : Fraction) (text : List ℕ) (z : ℤ) → taken r (seen unit text) ≡ Ok z → or_unknown r (seen (size_of whole) text) (taken r (seen unit text)) ≡ Ok z
+kept r unit text z e = ap (or_unknown r (seen (size_of whole) text)) e
+
+-- a field that is said is read
+pub says-read : Seen → (r : Rule) (unit : Fraction) (text : List ℕ) (z : ℤ) → IsScale unit → Encodes r unit text z
+    → or_unknown r (seen (size_of whole) text) (taken r (seen unit text)) ≡ Ok z
+says-read laws (Plain low high) unit text z good h = kept (Plain low high) unit text z (plain-read laws unit text low high z (taken (Plain low high)) (λ w. refl) good h)
+says-read laws (OrZero low high) unit text z good (inl h) = kept (OrZero low high) unit text z (plain-read laws unit text low high z (taken (OrZero low high)) (λ w. refl) good h)
+says-read laws (OrZero low high) unit text z good (inr h) = kept (OrZero low high) unit text z (blank-read laws unit text z (pos 0) (taken (OrZero low high)) refl h)
+says-read laws (OrLeast low high) unit text z good (inl h) = kept (OrLeast low high) unit text z (plain-read laws unit text low high z (taken (OrLeast low high)) (λ w. refl) good h)
+says-read laws (OrLeast low high) unit text z good (inr h) = kept (OrLeast low high) unit text z (blank-read laws unit text z low (taken (OrLeast low high)) refl h)
+says-read laws (OrUnknown low high) unit text z good (inl h) = kept (OrUnknown low high) unit text z (plain-read laws unit text low high z (taken (OrUnknown low high)) (λ w. refl) good h)
+says-read laws (OrUnknown low high) unit text z good (inr (inl h)) =
+    let R = OrUnknown low high in
+    ap (λ v. or_unknown R (seen (size_of whole) text) (taken R v)) ((laws.numbers unit text h.0.number good).1 h.0.text_is)
+    ∙ ap (or_unknown R (seen (size_of whole) text)) (range-out low high h.0.number h.0.outside)
+    ∙ ap (λ u. or_unknown R u (Err reasons.OutOfRange)) ((laws.numbers (size_of whole) text h.0.units whole_scale).1 h.0.units_are)
+    ∙ ap (λ b. if b then Ok not_known else Err reasons.OutOfRange) (le_true not_known h.0.units h.0.from)
+    ∙ ap Ok (sym h.1)
+says-read laws (OrUnknown low high) unit text z good (inr (inr h)) = kept (OrUnknown low high) unit text z (blank-read laws unit text z not_known (taken (OrUnknown low high)) refl h)
 says-read laws Ura unit text z good (inl h) =
+    kept Ura unit text z (
     let read = means-read laws unit text (negsuc 99999999) (pos 100000000) (λ v. IsUraOf v z) good h in
-    ap (taken Ura) read.0 ∙ go_on (in_range (negsuc 99999999) (pos 100000000) h.number) h.number (λ v. Ok (ura_of v)) read.1 ∙ ap Ok (ura-read h.number z h.means)
-says-read laws Ura unit text z good (inr h) = blank-read laws unit text z (pos 15) (taken Ura) refl h
+    ap (taken Ura) read.0 ∙ go_on (in_range (negsuc 99999999) (pos 100000000) h.number) h.number (λ v. Ok (ura_of v)) read.1 ∙ ap Ok (ura-read h.number z h.means))
+says-read laws Ura unit text z good (inr h) = kept Ura unit text z (blank-read laws unit text z (pos 15) (taken Ura) refl h)
 says-read laws Sisa unit text z good (inl h) =
+    kept Sisa unit text z (
     let read = means-read laws unit text (negsuc 99999999) (pos 100000000) (λ v. IsSisaOf v z) good h in
-    ap (taken Sisa) read.0 ∙ go_on (in_range (negsuc 99999999) (pos 100000000) h.number) h.number (λ v. Ok (sisa_of v)) read.1 ∙ ap Ok (sisa-read h.number z h.means)
-says-read laws Sisa unit text z good (inr h) = blank-read laws unit text z (pos 255) (taken Sisa) refl h
+    ap (taken Sisa) read.0 ∙ go_on (in_range (negsuc 99999999) (pos 100000000) h.number) h.number (λ v. Ok (sisa_of v)) read.1 ∙ ap Ok (sisa-read h.number z h.means))
+says-read laws Sisa unit text z good (inr h) = kept Sisa unit text z (blank-read laws unit text z (pos 255) (taken Sisa) refl h)
 says-read laws Fit unit text z good (inl h) =
+    kept Fit unit text z (
     let read = means-read laws unit text (pos 0) (pos 255) (λ v. IsFlagOf v z) good h in
-    ap (taken Fit) read.0 ∙ go_on (in_range (pos 0) (pos 255) h.number) h.number (λ v. flag_of (unsigned_abs v)) read.1 ∙ flag-read h.number z h.within h.means
-says-read laws Fit unit text z good (inr h) = blank-read laws unit text z (pos 0) (taken Fit) refl h
+    ap (taken Fit) read.0 ∙ go_on (in_range (pos 0) (pos 255) h.number) h.number (λ v. flag_of (unsigned_abs v)) read.1 ∙ flag-read h.number z h.within h.means)
+says-read laws Fit unit text z good (inr h) = kept Fit unit text z (blank-read laws unit text z (pos 0) (taken Fit) refl h)
 says-read laws Sent unit text z good (inl h) =
+    kept Sent unit text z (
     let read = means-read laws unit text (negsuc 302399) (pos 907199) (λ v. z ≡ v) good h in
     ap (taken Sent) read.0
     ∙ ap (λ b. Ok (if b && int_le h.number (pos 907199) then h.number else pos 999900000)) (le_true (negsuc 302399) h.number h.within.0)
     ∙ ap (λ b. Ok (if b then h.number else pos 999900000)) (le_true h.number (pos 907199) h.within.1)
-    ∙ ap Ok (sym h.means)
-says-read laws Sent unit text z good (inr (inl h)) = ap (taken Sent) ((laws.numbers unit text h.0 good).1 h.1) ∙ ap Ok (outside h.0 h.2) ∙ ap Ok (sym h.3)
+    ∙ ap Ok (sym h.means))
+says-read laws Sent unit text z good (inr (inl h)) = kept Sent unit text z (ap (taken Sent) ((laws.numbers unit text h.0 good).1 h.1) ∙ ap Ok (outside h.0 h.2) ∙ ap Ok (sym h.3))
   where
     outside : (w : ℤ) → (IsWithin (negsuc 302399) (pos 907199) w → ⊥) → sent_or_unknown w ≡ pos 999900000
     outside w not_in = go (int_le (negsuc 302399) w) (int_le w (pos 907199)) refl refl
@@ -298,8 +376,8 @@ says-read laws Sent unit text z good (inr (inl h)) = ap (taken Sent) ((laws.numb
         go true true p q = absurd (not_in (le_from (negsuc 302399) w p, le_from w (pos 907199) q))
         go true false p q = refl
         go false b p q = refl
-says-read laws Sent unit text z good (inr (inr h)) = blank-read laws unit text z (pos 999900000) (taken Sent) refl h
-says-read laws (Unread n) unit text z good h = go (seen unit text) ∙ ap Ok (sym h)
+says-read laws Sent unit text z good (inr (inr h)) = kept Sent unit text z (blank-read laws unit text z (pos 999900000) (taken Sent) refl h)
+says-read laws (Unread n) unit text z good h = kept (Unread n) unit text z (go (seen unit text) ∙ ap Ok (sym h))
   where
     go : (v : NumberSeen) → taken (Unread n) v ≡ Ok n
     go blank = refl
@@ -332,6 +410,9 @@ pub says-field : (r : Rule) (unit : Fraction) (text : List ℕ) (z : ℤ) → Ha
 says-field (Plain low high) unit text z some h = within_by unit text low high z h
 says-field (OrZero low high) unit text z some (inl h) = within_by unit text low high z h
 says-field (OrZero low high) unit text z some (inr h) = subst (IsWithin low high) (sym h.1) some
+says-field (OrUnknown low high) unit text z some (inl h) = inl (within_by unit text low high z h)
+says-field (OrUnknown low high) unit text z some (inr (inl h)) = inr h.1
+says-field (OrUnknown low high) unit text z some (inr (inr h)) = inr h.1
 says-field (OrLeast low high) unit text z some (inl h) = within_by unit text low high z h
 says-field (OrLeast low high) unit text z some (inr h) = subst (IsWithin low high) (sym h.1) (omega (arith, ints), some)
 says-field Ura unit text z some (inl h) = ura_within h.number z h.means

@@ -14,7 +14,7 @@ use Rattle.job_laws.specs.RinexRecords.{trimmed, IsVersion4, IsVersion3, NoneEnd
 use Rattle.job_laws.proofs.RinexTexts.{stands-columns, columns-stands, decimal_test, decimal_parts}
 
 -- the test of a version decides the relation
-pub record Decides (f : Form) (IsVersion : List ℕ → Type 0) : Type 0 where
+pub record Decides {R : Type 0} (f : Form R) (IsVersion : List ℕ → Type 0) : Type 0 where
   pub says : (text : List ℕ) → f.names text ≡ true → IsVersion text
   pub reads : (text : List ℕ) → IsVersion text → f.names text ≡ true
 
@@ -69,13 +69,13 @@ three-reads : (text : List ℕ) → IsVersion3 text → is_three text ≡ true
 three-reads text h =
     subst (λ t. is_three t ≡ true) (sym h.1) (ap (λ b. b && nat_le (48 + h.0) 53) (le-leb 50 (48 + h.0) (omega (arith, h.2))) ∙ le-leb (48 + h.0) 53 (omega (arith, h.3)))
 
-pub four_decides : (f : Form) → f.names ≡ is_four → Decides f IsVersion4
+pub four_decides : {R : Type 0} (f : Form R) → f.names ≡ is_four → Decides f IsVersion4
 four_decides f e = record {
   says = λ text h. four-says text (sym (ap (λ (names : List ℕ → Bool). names text) e) ∙ h);
   reads = λ text h. ap (λ (names : List ℕ → Bool). names text) e ∙ four-reads text h;
 }
 
-pub three_decides : (f : Form) → f.names ≡ is_three → Decides f IsVersion3
+pub three_decides : {R : Type 0} (f : Form R) → f.names ≡ is_three → Decides f IsVersion3
 three_decides f e = record {
   says = λ text h. three-says text (sym (ap (λ (names : List ℕ → Bool). names text) e) ∙ h);
   reads = λ text h. ap (λ (names : List ℕ → Bool). names text) e ∙ three-reads text h;
@@ -145,7 +145,7 @@ passed-reads n (l ∷ ls) last body none end number =
     ap (λ b. if b then Ok (record { number = n + 1; lines = ls ++ last ∷ body.lines }) else header_passed (n + 1) (ls ++ last ∷ body.lines)) (no_end l none.0)
     ∙ passed-reads (n + 1) ls last body none.1 end (omega arith)
 
-pub header-says : (f : Form) (V : List ℕ → Type 0) → Decides f V → (lines : List (List ℕ)) (body : Body) → header_of f 0 lines ≡ Ok body → IsHeaderBefore V lines body
+pub header-says : {R : Type 0} (f : Form R) (V : List ℕ → Type 0) → Decides f V → (lines : List (List ℕ)) (body : Body) → header_of f 0 lines ≡ Ok body → IsHeaderBefore V lines body
 unfolding is_version
 header-says f V decides [] body h = absurd (cc)
 header-says f V decides (l ∷ ls) body h = first (is_navigation l) refl h
@@ -170,7 +170,7 @@ header-says f V decides (l ∷ ls) body h = first (is_navigation l) refl h
     first true e h = second (f.names (trimmed (columns 0 9 l))) refl e h
     first false e h = absurd (cc)
 
-pub header-reads : (f : Form) (V : List ℕ → Type 0) → Decides f V → (lines : List (List ℕ)) (body : Body) → IsHeaderBefore V lines body → header_of f 0 lines ≡ Ok body
+pub header-reads : {R : Type 0} (f : Form R) (V : List ℕ → Type 0) → Decides f V → (lines : List (List ℕ)) (body : Body) → IsHeaderBefore V lines body → header_of f 0 lines ≡ Ok body
 unfolding is_version
 header-reads f V decides lines body h =
     let l = h.first in
@@ -188,7 +188,7 @@ passed_version n (l ∷ ls) h = go (ends_header l) h (passed_version (n + 1) ls)
     go true h more = cc
     go false h more = more h
 
-pub version-says : (f : Form) (V : List ℕ → Type 0) → Decides f V → (lines : List (List ℕ)) → header_of f 0 lines ≡ Err Version → IsOtherVersion V lines
+pub version-says : {R : Type 0} (f : Form R) (V : List ℕ → Type 0) → Decides f V → (lines : List (List ℕ)) → header_of f 0 lines ≡ Err Version → IsOtherVersion V lines
 unfolding is_version
 version-says f V decides [] h = absurd (cc)
 version-says f V decides (l ∷ ls) h = first (is_navigation l) refl h
@@ -211,7 +211,7 @@ version-says f V decides (l ∷ ls) h = first (is_navigation l) refl h
     first true e h = second (f.names (trimmed (columns 0 9 l))) refl e h
     first false e h = absurd (cc)
 
-pub version-reads : (f : Form) (V : List ℕ → Type 0) → Decides f V → (lines : List (List ℕ)) → IsOtherVersion V lines → header_of f 0 lines ≡ Err Version
+pub version-reads : {R : Type 0} (f : Form R) (V : List ℕ → Type 0) → Decides f V → (lines : List (List ℕ)) → IsOtherVersion V lines → header_of f 0 lines ≡ Err Version
 unfolding is_version
 version-reads f V decides lines h =
     let l = h.0 in
@@ -231,7 +231,7 @@ passed_line n (l ∷ ls) fault h = go (ends_header l) h (passed_line (n + 1) ls 
     go true h more = cc
     go false h more = more h
 
-header_line : (f : Form) (lines : List (List ℕ)) (fault : LineFault) → header_of f 0 lines ≡ Err (Line fault) → ⊥
+header_line : {R : Type 0} (f : Form R) (lines : List (List ℕ)) (fault : LineFault) → header_of f 0 lines ≡ Err (Line fault) → ⊥
 header_line f [] fault h = cc
 header_line f (l ∷ ls) fault h = go (is_navigation l) (is_version f l) h
   where
@@ -244,7 +244,7 @@ header_line f (l ∷ ls) fault h = go (is_navigation l) (is_version f l) h
 abbrev pub IsNeither : (List ℕ → Type 0) → List (List ℕ) → Type 0
 IsNeither V lines = ((body : Body) → IsHeaderBefore V lines body → ⊥) × (IsOtherVersion V lines → ⊥)
 
-pub neither-says : (f : Form) (V : List ℕ → Type 0) → Decides f V → (lines : List (List ℕ)) → header_of f 0 lines ≡ Err NotRinexNav → IsNeither V lines
+pub neither-says : {R : Type 0} (f : Form R) (V : List ℕ → Type 0) → Decides f V → (lines : List (List ℕ)) → header_of f 0 lines ≡ Err NotRinexNav → IsNeither V lines
 neither-says f V decides lines h = (
   (λ body is. let read = header-reads f V decides lines body is in different body (sym read ∙ h)),
   (λ is. let read = version-reads f V decides lines is in others (sym read ∙ h)),
@@ -256,7 +256,7 @@ neither-says f V decides lines h = (
     others : ◌≡◌ {A = Result Body HeaderFault} (Err Version) (Err NotRinexNav) → ⊥
     others e = cc
 
-pub neither-reads : (f : Form) (V : List ℕ → Type 0) → Decides f V → (lines : List (List ℕ)) → IsNeither V lines → header_of f 0 lines ≡ Err NotRinexNav
+pub neither-reads : {R : Type 0} (f : Form R) (V : List ℕ → Type 0) → Decides f V → (lines : List (List ℕ)) → IsNeither V lines → header_of f 0 lines ≡ Err NotRinexNav
 neither-reads f V decides lines neither = go (header_of f 0 lines) refl
   where
     go : (r : Result Body HeaderFault) → header_of f 0 lines ≡ r → r ≡ Err NotRinexNav

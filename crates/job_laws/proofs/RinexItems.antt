@@ -15,7 +15,7 @@ use Rattle.nav_eph.specs.declared.items.SentSecond.TheVariants.{Unknown, At}
 use Rattle.nav_eph.specs.declared.ion.GpsIon.{GpsIon}
 use Rattle.nav_eph.specs.declared.ion.GalIon.{GalIon}
 use Rattle.rinex_write.specs.declared.columns.Rule.{Rule}
-use Rattle.rinex_write.specs.declared.columns.Rule.TheVariants.{Plain, OrZero, OrLeast, Ura, Sisa, Fit, Sent, Unread}
+use Rattle.rinex_write.specs.declared.columns.Rule.TheVariants.{Plain, OrZero, OrLeast, OrUnknown, Ura, Sisa, Fit, Sent, Unread}
 use Rattle.rinex_write.specs.declared.columns.Column.{Column}
 use Rattle.rinex_write.specs.Accuracies.{health_of}
 use Rattle.rinex_write.specs.Columns.{IsField, AreFields, joined_rows}
@@ -45,6 +45,7 @@ again (Plain (negsuc l) high) z = z
 again (OrZero (pos l) high) z = pos (unsigned_abs z)
 again (OrZero (negsuc l) high) z = z
 again (OrLeast low high) z = z
+again (OrUnknown low high) z = z
 again Ura z = pos (unsigned_abs z)
 again Sisa z = pos (unsigned_abs z)
 again Fit z = pos (unsigned_abs z)
@@ -74,6 +75,7 @@ again_same (Plain (negsuc l) high) z h = refl
 again_same (OrZero (pos l) high) z h = natural_same z (omega (arith, ints, h.0))
 again_same (OrZero (negsuc l) high) z h = refl
 again_same (OrLeast low high) z h = refl
+again_same (OrUnknown low high) z h = refl
 again_same Ura z h = natural_same z h.0
 again_same Sisa z h = natural_same z (sisa_low z h)
 again_same Fit z h = natural_same z h.0

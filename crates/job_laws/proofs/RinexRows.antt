@@ -5,14 +5,14 @@ use Rattle.scaled_decimal.specs.ScaleValue.{size_of, AreWithin, IsScale}
 use Rattle.scaled_decimal.specs.declared.scales.Scale.{Scale}
 use Rattle.scaled_decimal.proofs.Surface.{is_scale}
 use Rattle.rinex_write.specs.declared.columns.Rule.{Rule}
-use Rattle.rinex_write.specs.declared.columns.Rule.TheVariants.{Plain, OrZero, OrLeast, Ura, Sisa, Fit, Sent, Unread}
+use Rattle.rinex_write.specs.declared.columns.Rule.TheVariants.{Plain, OrZero, OrLeast, OrUnknown, Ura, Sisa, Fit, Sent, Unread}
 use Rattle.rinex_write.specs.declared.columns.Column.{Column}
 use Rattle.rinex_write.specs.Columns.{AreFields, joined_rows, is_near_scale}
 use Rattle.rinex_read.specs.Lines.{columns}
 use Rattle.rinex_read.specs.Fields.{◌>>=◌, field_at, read_row, read_rows}
 use Rattle.job_laws.specs.RinexRecords.{Encodes, Has, HasFields}
 use Rattle.job_laws.proofs.RinexTexts.{bound, go_on}
-use Rattle.job_laws.proofs.RinexFields.{Seen, HasBlank, le_from, taken-says, says-read, says-field}
+use Rattle.job_laws.proofs.RinexFields.{Seen, HasBlank, le_from, field-says, says-read, says-field}
 
 -- from offset a on each column says its field
 abbrev pub RowSays : List Column → ℕ → List ℕ → List ℤ → Type 0
@@ -62,6 +62,7 @@ blank_by (OrZero low high) h =
     let both = and_parts (int_le low (pos 0)) (int_le (pos 0) high) h in
     (le_from low (pos 0) both.0, le_from (pos 0) high both.1)
 blank_by (OrLeast low high) h = le_from low high h
+blank_by (OrUnknown low high) h = tt
 blank_by Ura h = tt
 blank_by Sisa h = tt
 blank_by Fit h = tt
@@ -109,7 +110,7 @@ row-says laws (c ∷ cs) a line zs usual h =
     let first = bound (field_at c a line) (λ z. read_row cs (a + 19) line >>= λ ws. Ok (z ∷ ws)) zs h in
     let rest = bound (read_row cs (a + 19) line) (λ ws. Ok (first.value ∷ ws)) zs first.rest in
     let is : first.value ∷ rest.value ≡ zs = cc in
-    let own = taken-says laws c.rule (size_of c.scale) (columns a 19 line) first.value (near_scale c.scale usual.0) first.is in
+    let own = field-says laws c.rule (size_of c.scale) (columns a 19 line) first.value (near_scale c.scale usual.0) first.is in
     let others = row-says laws cs (a + 19) line rest.value usual.2 rest.is in
     subst (λ ws. RowSays (c ∷ cs) a line ws × AreFields (c ∷ cs) ws) is
     ((own, others.0), (says-field c.rule (size_of c.scale) (columns a 19 line) first.value usual.1 own, others.1))

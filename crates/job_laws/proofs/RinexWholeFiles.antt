@@ -6,9 +6,10 @@ use Rattle.rinex_read.specs.declared.judged.Judged.TheVariants as judgments
 use Rattle.rinex_read.specs.declared.judged.ItemRead.{ItemRead}
 use Rattle.rinex_read.specs.declared.judged.HeaderFault.{HeaderFault}
 use Rattle.rinex_read.specs.Lines.{columns, lines_of}
-use Rattle.rinex_read.specs.Forms.{Form, begins, rinex4}
-use Rattle.rinex_read.specs.Form3.{rinex3}
-use Rattle.rinex_read.specs.Files.{Body, header_of, up_to_next, read_at, reads, reads_behind, file_reads, items_of}
+use Rattle.rinex_read.specs.Judging.{judged}
+use Rattle.rinex_read.specs.Forms.{Form, begins, read_at, rinex4}
+use Rattle.rinex_read.specs.Form3.{judged3, rinex3}
+use Rattle.rinex_read.specs.Files.{Body, header_of, up_to_next, reads, reads_behind, file_reads, items_of}
 use Rattle.job_laws.specs.RinexRecords.{IsRecord3}
 use Rattle.job_laws.specs.RinexFiles.{NoneBegin, AreBegun, joined, AreOf, IsFile, IsTitled}
 use Rattle.job_laws.proofs.RinexFields.{Seen}
@@ -17,11 +18,13 @@ use Rattle.job_laws.proofs.RinexRecords3.{judged3-says, judged3-reads}
 use Rattle.job_laws.proofs.RinexHeaders.{Decides, header-says, header-reads}
 
 -- the format is that of the relation
-pub record Agrees (f : Form) (Begins : List ℕ → Type 0) (IsOf : List (List ℕ) → NavItem → Type 0) : Type 0 where
+pub record Agrees (f : Form ItemRead) (Begins : List ℕ → Type 0) (IsOf : List (List ℕ) → NavItem → Type 0) : Type 0 where
+  pub judge : List (List ℕ) → Judged
+  pub is : (n : ℕ) (lines : List (List ℕ)) → f.judged n lines ≡ read_at n (judge lines)
   pub begun : (l : List ℕ) → begins f l ≡ true → Begins l
   pub marked : (l : List ℕ) → Begins l → begins f l ≡ true
-  pub says : (l : List ℕ) (ls : List (List ℕ)) (item : NavItem) → begins f l ≡ true → f.judged (l ∷ ls) ≡ judgments.Item item → IsOf (l ∷ ls) item
-  pub gives : (l : List ℕ) (ls : List (List ℕ)) (item : NavItem) → IsOf (l ∷ ls) item → f.judged (l ∷ ls) ≡ judgments.Item item
+  pub says : (l : List ℕ) (ls : List (List ℕ)) (item : NavItem) → begins f l ≡ true → judge (l ∷ ls) ≡ judgments.Item item → IsOf (l ∷ ls) item
+  pub gives : (l : List ℕ) (ls : List (List ℕ)) (item : NavItem) → IsOf (l ∷ ls) item → judge (l ∷ ls) ≡ judgments.Item item
 
 -- the items of a record that is read, before others
 abbrev with_item : Judged → List NavItem → List NavItem
@@ -35,15 +38,15 @@ with_read n (judgments.Refused reason) rs = refl
 with_read n judgments.PassedOver rs = refl
 
 -- the records of the lines, behind those that begin none
-record Parts (f : Form) (Begins : List ℕ → Type 0) (IsOf : List (List ℕ) → NavItem → Type 0) (n : ℕ) (lines : List (List ℕ)) : Type 0 where
+record Parts (f : Form ItemRead) (Begins : List ℕ → Type 0) (IsOf : List (List ℕ) → NavItem → Type 0) (n : ℕ) (lines : List (List ℕ)) : Type 0 where
   pub records : List (List (List ℕ))
   pub lines_are : lines ≡ up_to_next f lines ++ joined records
   pub none : NoneBegin Begins (up_to_next f lines)
   pub begun : AreBegun Begins records
   pub of : AreOf IsOf records (items_of (reads f n lines))
 
-module _ {f : Form} {Begins : List ℕ → Type 0} {IsOf : List (List ℕ) → NavItem → Type 0} where
-  judged_of : Agrees f Begins IsOf → (l : List ℕ) (ls : List (List ℕ)) (rs : List (List (List ℕ))) (items : List NavItem) (j : Judged) → begins f l ≡ true → f.judged (l ∷ ls) ≡ j → AreOf IsOf rs items
+module _ {f : Form ItemRead} {Begins : List ℕ → Type 0} {IsOf : List (List ℕ) → NavItem → Type 0} where
+  judged_of : (law : Agrees f Begins IsOf) → (l : List ℕ) (ls : List (List ℕ)) (rs : List (List (List ℕ))) (items : List NavItem) (j : Judged) → begins f l ≡ true → law.judge (l ∷ ls) ≡ j → AreOf IsOf rs items
       → AreOf IsOf ((l ∷ ls) ∷ rs) (with_item j items)
   judged_of law l ls rs items (judgments.Item item) first e of = inl (item, items, refl, law.says l ls item first e, of)
   judged_of law l ls rs items (judgments.Refused reason) first e of =
@@ -58,20 +61,21 @@ module _ {f : Form} {Begins : List ℕ → Type 0} {IsOf : List (List ℕ) → N
       go : (b : Bool) → begins f l ≡ b → Parts f Begins IsOf (n + 1) ls → Parts f Begins IsOf n (l ∷ ls)
       go true e rest =
           let none_left : up_to_next f (l ∷ ls) ≡ [] = ap (λ b. if b then [] else l ∷ up_to_next f ls) e in
-          let read : reads f n (l ∷ ls) ≡ read_at (n + 1) (f.judged (l ∷ up_to_next f ls)) ∷ reads f (n + 1) ls =
-          ap (λ b. if b then read_at (n + 1) (f.judged (l ∷ up_to_next f ls)) ∷ reads f (n + 1) ls else reads f (n + 1) ls) e in
-          let items : items_of (reads f n (l ∷ ls)) ≡ with_item (f.judged (l ∷ up_to_next f ls)) (items_of (reads f (n + 1) ls)) =
-          ap items_of read ∙ with_read (n + 1) (f.judged (l ∷ up_to_next f ls)) (reads f (n + 1) ls) in
+          let read : reads f n (l ∷ ls) ≡ read_at (n + 1) (law.judge (l ∷ up_to_next f ls)) ∷ reads f (n + 1) ls =
+          ap (λ b. if b then f.judged (n + 1) (l ∷ up_to_next f ls) ∷ reads f (n + 1) ls else reads f (n + 1) ls) e
+          ∙ ap (λ (r : ItemRead). r ∷ reads f (n + 1) ls) (law.is (n + 1) (l ∷ up_to_next f ls)) in
+          let items : items_of (reads f n (l ∷ ls)) ≡ with_item (law.judge (l ∷ up_to_next f ls)) (items_of (reads f (n + 1) ls)) =
+          ap items_of read ∙ with_read (n + 1) (law.judge (l ∷ up_to_next f ls)) (reads f (n + 1) ls) in
           record {
             records = (l ∷ up_to_next f ls) ∷ rest.records;
             lines_are = ap (λ (xs : List (List ℕ)). l ∷ xs) rest.lines_are ∙ ap (λ (xs : List (List ℕ)). xs ++ (l ∷ (up_to_next f ls ++ joined rest.records))) (sym none_left);
             none = subst (NoneBegin Begins) (sym none_left) tt;
             begun = (law.begun l e, rest.none, rest.begun);
-            of = subst (AreOf IsOf ((l ∷ up_to_next f ls) ∷ rest.records)) (sym items) (judged_of law l (up_to_next f ls) rest.records (items_of (reads f (n + 1) ls)) (f.judged (l ∷ up_to_next f ls)) e refl rest.of);
+            of = subst (AreOf IsOf ((l ∷ up_to_next f ls) ∷ rest.records)) (sym items) (judged_of law l (up_to_next f ls) rest.records (items_of (reads f (n + 1) ls)) (law.judge (l ∷ up_to_next f ls)) e refl rest.of);
           }
       go false e rest =
           let more : up_to_next f (l ∷ ls) ≡ l ∷ up_to_next f ls = ap (λ b. if b then [] else l ∷ up_to_next f ls) e in
-          let read : reads f n (l ∷ ls) ≡ reads f (n + 1) ls = ap (λ b. if b then read_at (n + 1) (f.judged (l ∷ up_to_next f ls)) ∷ reads f (n + 1) ls else reads f (n + 1) ls) e in
+          let read : reads f n (l ∷ ls) ≡ reads f (n + 1) ls = ap (λ b. if b then f.judged (n + 1) (l ∷ up_to_next f ls) ∷ reads f (n + 1) ls else reads f (n + 1) ls) e in
           record {
             records = rest.records;
             lines_are = ap (λ (xs : List (List ℕ)). l ∷ xs) rest.lines_are ∙ ap (λ (xs : List (List ℕ)). xs ++ joined rest.records) (sym more);
@@ -95,7 +99,7 @@ module _ {f : Form} {Begins : List ℕ → Type 0} {IsOf : List (List ℕ) → N
   record_ends law [] ([] ∷ rs) none begun = absurd begun
   record_ends law [] ((l ∷ ls) ∷ rs) none begun = ap (λ b. if b then [] else l ∷ up_to_next f (ls ++ joined rs)) (law.marked l begun.0)
 
-  with_of : Agrees f Begins IsOf → (l : List ℕ) (ls : List (List ℕ)) (j : Judged) (some : List NavItem) → begins f l ≡ true → f.judged (l ∷ ls) ≡ j → ((item : NavItem) → IsOf (l ∷ ls) item → ⊥) → with_item j some ≡ some
+  with_of : (law : Agrees f Begins IsOf) → (l : List ℕ) (ls : List (List ℕ)) (j : Judged) (some : List NavItem) → begins f l ≡ true → law.judge (l ∷ ls) ≡ j → ((item : NavItem) → IsOf (l ∷ ls) item → ⊥) → with_item j some ≡ some
   with_of law l ls (judgments.Item item) some first e none = absurd (none item (law.says l ls item first e))
   with_of law l ls (judgments.Refused reason) some first e none = refl
   with_of law l ls judgments.PassedOver some first e none = refl
@@ -103,18 +107,19 @@ module _ {f : Form} {Begins : List ℕ → Type 0} {IsOf : List (List ℕ) → N
   before-read : Agrees f Begins IsOf → (before rest : List (List ℕ)) (n : ℕ) → NoneBegin Begins before → items_of (reads f n (before ++ rest)) ≡ items_of (reads f (n + length before) rest)
   before-read law [] rest n none = ap (λ (k : ℕ). items_of (reads f k rest)) (omega arith)
   before-read law (l ∷ ls) rest n none =
-      ap (λ b. items_of (if b then read_at (n + 1) (f.judged (l ∷ up_to_next f (ls ++ rest))) ∷ reads f (n + 1) (ls ++ rest) else reads f (n + 1) (ls ++ rest))) (not_begun law l none.0)
+      ap (λ b. items_of (if b then f.judged (n + 1) (l ∷ up_to_next f (ls ++ rest)) ∷ reads f (n + 1) (ls ++ rest) else reads f (n + 1) (ls ++ rest))) (not_begun law l none.0)
       ∙ before-read law ls rest (n + 1) none.1
       ∙ ap (λ (k : ℕ). items_of (reads f k rest)) (omega arith)
 
-  record-read : Agrees f Begins IsOf → (l : List ℕ) (ls : List (List ℕ)) (rs : List (List (List ℕ))) (n : ℕ) → Begins l → NoneBegin Begins ls → AreBegun Begins rs
-      → items_of (reads f n (l ∷ (ls ++ joined rs))) ≡ with_item (f.judged (l ∷ ls)) (items_of (reads f (n + 1 + length ls) (joined rs)))
+  record-read : (law : Agrees f Begins IsOf) → (l : List ℕ) (ls : List (List ℕ)) (rs : List (List (List ℕ))) (n : ℕ) → Begins l → NoneBegin Begins ls → AreBegun Begins rs
+      → items_of (reads f n (l ∷ (ls ++ joined rs))) ≡ with_item (law.judge (l ∷ ls)) (items_of (reads f (n + 1 + length ls) (joined rs)))
   record-read law l ls rs n first none begun =
       let rest = ls ++ joined rs in
-      ap (λ b. items_of (if b then read_at (n + 1) (f.judged (l ∷ up_to_next f rest)) ∷ reads f (n + 1) rest else reads f (n + 1) rest)) (law.marked l first)
-      ∙ with_read (n + 1) (f.judged (l ∷ up_to_next f rest)) (reads f (n + 1) rest)
-      ∙ ap (λ (xs : List (List ℕ)). with_item (f.judged (l ∷ xs)) (items_of (reads f (n + 1) rest))) (record_ends law ls rs none begun)
-      ∙ ap (with_item (f.judged (l ∷ ls))) (before-read law ls (joined rs) (n + 1) none)
+      ap (λ b. items_of (if b then f.judged (n + 1) (l ∷ up_to_next f rest) ∷ reads f (n + 1) rest else reads f (n + 1) rest)) (law.marked l first)
+      ∙ ap (λ (r : ItemRead). items_of (r ∷ reads f (n + 1) rest)) (law.is (n + 1) (l ∷ up_to_next f rest))
+      ∙ with_read (n + 1) (law.judge (l ∷ up_to_next f rest)) (reads f (n + 1) rest)
+      ∙ ap (λ (xs : List (List ℕ)). with_item (law.judge (l ∷ xs)) (items_of (reads f (n + 1) rest))) (record_ends law ls rs none begun)
+      ∙ ap (with_item (law.judge (l ∷ ls))) (before-read law ls (joined rs) (n + 1) none)
 
   records-read : Agrees f Begins IsOf → (rs : List (List (List ℕ))) (n : ℕ) (items : List NavItem) → AreBegun Begins rs → AreOf IsOf rs items → items_of (reads f n (joined rs)) ≡ items
   records-read law [] n items begun of = sym of
@@ -126,15 +131,15 @@ module _ {f : Form} {Begins : List ℕ → Type 0} {IsOf : List (List ℕ) → N
       ∙ sym h.2
   records-read law ((l ∷ ls) ∷ rs) n items begun (inr h) =
       record-read law l ls rs n begun.0 begun.1 begun.2
-      ∙ with_of law l ls (f.judged (l ∷ ls)) (items_of (reads f (n + 1 + length ls) (joined rs))) (law.marked l begun.0) refl h.0
+      ∙ with_of law l ls (law.judge (l ∷ ls)) (items_of (reads f (n + 1 + length ls) (joined rs))) (law.marked l begun.0) refl h.0
       ∙ records-read law rs (n + 1 + length ls) items begun.2 h.1
 
 -- what is read of a file
-header_given : (f : Form) (r : Result Body HeaderFault) (given : List ItemRead) → reads_behind f r ≡ Ok given → (body : Body) × (r ≡ Ok body) × (reads f body.number body.lines ≡ given)
+header_given : (f : Form ItemRead) (r : Result Body HeaderFault) (given : List ItemRead) → reads_behind f r ≡ Ok given → (body : Body) × (r ≡ Ok body) × (reads f body.number body.lines ≡ given)
 header_given f (Ok body) given h = (body, refl, cc)
 header_given f (Err fault) given h = absurd (cc)
 
-pub file-says : (f : Form) (V Begins : List ℕ → Type 0) (IsOf : List (List ℕ) → NavItem → Type 0) → Decides f V → Agrees f Begins IsOf → (bytes : List ℕ) (items : List NavItem) (given : List ItemRead)
+pub file-says : (f : Form ItemRead) (V Begins : List ℕ → Type 0) (IsOf : List (List ℕ) → NavItem → Type 0) → Decides f V → Agrees f Begins IsOf → (bytes : List ℕ) (items : List NavItem) (given : List ItemRead)
     → file_reads f bytes ≡ Ok given → items_of given ≡ items → IsFile V Begins IsOf (lines_of bytes) items
 file-says f V Begins IsOf decides law bytes items given h are =
     let head = header_given f (header_of f 0 (lines_of bytes)) given h in
@@ -151,7 +156,7 @@ file-says f V Begins IsOf decides law bytes items given h are =
       of = subst (AreOf IsOf parts.records) (ap items_of head.2 ∙ are) parts.of;
     }
 
-pub file-reads : (f : Form) (V Begins : List ℕ → Type 0) (IsOf : List (List ℕ) → NavItem → Type 0) → Decides f V → Agrees f Begins IsOf → (bytes : List ℕ) (items : List NavItem)
+pub file-reads : (f : Form ItemRead) (V Begins : List ℕ → Type 0) (IsOf : List (List ℕ) → NavItem → Type 0) → Decides f V → Agrees f Begins IsOf → (bytes : List ℕ) (items : List NavItem)
     → IsFile V Begins IsOf (lines_of bytes) items → (given : List ItemRead) × (file_reads f bytes ≡ Ok given) × (items_of given ≡ items)
 file-reads f V Begins IsOf decides law bytes items h =
     let body = h.body in (
@@ -164,6 +169,8 @@ file-reads f V Begins IsOf decides law bytes items h =
 
 pub agrees4 : Seen → Agrees rinex4 (λ line. columns 0 1 line ≡ codes ">") IsTitled
 agrees4 laws = record {
+  judge = judged;
+  is = λ n lines. refl;
   begun = λ l h. mark_is l h;
   marked = λ l h. mark_begins l h;
   says = λ l ls item first h. judged-says laws l ls item first h;
@@ -190,6 +197,8 @@ first_shown l never = go (get_or l 0 32 == 32) refl
 
 pub agrees3 : Seen → Agrees rinex3 (λ line. columns 0 1 line ≡ codes " " → ⊥) IsRecord3
 agrees3 laws = record {
+  judge = judged3;
+  is = λ n lines. refl;
   begun = λ l h. shown_first l h;
   marked = λ l h. first_shown l h;
   says = λ l ls item first h. judged3-says laws (l ∷ ls) item h;

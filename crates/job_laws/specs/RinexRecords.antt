@@ -21,9 +21,10 @@ use Rattle.nav_eph.specs.declared.items.IonEph.{IonEph}
 use Rattle.nav_eph.specs.declared.items.NavItem.{NavItem}
 use Rattle.nav_eph.specs.declared.items.NavItem.TheVariants.{Gps, Gal, Ion}
 use Rattle.rinex_write.specs.declared.columns.Rule.{Rule}
-use Rattle.rinex_write.specs.declared.columns.Rule.TheVariants.{Plain, OrZero, OrLeast, Ura, Sisa, Fit, Sent, Unread}
+use Rattle.rinex_write.specs.declared.columns.Rule.TheVariants.{Plain, OrZero, OrLeast, OrUnknown, Ura, Sisa, Fit, Sent, Unread}
 use Rattle.rinex_write.specs.declared.columns.Column.{Column}
 use Rattle.rinex_write.specs.Accuracies.{ura_greatest, sisa_value, health_of}
+use Rattle.rinex_write.specs.Columns.{not_known}
 use Rattle.rinex_write.specs.Fields.{sent_field}
 use Rattle.rinex_write.specs.Layouts.{gps_rows, galileo_rows, gps_ionosphere_rows, galileo_ionosphere_rows}
 use Rattle.rinex_write.specs.Texts.{letter_of, satellite_text}
@@ -93,11 +94,22 @@ pub record Means (unit : Fraction) (text : List ℕ) (low high : ℤ) (Meaning :
 abbrev pub IsBlank : List ℕ → ℤ → ℤ → Type 0
 IsBlank text z other = AreBlanks text × (z ≡ other)
 
+-- the text is a number that is not from low to high and, in units of 1, is from 999,999,999 on
+pub record IsBeyond (unit : Fraction) (text : List ℕ) (low high : ℤ) : Type 0 where
+  pub number : ℤ
+  pub text_is : StandsFor unit text number
+  pub outside : IsWithin low high number → ⊥
+  pub units : ℤ
+  pub units_are : StandsFor (size_of whole) text units
+  pub from : not_known ≤ℤ units
+
 -- the text of a column means the field z
 abbrev pub Encodes : Rule → Fraction → List ℕ → ℤ → Type 0
 Encodes (Plain low high) unit text z = Means unit text low high (λ w. z ≡ w)
 Encodes (OrZero low high) unit text z = Means unit text low high (λ w. z ≡ w) ⊎ IsBlank text z (pos 0)
 Encodes (OrLeast low high) unit text z = Means unit text low high (λ w. z ≡ w) ⊎ IsBlank text z low
+Encodes (OrUnknown low high) unit text z =
+    Means unit text low high (λ w. z ≡ w) ⊎ ((IsBeyond unit text low high × (z ≡ not_known)) ⊎ IsBlank text z not_known)
 Encodes Ura unit text z = Means unit text (negsuc 99999999) (pos 100000000) (λ w. IsUraOf w z) ⊎ IsBlank text z (pos 15)
 Encodes Sisa unit text z = Means unit text (negsuc 99999999) (pos 100000000) (λ w. IsSisaOf w z) ⊎ IsBlank text z (pos 255)
 Encodes Fit unit text z = Means unit text (pos 0) (pos 255) (λ w. IsFlagOf w z) ⊎ IsBlank text z (pos 0)

@@ -12,8 +12,6 @@ ghost use Rattle.job_laws.specs.RoundTrip.{AreReceived, AreTwoRuns, IsOfEphemeri
 ghost use Rattle.job_laws.specs.RoundTrip.{Sends, items_text};
 ghost use Rattle.job_laws.specs.Written.{IsWritten};
 
-use rinex_read::{Rinex3, Rinex4};
-
 /// A navigation file that is accepted is written as a capture, and what is received of its lines is
 /// converted back to the text of the items that were sent, in RINEX, RINEX 3 or RTCM: where lines
 /// were lost, or late, and each part is still received; or if they came in another order or
@@ -42,8 +40,7 @@ pub fn a_sent_file_comes_back()
         → IsHeardAgain sent.lines received.lines → text ≡ items_text to (sent_items r items) }
 {
     bridge_engine::words_give_one_job();
-    rinex_read::listed_items_are_whole::<Rinex4>();
-    rinex_read::listed_items_are_whole::<Rinex3>();
+    rinex_read::listed_items_are_whole();
     nav_laws::what_is_sent_is_heard();
     nav_laws::what_is_sent_comes_back();
 }

@@ -61,7 +61,17 @@ const GLONASS: &[u8] = b"\xd3\x00\x2d\x3f\xc0\x51\xa4\xa6\x93\x26\x19\x75\x2f\xd
     \xce\xb8\xba\x77\x8f\x91\x9b\x92\xc9\x42\xcf\xea\x51\x80\x4c\x0a\x1b\
     \x9f\xc0\x20\x04\x80\x00\x00\x00\x00\x02\x00\x00\x00\x00\xc6\xeb\x39";
 
-static CASES: [Case; 8] = [
+// A navigation file with the ephemeris of that message.
+const GLONASS_FILE: &[u8] = b"\
+    \x20    3.05           N: GNSS NAV DATA    M: MIXED            RINEX VERSION / TYPE\n\
+    \x20                                                           END OF HEADER\n\
+    R01 2024 01 02 01 45 00-7.711630314589D-05 3.637978807092D-12 1.788900000000D+05\n\
+    \x20    1.224368847656D+04 2.381215095520D+00 0.000000000000D+00 0.000000000000D+00\n\
+    \x20   -1.496756054688D+04 9.879684448242D-01-9.313225746155D-10 1.000000000000D+00\n\
+    \x20    1.710391503906D+04-1.723336219788D+00-9.313225746155D-10 0.000000000000D+00\n\
+    \x20    1.830000000000D+02-1.396983861923D-08 2.000000000000D+00 3.000000000000D+00\n";
+
+static CASES: [Case; 9] = [
     Case {
         name: "a capture",
         bytes: Some(CAPTURE),
@@ -102,6 +112,17 @@ static CASES: [Case; 8] = [
         week: Some(2295),
         old: None,
         new: Some(b"1 EPH R01 FDMA 2295 179100\n"),
+        end: End::Done,
+        fails: false,
+        status: 0,
+    },
+    Case {
+        name: "a navigation file of GLONASS",
+        bytes: Some(GLONASS_FILE),
+        target: Target::List,
+        week: None,
+        old: None,
+        new: Some(b"3 EPH R01 FDMA 2295 179100\n"),
         end: End::Done,
         fails: false,
         status: 0,
@@ -228,6 +249,7 @@ fn ends_so(alloc: Global, case: &Case) -> Result<bool, Fail> {
         clock_week,
         header,
         kinds: Kinds::all(),
+        merges: false,
     };
     let mut folder = folder_of(alloc, case)?;
     let observers = observers(alloc)?;
@@ -290,6 +312,7 @@ fn source_ends_so(
         clock_week,
         header,
         kinds: Kinds::all(),
+        merges: false,
     };
     let observers = observers(alloc)?;
     let source = source_of(alloc, fails)?;

@@ -7,7 +7,7 @@ use Rattle.std.proofs.KnownBytes.{Appends-trans}
 use Rattle.std.proofs.lemmas.Grind.{flat_map-append}
 use Rattle.nav_io.specs.Prefix.{AppendsPrefix, IsPrefix}
 use Rattle.one_run.specs.Runs.{AppendsBetween}
-use Rattle.one_run.proofs.Surface.{prefix_after, prefix_behind, prefix_more, prefix_same}
+use Rattle.one_run.proofs.Surface.{between_behind, prefix_same}
 
 -- the texts of elements with one more
 pub texts_more : {X : Type 0} (text : X → List ℕ) (xs : List X) (x : X) → flat_map text (xs ++ x ∷ []) ≡ flat_map text xs ++ text x
@@ -21,24 +21,7 @@ pub grew_more : {X : Type 0} (prefix : List ℕ) (text : X → List ℕ) (xs : L
     → Appends start w (prefix ++ flat_map text xs) → Appends w w1 (text x) → Appends start w1 (prefix ++ flat_map text (xs ++ x ∷ []))
 grew_more prefix text xs x start w w1 so_far more = subst (Appends start w1) (sym (behind prefix text xs x)) (Appends-trans start w w1 _ _ so_far more)
 
-pub grew_prefix : {X : Type 0} (prefix : List ℕ) (text : X → List ℕ) (xs : List X) (x : X) (start w w1 : Option (List ℕ))
-    → Appends start w (prefix ++ flat_map text xs) → AppendsPrefix w w1 (text x) → AppendsPrefix start w1 (prefix ++ flat_map text (xs ++ x ∷ []))
-grew_prefix prefix text xs x start w w1 so_far more = subst (AppendsPrefix start w1) (sym (behind prefix text xs x)) (prefix_behind start w w1 _ _ so_far more)
-
 -- ---- between what was written and all of it
-
--- a prefix behind what was written
-pub between_behind : (start w w1 : Option (List ℕ)) (some more : List ℕ) → Appends start w some → AppendsPrefix w w1 more → AppendsBetween start w1 some (some ++ more)
-between_behind start w w1 some more whole (prefix, within, grew) = record {
-  prefix = some ++ prefix;
-  within = prefix_after some prefix more within;
-  no_less = prefix_more some prefix;
-  grew = Appends-trans start w w1 some prefix whole grew;
-}
-
--- all of it, where no more is to be written
-pub between_same : (start w : Option (List ℕ)) (text : List ℕ) → Appends start w text → AppendsBetween start w text text
-between_same start w text whole = record { prefix = text; within = prefix_same text; no_less = prefix_same text; grew = whole }
 
 -- all of a longer text
 pub between_all : (start w : Option (List ℕ)) (some text : List ℕ) → IsPrefix some text → Appends start w text → AppendsBetween start w some text

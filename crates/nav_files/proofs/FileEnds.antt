@@ -15,12 +15,11 @@ use Rattle.rinex_read.specs.States.{AreEarly, NearSteps, RecordsState, Steps, He
 use Rattle.rinex_read.specs.declared.judged.HeaderState.{HeaderState}
 use Rattle.rinex_read.specs.declared.judged.HeaderState.TheVariants.{NotRinexNav, OtherVersion, Passed}
 use Rattle.rinex_read.specs.declared.judged.HeaderFault.{HeaderFault}
-use Rattle.rinex_read.specs.declared.judged.ItemRead.{ItemRead}
 use Rattle.one_run.specs.declared.fault.BridgeFault.{BridgeFault}
 use Rattle.one_run.specs.declared.fault.BridgeFault.TheVariants.{ReadFault, WriteFault, ReportFault, NotThisForm, TooLong, NoMemory}
 use Rattle.one_run.specs.Causes.{Faults, HasItsCause, faults_of}
 use Rattle.one_run.specs.Runs.{AppendsBetween, Broke, Done, IsAheadOf, Leaves, Meaning, Says, World, faults_in}
-use Rattle.one_run.proofs.Surface.{ahead_at_end, ahead_by, between, no_prefix, none_failed, nothing_ahead, nothing_told, prefix_nil, prefix_of, prefix_trans, prefix_within, read_failed, report_failed, taken_all, with_rest, write_failed}
+use Rattle.one_run.proofs.Surface.{ahead_at_end, ahead_by, between, between_within, no_prefix, none_failed, nothing_ahead, nothing_told, prefix_nil, prefix_of, prefix_trans, prefix_within, read_failed, report_failed, taken_all, with_rest, write_failed}
 use Rattle.nav_files.specs.Files.{counted_in, file_meaning, text_before, text_in}
 use Rattle.nav_files.specs.Mirrors.{HeaderFaultOf, NoHeader}
 use Rattle.nav_files.specs.Taken.{AtEnd}
@@ -87,7 +86,7 @@ no_end : (s : RecordsState) → s.lines.ended ≡ false → s.lines.ended ≡ tr
 no_end s more ended = cc
 
 -- what is left may come
-rest_comes : (f : Form) (left left_new : Option (List ℕ)) (s0 s1 : RecordsState) → IsNew s0 → (steps : HeaderSteps f left left_new s0 s1)
+rest_comes : {R : Type 0} (f : Form R) (left left_new : Option (List ℕ)) (s0 s1 : RecordsState) → IsNew s0 → (steps : HeaderSteps f left left_new s0 s1)
     → (rest : List ℕ) → left_new ≡ Some rest → MayCome s1 rest
 rest_comes f left left_new s0 s1 new steps rest is ended = at_end (steps.reads.at_end ended) where
   at_end : (s0.lines.ended ≡ true) ⊎ IsAtEnd left_new → rest ≡ []
@@ -95,26 +94,26 @@ rest_comes f left left_new s0 s1 new steps rest is ended = at_end (steps.reads.a
   at_end (inr end) = subst IsAtEnd is end
 
 -- what is read of all bytes, and of those that were taken
-all_reads : (f : Form) (left left_new : Option (List ℕ)) (s0 s1 : RecordsState) (P : Result (List ItemRead) HeaderFault → Type 0)
+all_reads : {R : Type 0} (f : Form R) (left left_new : Option (List ℕ)) (s0 s1 : RecordsState) (P : Result (List R) HeaderFault → Type 0)
     → Begins f → IsNew s0 → HeaderSteps f left left_new s0 s1 → ((following : List ℕ) → P (file_to_come f s1 following)) → IfSome left (λ bytes. P (file_reads f bytes))
 all_reads f left left_new s0 s1 P begins new steps each =
     with_rest left left_new steps.reads.taken (λ bytes. P (file_reads f bytes)) steps.reads.consumes
     (λ rest is. subst P (sym (steps.stream rest (rest_comes f left left_new s0 s1 new steps rest is)) ∙ begins s0 (steps.reads.taken ++ rest) new) (each rest))
 
-taken_reads : (f : Form) (left left_new : Option (List ℕ)) (s0 s1 : RecordsState) (P : Result (List ItemRead) HeaderFault → Type 0)
+taken_reads : {R : Type 0} (f : Form R) (left left_new : Option (List ℕ)) (s0 s1 : RecordsState) (P : Result (List R) HeaderFault → Type 0)
     → Begins f → IsNew s0 → (steps : HeaderSteps f left left_new s0 s1) → ((following : List ℕ) → P (file_to_come f s1 following)) → P (file_reads f steps.reads.taken)
 taken_reads f left left_new s0 s1 P begins new steps each =
     subst P (sym (steps.stream [] (λ ended. refl)) ∙ begins s0 (steps.reads.taken ++ []) new ∙ ap (file_reads f) (append-nil steps.reads.taken)) (each [])
 
 -- the header is accepted
-accepted : {C : Type 0} (f : Form) (count : List ItemRead → C) (left left_new : Option (List ℕ)) (s0 s1 : RecordsState) → Begins f → IsNew s0
+accepted : {C R : Type 0} (f : Form R) (count : List R → C) (left left_new : Option (List ℕ)) (s0 s1 : RecordsState) → Begins f → IsNew s0
     → PassesHeader f left left_new s0 s1 → IfSome left (λ bytes. IsSome (counted_in count (file_reads f bytes)))
 accepted f count left left_new s0 s1 begins new header =
     all_reads f left left_new s0 s1 (λ r. IsSome (counted_in count r)) begins new header.steps
     (λ following. subst (λ (h : HeaderState). IsSome (counted_in count (file_by f h s1 (told_lines (s1.lines.rest ++ following))))) (sym header.header) refl)
 
 -- it is refused
-refused : {C : Type 0} (f : Form) (count : List ItemRead → C) (s : RecordsState) → (s.header ≡ NotRinexNav) ⊎ (s.header ≡ OtherVersion)
+refused : {C R : Type 0} (f : Form R) (count : List R → C) (s : RecordsState) → (s.header ≡ NotRinexNav) ⊎ (s.header ≡ OtherVersion)
     → (following : List ℕ) → counted_in count (file_to_come f s following) ≡ None
 refused f count s (inl is) following = subst (λ (h : HeaderState). counted_in count (file_by f h s (told_lines (s.lines.rest ++ following))) ≡ None) (sym is) refl
 refused f count s (inr is) following = subst (λ (h : HeaderState). counted_in count (file_by f h s (told_lines (s.lines.rest ++ following))) ≡ None) (sym is) refl
@@ -135,12 +134,12 @@ reading m b a reads reports = record {
     never is some none = cc
 
 -- where a read failed, exactly what the records give that are whole in the bytes was written and reported
-abbrev Flushed : {S T U : Type 0} → Form → (List ItemRead → List ℕ) → (List ItemRead → List ℕ) → List ℕ → World S T U → World S T U → BridgeFault → Type 0
+abbrev Flushed : {R S T U : Type 0} → Form R → (List R → List ℕ) → (List R → List ℕ) → List ℕ → World S T U → World S T U → BridgeFault → Type 0
 Flushed f wrote tells taken b a fault =
     fault ≡ ReadFault → Appends b.written a.written (text_in wrote (whole_reads f taken)) × Appends b.reported a.reported (text_in tells (whole_reads f taken))
 
 -- in the header there is none
-flushed_header : {S T U : Type 0} (f : Form) (wrote tells : List ItemRead → List ℕ) (b a : World S T U) (s0 s1 : RecordsState) (fault : BridgeFault) → Opens f → IsNew s0
+flushed_header : {R S T U : Type 0} (f : Form R) (wrote tells : List R → List ℕ) (b a : World S T U) (s0 s1 : RecordsState) (fault : BridgeFault) → Opens f → IsNew s0
     → (steps : HeaderSteps f b.left a.left s0 s1) → HeaderFaultOf fault s1 → a.written ≡ b.written → a.reported ≡ b.reported → Flushed f wrote tells steps.reads.taken b a fault
 flushed_header f wrote tells b a s0 s1 fault opens new steps by written reported is =
     let broke = subst (λ (x : BridgeFault). HeaderFaultOf x s1) is by in
@@ -152,7 +151,7 @@ flushed_header f wrote tells b a s0 s1 fault opens new steps by written reported
     )
 
 -- after the header these records are complete
-flushed_file : {S T U : Type 0} (f : Form) (wrote tells : List ItemRead → List ℕ) (b a : World S T U) (l1 : Option (List ℕ)) (s0 s1 s2 : RecordsState) (given : List ItemRead) (fault : BridgeFault)
+flushed_file : {R S T U : Type 0} (f : Form R) (wrote tells : List R → List ℕ) (b a : World S T U) (l1 : Option (List ℕ)) (s0 s1 s2 : RecordsState) (given : List R) (fault : BridgeFault)
     → Wholes f → IsNew s0 → (header : PassesHeader f b.left l1 s0 s1) → (steps : Steps f l1 a.left s1 s2 given)
     → (fault ≡ ReadFault → IsPaused s2 × Appends b.written a.written (wrote given) × Appends b.reported a.reported (tells given))
     → Flushed f wrote tells (header.steps.reads.taken ++ steps.reads.taken) b a fault
@@ -163,7 +162,7 @@ flushed_file f wrote tells b a l1 s0 s1 s2 given fault wholes new header steps e
       subst (λ r. Appends b.reported a.reported (text_in tells r)) (sym whole) all.2,
     )
 
-says_header : {C S T U : Type 0} (f : Form) (memory : Bool) (wrote tells output report : List ItemRead → List ℕ) (count : List ItemRead → C) (b a : World S T U) (s0 s1 : RecordsState) (fault : BridgeFault)
+says_header : {C R S T U : Type 0} (f : Form R) (memory : Bool) (wrote tells output report : List R → List ℕ) (count : List R → C) (b a : World S T U) (s0 s1 : RecordsState) (fault : BridgeFault)
     → Begins f → IsNew s0 → (steps : HeaderSteps f b.left a.left s0 s1) → HeaderFaultOf fault s1
     → (fault ≡ ReadFault → Rose b.reads_failed a.reads_failed) → (IsTrue b.never_fails → fault ≡ ReadFault → ⊥) → a.output ≡ b.output → a.report ≡ b.report
     → Flushed f wrote tells steps.reads.taken b a fault
@@ -190,15 +189,6 @@ not_passed WriteFault s by is = absurd by
 not_passed ReportFault s by is = absurd by
 not_passed NoMemory s by is = absurd by
 
--- between texts that have one another as prefixes
-between_within : (w w1 : Option (List ℕ)) (least some more whole : List ℕ) → IsPrefix least some → IsPrefix more whole → AppendsBetween w w1 some more → AppendsBetween w w1 least whole
-between_within w w1 least some more whole low high b = record {
-  prefix = b.prefix;
-  within = prefix_trans b.prefix more whole b.within high;
-  no_less = prefix_trans least some b.prefix low b.no_less;
-  grew = b.grew;
-}
-
 -- nothing was written, and nothing is the least
 between_none : (w w1 : Option (List ℕ)) (least whole : List ℕ) → w1 ≡ w → least ≡ [] → AppendsBetween w w1 least whole
 between_none w w1 least whole same none = record {
@@ -209,7 +199,7 @@ between_none w w1 least whole same none = record {
 }
 
 -- the header is refused, or the input breaks off in it
-pub broke_header : {C S T U : Type 0} (f : Form) (memory : Bool) (wrote tells output report : List ItemRead → List ℕ) (count : List ItemRead → C) (b a : World S T U) (s0 s1 : RecordsState) (fault : BridgeFault)
+pub broke_header : {C R S T U : Type 0} (f : Form R) (memory : Bool) (wrote tells output report : List R → List ℕ) (count : List R → C) (b a : World S T U) (s0 s1 : RecordsState) (fault : BridgeFault)
     → Begins f → Opens f → NoEarlies f → IsNew s0 → NoHeader f b.left a.left s0 s1 fault
     → Cause (faults_of b.reads_failed 0 0) (faults_of a.reads_failed 0 0) fault → a.writes_failed ≡ b.writes_failed → a.reports_failed ≡ b.reports_failed
     → (IsTrue b.never_fails → fault ≡ ReadFault → ⊥)
@@ -218,11 +208,12 @@ pub broke_header : {C S T U : Type 0} (f : Form) (memory : Bool) (wrote tells ou
 broke_header f memory wrote tells output report count b a s0 s1 fault begins opens none new broken cause writes reports never out told written reported =
     let rose = header_rose fault b.reads_failed a.reads_failed cause in
     let taken = broken.steps.reads.taken in
+    let early = none b.left a.left s0 s1 new broken.steps broken.early (not_passed fault s1 broken.by) in
     let m = file_meaning f memory wrote tells output report count in record {
       taken = taken;
       consumes = broken.steps.reads.consumes;
-      text = between_none b.written a.written _ _ written (ap (text_before wrote) (none b.left a.left s0 s1 new broken.steps broken.early (not_passed fault s1 broken.by)));
-      told = subst (λ (u : Option (List ℕ)). AppendsPrefix b.reported u (text_in report (file_reads f taken))) (sym reported) (no_prefix b.reported _);
+      text = between_none b.written a.written _ _ written (ap (text_before wrote) early);
+      told = between_none b.reported a.reported _ _ reported (ap (text_before tells) early);
       ahead = nothing_ahead m.whole b.left b.written a.written b.reported a.reported written reported;
       no_counts = λ other. nothing_told m.rejections b.left b.reported a.reported reported;
       cause = header_cause b a fault s1 broken.by cause writes reports;
@@ -231,7 +222,7 @@ broke_header f memory wrote tells output report count b a s0 s1 fault begins ope
           (flushed_header f wrote tells b a s0 s1 fault opens new broken.steps broken.by written reported);
     }
 
-says_behind : {C S T U : Type 0} (f : Form) (memory : Bool) (wrote tells output report : List ItemRead → List ℕ) (count : List ItemRead → C) (b a : World S T U) (taken : List ℕ) (fault : BridgeFault)
+says_behind : {C R S T U : Type 0} (f : Form R) (memory : Bool) (wrote tells output report : List R → List ℕ) (count : List R → C) (b a : World S T U) (taken : List ℕ) (fault : BridgeFault)
     → IfSome b.left (λ bytes. IsSome (counted_in count (file_reads f bytes)))
     → Fails b a fault → (fault ≡ TooLong → length taken ≡ 2 ^ 32) → (fault ≡ NoMemory → memory ≡ true)
     → Flushed f wrote tells taken b a fault
@@ -244,25 +235,26 @@ says_behind f memory wrote tells output report count b a taken TooLong some fail
 says_behind f memory wrote tells output report count b a taken NoMemory some fails long wants flushed = (wants refl, some)
 
 -- the run breaks off after the header, once these records were read: a prefix was written and reported of what these give
-pub broke_file : {C S T U : Type 0} (f : Form) (memory : Bool) (wrote tells output report : List ItemRead → List ℕ) (count : List ItemRead → C) (b a : World S T U) (l1 : Option (List ℕ)) (s0 s1 s2 : RecordsState)
-    (given : List ItemRead) (some text told : List ℕ) (fault : BridgeFault)
+pub broke_file : {C R S T U : Type 0} (f : Form R) (memory : Bool) (wrote tells output report : List R → List ℕ) (count : List R → C) (b a : World S T U) (l1 : Option (List ℕ)) (s0 s1 s2 : RecordsState)
+    (given : List R) (some text few told : List ℕ) (fault : BridgeFault)
     → Begins f → IsNew s0 → (header : PassesHeader f b.left l1 s0 s1) → (steps : Steps f l1 a.left s1 s2 given)
     → IsPrefix (text_before wrote (early_reads f (header.steps.reads.taken ++ steps.reads.taken))) some
+    → IsPrefix (text_before tells (early_reads f (header.steps.reads.taken ++ steps.reads.taken))) few
     → AppendsBetween b.written a.written some text → IsPrefix text (output (given ++ records_to_come f s2 []))
-    → AppendsPrefix b.reported a.reported told → IsPrefix told (report (given ++ records_to_come f s2 []))
+    → AppendsBetween b.reported a.reported few told → IsPrefix told (report (given ++ records_to_come f s2 []))
     → ((fault ≡ ReportFault → ⊥) → IfSome b.left (λ bytes. AppendsPrefix b.reported a.reported (text_in tells (file_reads f bytes))))
     → IsAheadOf (file_meaning f memory wrote tells output report count).whole b.left b.written a.written b.reported a.reported
     → Fails b a fault → (fault ≡ TooLong → s2.lines.taken ≡ 2 ^ 32) → (fault ≡ NoMemory → memory ≡ true)
     → Flushed f wrote tells (header.steps.reads.taken ++ steps.reads.taken) b a fault
     → Broke (file_meaning f memory wrote tells output report count) b a fault
-broke_file f memory wrote tells output report count b a l1 s0 s1 s2 given some text told fault begins new header steps least written text_is reported told_is early ahead fails long wants flushed =
+broke_file f memory wrote tells output report count b a l1 s0 s1 s2 given some text few told fault begins new header steps least least_told written text_is reported told_is early ahead fails long wants flushed =
     let m = file_meaning f memory wrote tells output report count in
     let is = file_prefix f b.left l1 a.left s0 s1 s2 given begins new header steps in
     let taken = header.steps.reads.taken ++ steps.reads.taken in record {
       taken = taken;
       consumes = Consumes-trans b.left l1 a.left _ _ header.steps.reads.consumes steps.reads.consumes;
       text = between_within b.written a.written _ some text _ least (subst (λ r. IsPrefix text (text_in output r)) (sym is) text_is) written;
-      told = prefix_within b.reported a.reported told _ (subst (λ r. IsPrefix told (text_in report r)) (sym is) told_is) reported;
+      told = between_within b.reported a.reported _ few told _ least_told (subst (λ r. IsPrefix told (text_in report r)) (sym is) told_is) reported;
       ahead = ahead;
       no_counts = early;
       cause = fails.cause;
@@ -272,7 +264,7 @@ broke_file f memory wrote tells output report count b a l1 s0 s1 s2 given some t
     }
 
 -- the records of all bytes, where these are left
-file_rest : (f : Form) (left l1 l2 : Option (List ℕ)) (s0 s1 s2 : RecordsState) (given : List ItemRead)
+file_rest : {R : Type 0} (f : Form R) (left l1 l2 : Option (List ℕ)) (s0 s1 s2 : RecordsState) (given : List R)
     → Begins f → IsNew s0 → (header : PassesHeader f left l1 s0 s1) → (steps : Steps f l1 l2 s1 s2 given) → (rest : List ℕ) → l2 ≡ Some rest
     → file_reads f ((header.steps.reads.taken ++ steps.reads.taken) ++ rest) ≡ Ok (given ++ records_to_come f s2 rest)
 file_rest f left l1 l2 s0 s1 s2 given begins new header steps rest is =
@@ -281,9 +273,9 @@ file_rest f left l1 l2 s0 s1 s2 given begins new header steps rest is =
     (λ ended. subst IsAtEnd is (ends_there f left l1 l2 s0 s1 s2 given new header steps ended))
 
 -- whatever records follow those that were read, a prefix was reported of what all give
-file_told : (f : Form) (tells : List ItemRead → List ℕ) (left l1 l2 u u1 : Option (List ℕ)) (s0 s1 s2 : RecordsState) (given : List ItemRead) (told : List ℕ)
+file_told : {R : Type 0} (f : Form R) (tells : List R → List ℕ) (left l1 l2 u u1 : Option (List ℕ)) (s0 s1 s2 : RecordsState) (given : List R) (told : List ℕ)
     → Begins f → IsNew s0 → (header : PassesHeader f left l1 s0 s1) → (steps : Steps f l1 l2 s1 s2 given)
-    → AppendsPrefix u u1 told → ((more : List ItemRead) → IsPrefix told (tells (given ++ more)))
+    → AppendsPrefix u u1 told → ((more : List R) → IsPrefix told (tells (given ++ more)))
     → IfSome left (λ bytes. AppendsPrefix u u1 (text_in tells (file_reads f bytes)))
 file_told f tells left l1 l2 u u1 s0 s1 s2 given told begins new header steps reported told_is =
     with_rest left l2 (header.steps.reads.taken ++ steps.reads.taken) _ (Consumes-trans left l1 l2 _ _ header.steps.reads.consumes steps.reads.consumes)
@@ -291,11 +283,11 @@ file_told f tells left l1 l2 u u1 s0 s1 s2 given told begins new header steps re
     (subst (λ r. IsPrefix told (text_in tells r)) (sym (file_rest f left l1 l2 s0 s1 s2 given begins new header steps rest is)) (told_is (records_to_come f s2 rest))) reported)
 
 -- and a prefix was written
-file_ahead : {C S T U : Type 0} (f : Form) (memory : Bool) (wrote tells output report : List ItemRead → List ℕ) (count : List ItemRead → C) (b a : World S T U) (l1 : Option (List ℕ)) (s0 s1 s2 : RecordsState)
-    (given : List ItemRead) (text told : List ℕ)
+file_ahead : {C R S T U : Type 0} (f : Form R) (memory : Bool) (wrote tells output report : List R → List ℕ) (count : List R → C) (b a : World S T U) (l1 : Option (List ℕ)) (s0 s1 s2 : RecordsState)
+    (given : List R) (text told : List ℕ)
     → Begins f → IsNew s0 → (header : PassesHeader f b.left l1 s0 s1) → (steps : Steps f l1 a.left s1 s2 given)
-    → AppendsPrefix b.written a.written text → ((more : List ItemRead) → IsPrefix text (output (given ++ more)))
-    → AppendsPrefix b.reported a.reported told → ((more : List ItemRead) → IsPrefix told (report (given ++ more)))
+    → AppendsPrefix b.written a.written text → ((more : List R) → IsPrefix text (output (given ++ more)))
+    → AppendsPrefix b.reported a.reported told → ((more : List R) → IsPrefix told (report (given ++ more)))
     → IsAheadOf (file_meaning f memory wrote tells output report count).whole b.left b.written a.written b.reported a.reported
 file_ahead f memory wrote tells output report count b a l1 s0 s1 s2 given text told begins new header steps written text_is reported told_is =
     ahead_by (file_meaning f memory wrote tells output report count).whole b.left a.left b.written a.written b.reported a.reported (header.steps.reads.taken ++ steps.reads.taken)
@@ -308,70 +300,74 @@ file_ahead f memory wrote tells output report count b a l1 s0 s1 s2 given text t
     ))
 
 -- what is written grows with the records
-abbrev pub Grows : (List ItemRead → List ℕ) → Type 0
-Grows text = (some more : List ItemRead) → IsPrefix (text some) (text (some ++ more))
+abbrev pub Grows : {R : Type 0} → (List R → List ℕ) → Type 0
+Grows text = (some more : List _) → IsPrefix (text some) (text (some ++ more))
 
 -- the same, where all was written before the last of the records; and where a read failed all of it was written and reported
-pub broke_taken : {C S T U : Type 0} (f : Form) (memory : Bool) (wrote tells output report : List ItemRead → List ℕ) (count : List ItemRead → C) (b a : World S T U) (l1 : Option (List ℕ)) (s0 s1 s2 : RecordsState)
-    (given : List ItemRead) (text told : List ℕ) (fault : BridgeFault)
-    → Begins f → Wholes f → Earlies f → Grows wrote → IsNew s0 → PassesHeader f b.left l1 s0 s1 → (steps : Steps f l1 a.left s1 s2 given) → AreEarly s1.lines steps.reads.taken steps.lines
-    → AppendsBetween b.written a.written (wrote (but_last given)) text → ((more : List ItemRead) → IsPrefix text (output (given ++ more)))
-    → AppendsPrefix b.reported a.reported told → ((more : List ItemRead) → IsPrefix told (report (given ++ more))) → ((more : List ItemRead) → IsPrefix told (tells (given ++ more)))
+pub broke_taken : {C R S T U : Type 0} (f : Form R) (memory : Bool) (wrote tells output report : List R → List ℕ) (count : List R → C) (b a : World S T U) (l1 : Option (List ℕ)) (s0 s1 s2 : RecordsState)
+    (given : List R) (text told : List ℕ) (fault : BridgeFault)
+    → Begins f → Wholes f → Earlies f → Grows wrote → Grows tells → IsNew s0 → PassesHeader f b.left l1 s0 s1 → (steps : Steps f l1 a.left s1 s2 given) → AreEarly s1.lines steps.reads.taken steps.lines
+    → AppendsBetween b.written a.written (wrote (but_last given)) text → ((more : List R) → IsPrefix text (output (given ++ more)))
+    → AppendsBetween b.reported a.reported (tells (but_last given)) told → ((more : List R) → IsPrefix told (report (given ++ more))) → ((more : List R) → IsPrefix told (tells (given ++ more)))
     → Fails b a fault → (fault ≡ TooLong → s2.lines.taken ≡ 2 ^ 32) → (fault ≡ NoMemory → memory ≡ true)
     → (fault ≡ ReadFault → IsPaused s2 × Appends b.written a.written (wrote given) × Appends b.reported a.reported (tells given))
     → Broke (file_meaning f memory wrote tells output report count) b a fault
-broke_taken f memory wrote tells output report count b a l1 s0 s1 s2 given text told fault begins wholes earlies grows new header steps early written text_is reported told_is tells_is fails long wants exact =
-    broke_file f memory wrote tells output report count b a l1 s0 s1 s2 given (wrote (but_last given)) text told fault begins new header steps
-    (least_before wrote grows given _ (earlies b.left l1 a.left s0 s1 s2 given new header steps early)) written (text_is _) reported (told_is _)
-    (λ other. file_told f tells b.left l1 a.left b.reported a.reported s0 s1 s2 given told begins new header steps reported tells_is)
-    (file_ahead f memory wrote tells output report count b a l1 s0 s1 s2 given text told begins new header steps (prefix_of b.written a.written _ text written) text_is reported told_is) fails long wants
+broke_taken f memory wrote tells output report count b a l1 s0 s1 s2 given text told fault begins wholes earlies grows more_told new header steps early written text_is reported told_is tells_is fails long wants exact =
+    let few = earlies b.left l1 a.left s0 s1 s2 given new header steps early in
+    let some_told = prefix_of b.reported a.reported _ told reported in
+    broke_file f memory wrote tells output report count b a l1 s0 s1 s2 given (wrote (but_last given)) text (tells (but_last given)) told fault begins new header steps
+    (least_before wrote grows given _ few) (least_before tells more_told given _ few) written (text_is _) reported (told_is _)
+    (λ other. file_told f tells b.left l1 a.left b.reported a.reported s0 s1 s2 given told begins new header steps some_told tells_is)
+    (file_ahead f memory wrote tells output report count b a l1 s0 s1 s2 given text told begins new header steps (prefix_of b.written a.written _ text written) text_is some_told told_is) fails long wants
     (flushed_file f wrote tells b a l1 s0 s1 s2 given fault wholes new header steps exact)
 
 -- the leading text is not written to its end
-pub broke_begin : {C S T U : Type 0} (f : Form) (memory : Bool) (wrote tells output report : List ItemRead → List ℕ) (count : List ItemRead → C) (b a : World S T U) (s0 s1 : RecordsState) (prefix : List ℕ)
+pub broke_begin : {C R S T U : Type 0} (f : Form R) (memory : Bool) (wrote tells output report : List R → List ℕ) (count : List R → C) (b a : World S T U) (s0 s1 : RecordsState) (prefix : List ℕ)
     → Begins f → Earlies f → AreNear f → IsNew s0 → PassesHeader f b.left a.left s0 s1 → NearSteps f a.left a.left s1 s1 []
-    → AppendsPrefix b.written a.written prefix → ((more : List ItemRead) → IsPrefix prefix (output more)) → a.reported ≡ b.reported → Fails b a WriteFault
+    → AppendsPrefix b.written a.written prefix → ((more : List R) → IsPrefix prefix (output more)) → a.reported ≡ b.reported → Fails b a WriteFault
     → Broke (file_meaning f memory wrote tells output report count) b a WriteFault
 broke_begin f memory wrote tells output report count b a s0 s1 prefix begins earlies nears new header none written prefix_is same fails =
     let all = nears a.left a.left s1 s1 [] none in
     let early = none_begin _ (earlies b.left a.left a.left s0 s1 s1 [] new header all.steps all.early) in
     let silent : AppendsPrefix b.reported a.reported [] = subst (λ (u : Option (List ℕ)). AppendsPrefix b.reported u []) (sym same) (no_prefix b.reported []) in
-    broke_file f memory wrote tells output report count b a a.left s0 s1 s1 [] [] prefix [] WriteFault begins new header all.steps
-    (subst (λ (l : List ItemRead). IsPrefix (text_before wrote l) []) (sym early) (prefix_nil []))
-    (between b.written a.written prefix written) (prefix_is _) silent (prefix_nil _)
+    broke_file f memory wrote tells output report count b a a.left s0 s1 s1 [] [] prefix [] [] WriteFault begins new header all.steps
+    (subst (λ (l : List _). IsPrefix (text_before wrote l) []) (sym early) (prefix_nil [])) (subst (λ (l : List _). IsPrefix (text_before tells l) []) (sym early) (prefix_nil []))
+    (between b.written a.written prefix written) (prefix_is _) (between b.reported a.reported [] silent) (prefix_nil _)
     (λ other. file_told f tells b.left a.left a.left b.reported a.reported s0 s1 s1 [] [] begins new header all.steps silent (λ more. prefix_nil _))
     (file_ahead f memory wrote tells output report count b a a.left s0 s1 s1 [] prefix [] begins new header all.steps written prefix_is silent (λ more. prefix_nil _)) fails (λ long. cc) (λ wants. cc) (λ is. absurd (let none : WriteFault ≡ ReadFault = is in cc))
   where
-    none_begin : (xs : List ItemRead) → BeginWith [] xs → xs ≡ []
+    none_begin : {X : Type 0} (xs : List X) → BeginWith [] xs → xs ≡ []
     none_begin [] h = refl
     none_begin (x ∷ xs) (rest, e) = absurd (cc)
 
 -- the same where all records were given and what is written of them was
-pub broke_end : {C S T U : Type 0} (f : Form) (memory : Bool) (wrote tells output report : List ItemRead → List ℕ) (count : List ItemRead → C) (b a : World S T U) (l1 : Option (List ℕ)) (s0 s1 s2 : RecordsState)
-    (given : List ItemRead) (text told : List ℕ) (fault : BridgeFault)
-    → Begins f → Earlies f → AreNear f → Grows wrote → IsNew s0 → PassesHeader f b.left l1 s0 s1 → NearSteps f l1 a.left s1 s2 given → AtEnd s2
-    → AppendsBetween b.written a.written (wrote given) text → IsPrefix text (output given) → AppendsPrefix b.reported a.reported told → IsPrefix told (report given)
+pub broke_end : {C R S T U : Type 0} (f : Form R) (memory : Bool) (wrote tells output report : List R → List ℕ) (count : List R → C) (b a : World S T U) (l1 : Option (List ℕ)) (s0 s1 s2 : RecordsState)
+    (given : List R) (text told : List ℕ) (fault : BridgeFault)
+    → Begins f → Earlies f → AreNear f → Grows wrote → Grows tells → IsNew s0 → PassesHeader f b.left l1 s0 s1 → NearSteps f l1 a.left s1 s2 given → AtEnd s2
+    → AppendsBetween b.written a.written (wrote given) text → IsPrefix text (output given) → AppendsBetween b.reported a.reported (tells given) told → IsPrefix told (report given)
     → ((fault ≡ ReportFault → ⊥) → IsPrefix told (tells given)) → Fails b a fault → (fault ≡ TooLong → ⊥) → (fault ≡ NoMemory → memory ≡ true) → (fault ≡ ReadFault → ⊥)
     → Broke (file_meaning f memory wrote tells output report count) b a fault
-broke_end f memory wrote tells output report count b a l1 s0 s1 s2 given text told fault begins earlies nears grows new header near end written text_is reported told_is early fails short wants over =
+broke_end f memory wrote tells output report count b a l1 s0 s1 s2 given text told fault begins earlies nears grows more_told new header near end written text_is reported told_is early fails short wants over =
     let steps = nears l1 a.left s1 s2 given near in
     let taken = header.steps.reads.taken ++ steps.steps.reads.taken in
     let consumes = Consumes-trans b.left l1 a.left _ _ header.steps.reads.consumes steps.steps.reads.consumes in
     let over_is = ends_there f b.left l1 a.left s0 s1 s2 given new header steps.steps end.ended in
     let whole = file_whole f b.left l1 a.left s0 s1 s2 given begins new header steps.steps end.kept end.rest in
-    let all : given ≡ given ++ records_to_come f s2 [] = sym (ap (λ (l : List ItemRead). given ++ l) (none_left f s2 end.kept end.rest) ∙ append-nil given) in
-    broke_file f memory wrote tells output report count b a l1 s0 s1 s2 given (wrote given) text told fault begins new header steps.steps
-    (least_all wrote grows given _ (earlies b.left l1 a.left s0 s1 s2 given new header steps.steps steps.early))
-    written (subst (λ (l : List ItemRead). IsPrefix text (output l)) all text_is) reported (subst (λ (l : List ItemRead). IsPrefix told (report l)) all told_is)
-    (λ other. taken_all b.left a.left taken _ consumes over_is (prefix_within b.reported a.reported told _ (subst (λ r. IsPrefix told (text_in tells r)) (sym whole) (early other)) reported))
+    let all : given ≡ given ++ records_to_come f s2 [] = sym (ap (λ (l : List _). given ++ l) (none_left f s2 end.kept end.rest) ∙ append-nil given) in
+    let few = earlies b.left l1 a.left s0 s1 s2 given new header steps.steps steps.early in
+    let some_told = prefix_of b.reported a.reported _ told reported in
+    broke_file f memory wrote tells output report count b a l1 s0 s1 s2 given (wrote given) text (tells given) told fault begins new header steps.steps
+    (least_all wrote grows given _ few) (least_all tells more_told given _ few)
+    written (subst (λ (l : List _). IsPrefix text (output l)) all text_is) reported (subst (λ (l : List _). IsPrefix told (report l)) all told_is)
+    (λ other. taken_all b.left a.left taken _ consumes over_is (prefix_within b.reported a.reported told _ (subst (λ r. IsPrefix told (text_in tells r)) (sym whole) (early other)) some_told))
     (ahead_at_end (file_meaning f memory wrote tells output report count).whole b.left a.left b.written a.written b.reported a.reported taken consumes over_is
     (prefix_within b.written a.written text _ (subst (λ r. IsPrefix text (text_in output r)) (sym whole) text_is) (prefix_of b.written a.written _ text written))
-    (prefix_within b.reported a.reported told _ (subst (λ r. IsPrefix told (text_in report r)) (sym whole) told_is) reported))
+    (prefix_within b.reported a.reported told _ (subst (λ r. IsPrefix told (text_in report r)) (sym whole) told_is) some_told))
     fails (λ is. absurd (short is)) wants (λ is. absurd (over is))
 
 -- the run is done
-pub done_file : {C S T U : Type 0} (f : Form) (memory : Bool) (wrote tells output report : List ItemRead → List ℕ) (count : List ItemRead → C) (b a : World S T U) (l1 : Option (List ℕ)) (s0 s1 s2 : RecordsState)
-    (given : List ItemRead) (counts : C)
+pub done_file : {C R S T U : Type 0} (f : Form R) (memory : Bool) (wrote tells output report : List R → List ℕ) (count : List R → C) (b a : World S T U) (l1 : Option (List ℕ)) (s0 s1 s2 : RecordsState)
+    (given : List R) (counts : C)
     → Begins f → IsNew s0 → PassesHeader f b.left l1 s0 s1 → Steps f l1 a.left s1 s2 given → AtEnd s2
     → Appends b.written a.written (output given) → Appends b.reported a.reported (report given) → counts ≡ count given
     → a.reads_failed ≡ b.reads_failed → a.writes_failed ≡ b.writes_failed → a.reports_failed ≡ b.reports_failed
@@ -385,8 +381,8 @@ done_file f memory wrote tells output report count b a l1 s0 s1 s2 given counts 
       end = ends_there f b.left l1 a.left s0 s1 s2 given new header steps end.ended;
       fits = omega (arith, length-append header.steps.reads.taken steps.reads.taken, new.taken, header.steps.reads.count, steps.reads.count, end.low);
       counted = ap (counted_in count) is ∙ ap Some (sym counted);
-      text = subst (λ (r : Result (List ItemRead) HeaderFault). Appends b.written a.written (text_in output r)) (sym is) written;
-      told = subst (λ (r : Result (List ItemRead) HeaderFault). Appends b.reported a.reported (text_in report r)) (sym is) reported;
+      text = subst (λ (r : Result (List _) HeaderFault). Appends b.written a.written (text_in output r)) (sym is) written;
+      told = subst (λ (r : Result (List _) HeaderFault). Appends b.reported a.reported (text_in report r)) (sym is) reported;
       leaves = reading m b a refl refl;
       reads = reads;
       writes = writes;

@@ -14,10 +14,9 @@ use Rattle.nav_eph.specs.declared.items.NavItem.{NavItem}
 use Rattle.nav_lists.specs.declared.range.CoverRange.{CoverRange}
 use Rattle.nav_lists.specs.Covering.{AreCovering, AreCovers, AreRanges, CoversSecond, IsIn}
 use Rattle.rinex_read.specs.declared.judged.ItemRead.{ItemRead}
-use Rattle.rinex_read.specs.declared.judged.ItemRead.TheVariants.{Item, Refused, PassedOver, End}
+use Rattle.rinex_read.specs.declared.judged.ItemRead.TheVariants.{Item, Refused, PassedOver}
 use Rattle.one_run.specs.Runs.{AppendsBetween}
-use Rattle.one_run.proofs.Surface.{prefix_behind}
-use Rattle.nav_files.proofs.ConvertLemmas.{between_behind}
+use Rattle.one_run.proofs.Surface.{between_behind, prefix_behind}
 use Rattle.nav_files.specs.declared.counts.RinexCounts.{RinexCounts}
 use Rattle.nav_files.specs.Files.{counts_of_reads}
 use Rattle.nav_files.specs.Mirrors.{AreCounted}
@@ -96,11 +95,9 @@ pub items_more : (reads : List ItemRead) (read : ItemRead) → items_of (reads +
 items_more [] (Item line item) = refl
 items_more [] (Refused line reason) = refl
 items_more [] (PassedOver line) = refl
-items_more [] End = refl
 items_more (Item line item ∷ rs) read = ap (λ (l : List NavItem). item ∷ l) (items_more rs read)
 items_more (Refused line reason ∷ rs) read = items_more rs read
 items_more (PassedOver line ∷ rs) read = items_more rs read
-items_more (End ∷ rs) read = items_more rs read
 
 -- nothing was counted
 pub nothing_counted : (c : RinexCounts) → c ≡ counts_of_reads [] → AreCounted c

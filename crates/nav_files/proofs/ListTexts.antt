@@ -8,7 +8,7 @@ use Rattle.nav_lists.specs.Merging.{merged_of}
 use Rattle.rinex_read.specs.Files.{items_of, items_read}
 use Rattle.rinex_read.specs.declared.judged.HeaderFault.{HeaderFault}
 use Rattle.rinex_read.specs.declared.judged.ItemRead.{ItemRead}
-use Rattle.rinex_read.specs.declared.judged.ItemRead.TheVariants.{Item, Refused, PassedOver, End}
+use Rattle.rinex_read.specs.declared.judged.ItemRead.TheVariants.{Item, Refused, PassedOver}
 use Rattle.rinex_write.specs.Texts.{header_lines, item_lines, rinex_text, text_of}
 use Rattle.rinex_write.specs.Texts3.{header3_lines, item3_lines, rinex3_text}
 use Rattle.rinex_write.specs.declared.words.HeaderWords.{HeaderWords}
@@ -37,7 +37,6 @@ read_texts text plain same (Item line item ∷ rs) =
     ap (λ (l : List ℕ). l ++ flat_map (read_text text) rs) (same line item) ∙ ap (λ (l : List ℕ). plain item ++ l) (read_texts text plain same rs)
 read_texts text plain same (Refused line reason ∷ rs) = read_texts text plain same rs
 read_texts text plain same (PassedOver line ∷ rs) = read_texts text plain same rs
-read_texts text plain same (End ∷ rs) = read_texts text plain same rs
 
 -- ---- of what was read
 

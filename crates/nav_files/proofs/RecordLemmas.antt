@@ -1,30 +1,30 @@
 -- Records after records: what was written, reported and counted of them.
 use Rattle.std.proofs.Common.{◌≡◌, ℕ, ◌+◌, ◌≤◌, ◌*◌, ◌^◌, List, [], ◌∷◌, ◌++◌, map, sum, refl, sym, ap, subst, ◌∙◌, arith, length-append}
-use Rattle.std.specs.Prelude.{Option, Some, None, IfSome, IfNone}
+use Rattle.std.specs.Prelude.{Option, Some, None}
 use Rattle.std.specs.List.{sum_by}
 use Rattle.std.proofs.lemmas.List.Sums.{sum-map, sum_by-append}
 use Rattle.rinex_read.specs.Files.{items_of}
 use Rattle.rinex_read.specs.Forms.{Form}
 use Rattle.rinex_read.specs.States.{EarlySteps, NearSteps, RecordsState, GivesRead, GivesRecord, GivesNone, held_count, lines_left}
 use Rattle.rinex_read.specs.declared.judged.ItemRead.{ItemRead}
-use Rattle.rinex_read.specs.declared.judged.ItemRead.TheVariants.{Item, Refused, PassedOver, End}
+use Rattle.rinex_read.specs.declared.judged.ItemRead.TheVariants.{Item, Refused, PassedOver}
 use Rattle.nav_files.specs.declared.counts.RinexCounts.{RinexCounts}
 use Rattle.nav_files.specs.Files.{counts_of_reads, is_refused_read, is_passed, is_item}
-use Rattle.nav_files.specs.Mirrors.{IsRecord, counted, read_times}
+use Rattle.nav_files.specs.Mirrors.{counted, read_times}
 use Rattle.outlets.specs.Times.{times_with, with_item}
 use Rattle.outlets.specs.declared.times.Times.{Times}
 
 -- steps of a reader, one after another, and those in which all was given that has ended early
-abbrev pub Follow : Form → Type 0
-Follow f = (left middle left_new : Option (List ℕ)) (old now new : RecordsState) (some more : List ItemRead)
+abbrev pub Follow : {R : Type 0} → Form R → Type 0
+Follow f = (left middle left_new : Option (List ℕ)) (old now new : RecordsState) (some more : List _)
     → NearSteps f left middle old now some → NearSteps f middle left_new now new more → NearSteps f left left_new old new (some ++ more)
 
-abbrev pub FollowEarly : Form → Type 0
-FollowEarly f = (left middle left_new : Option (List ℕ)) (old now new : RecordsState) (some more : List ItemRead)
+abbrev pub FollowEarly : {R : Type 0} → Form R → Type 0
+FollowEarly f = (left middle left_new : Option (List ℕ)) (old now new : RecordsState) (some more : List _)
     → NearSteps f left middle old now some → EarlySteps f middle left_new now new more → EarlySteps f left left_new old new (some ++ more)
 
-abbrev pub AreNear : Form → Type 0
-AreNear f = (left left_new : Option (List ℕ)) (old new : RecordsState) (given : List ItemRead) → NearSteps f left left_new old new given → EarlySteps f left left_new old new given
+abbrev pub AreNear : {R : Type 0} → Form R → Type 0
+AreNear f = (left left_new : Option (List ℕ)) (old new : RecordsState) (given : List _) → NearSteps f left left_new old new given → EarlySteps f left left_new old new given
 
 -- ---- counts
 
@@ -41,11 +41,9 @@ times_more : (times : Option Times) (given : List ItemRead) (read : ItemRead)
 times_more times [] (Item line item) = refl
 times_more times [] (Refused line reason) = refl
 times_more times [] (PassedOver line) = refl
-times_more times [] End = refl
 times_more times (Item line item ∷ given) read = times_more (with_item times item) given read
 times_more times (Refused line reason ∷ given) read = times_more times given read
 times_more times (PassedOver line ∷ given) read = times_more times given read
-times_more times (End ∷ given) read = times_more times given read
 
 -- the counts of records with one more
 pub counts_more : (given : List ItemRead) (read : ItemRead) → counted (counts_of_reads given) read ≡ counts_of_reads (given ++ read ∷ [])
@@ -59,24 +57,13 @@ counts_more given read =
 
 -- ---- steps
 
-pub gives_record : (f : Form) (read : ItemRead) (left left_new : Option (List ℕ)) (old new : RecordsState)
-    → IsRecord read → GivesRead f read left left_new old new → GivesRecord f left left_new old new read
-gives_record f (Item line item) left left_new old new is gives = gives
-gives_record f (Refused line reason) left left_new old new is gives = gives
-gives_record f (PassedOver line) left left_new old new is gives = gives
-gives_record f End left left_new old new is gives = absurd is
-
 -- a record that was given
-pub some_read : (f : Form) (o : Option ItemRead) (read : ItemRead) (left left_new : Option (List ℕ)) (old new : RecordsState)
-    → o ≡ Some read → IfSome o (λ r. IsRecord r × GivesRead f r left left_new old new) → GivesRecord f left left_new old new read
-some_read f o read left left_new old new is gives =
-    let both = subst (λ (x : Option ItemRead). IfSome x (λ r. IsRecord r × GivesRead f r left left_new old new)) is gives in
-    gives_record f read left left_new old new both.0 both.1
+pub some_read : {R : Type 0} (f : Form R) (o : Option R) (read : R) (left left_new : Option (List ℕ)) (old new : RecordsState) → o ≡ Some read → GivesRead f o left left_new old new → GivesRecord f left left_new old new read
+some_read f o read left left_new old new is gives = subst (λ (x : Option _). GivesRead f x left left_new old new) is gives
 
 -- no record was left
-pub none_read : (f : Form) (o : Option ItemRead) (left left_new : Option (List ℕ)) (old new : RecordsState)
-    → o ≡ None → IfNone o (GivesNone f left left_new old new) → GivesNone f left left_new old new
-none_read f o left left_new old new is none = subst (λ (x : Option ItemRead). IfNone x (GivesNone f left left_new old new)) is none
+pub none_read : {R : Type 0} (f : Form R) (o : Option R) (left left_new : Option (List ℕ)) (old new : RecordsState) → o ≡ None → GivesRead f o left left_new old new → GivesNone f left left_new old new
+none_read f o left left_new old new is gives = subst (λ (x : Option _). GivesRead f x left left_new old new) is gives
 
 pub held_few : (kept : List (List ℕ)) → held_count kept ≤ 1
 held_few [] = omega arith

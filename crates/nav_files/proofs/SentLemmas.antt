@@ -9,7 +9,7 @@ use Rattle.rinex_read.specs.declared.judged.ItemRead.{ItemRead}
 use Rattle.one_run.specs.Runs.{AppendsBetween}
 use Rattle.one_run.proofs.Surface.{prefix_after}
 use Rattle.nav_files.specs.declared.counts.RinexCounts.{RinexCounts}
-use Rattle.nav_files.proofs.Surface.{grew_between, grew_prefix, grew_more}
+use Rattle.nav_files.proofs.Surface.{grew_between, grew_more}
 use Rattle.page_send.specs.Sendable.{sent_head, sent_text}
 use Rattle.nav_files.specs.declared.told.Told.{Told}
 use Rattle.nav_files.specs.Following.{counted}
@@ -45,11 +45,6 @@ pub told_more : (prefix : List ℕ) (text : Told → List ℕ) (r slot : ℕ) (g
     → Appends start w (prefix ++ flat_map text (tolds r 0 given)) → Appends w w1 (text x) → Appends start w1 (prefix ++ flat_map text (tolds r 0 (given ++ read ∷ [])))
 told_more prefix text r slot given read x start w w1 is told_is so_far more =
     subst (λ ts. Appends start w1 (prefix ++ flat_map text ts)) (tolds_with r slot given read x is told_is) (grew_more prefix text (tolds r 0 given) x start w w1 so_far more)
-
-pub told_prefix : (prefix : List ℕ) (text : Told → List ℕ) (r slot : ℕ) (given : List ItemRead) (read : ItemRead) (x : Told) (start w w1 : Option (List ℕ)) → slot ≡ slots_behind r 0 given → x ≡ told r slot read
-    → Appends start w (prefix ++ flat_map text (tolds r 0 given)) → AppendsPrefix w w1 (text x) → AppendsPrefix start w1 (prefix ++ flat_map text (tolds r 0 (given ++ read ∷ [])))
-told_prefix prefix text r slot given read x start w w1 is told_is so_far more =
-    subst (λ ts. AppendsPrefix start w1 (prefix ++ flat_map text ts)) (tolds_with r slot given read x is told_is) (grew_prefix prefix text (tolds r 0 given) x start w w1 so_far more)
 
 pub told_between : (prefix : List ℕ) (text : Told → List ℕ) (r slot : ℕ) (given : List ItemRead) (read : ItemRead) (x : Told) (start w w1 : Option (List ℕ)) → slot ≡ slots_behind r 0 given → x ≡ told r slot read
     → Appends start w (prefix ++ flat_map text (tolds r 0 given)) → AppendsPrefix w w1 (text x)

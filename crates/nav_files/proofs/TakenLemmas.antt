@@ -6,7 +6,6 @@ use Rattle.nav_io.specs.Prefix.{AppendsPrefix, IsPrefix}
 use Rattle.rinex_read.specs.Files.{BeginWith, but_last}
 use Rattle.rinex_read.specs.Forms.{Form}
 use Rattle.rinex_read.specs.States.{EarlySteps, IsPaused, NearSteps, RecordsState, GivesRecord, GivesNone}
-use Rattle.rinex_read.specs.declared.judged.ItemRead.{ItemRead}
 use Rattle.one_run.specs.declared.fault.BridgeFault.{BridgeFault}
 use Rattle.one_run.specs.declared.fault.BridgeFault.TheVariants.{ReadFault, WriteFault, ReportFault, NotThisForm, TooLong, NoMemory}
 use Rattle.one_run.specs.Runs.{AppendsBetween}
@@ -19,45 +18,45 @@ use Rattle.nav_files.proofs.RecordLemmas.{AreNear, Follow, FollowEarly, left_few
 -- ---- all but the last
 
 -- of records and one more
-pub last_behind : (xs : List ItemRead) (x : ItemRead) → but_last (xs ++ x ∷ []) ≡ xs
+pub last_behind : {R : Type 0} (xs : List R) (x : R) → but_last (xs ++ x ∷ []) ≡ xs
 last_behind [] x = refl
 last_behind (y ∷ []) x = refl
-last_behind (y ∷ z ∷ zs) x = ap (λ (l : List ItemRead). y ∷ l) (last_behind (z ∷ zs) x)
+last_behind (y ∷ z ∷ zs) x = ap (λ (l : List _). y ∷ l) (last_behind (z ∷ zs) x)
 
-last_within : (xs rest : List ItemRead) → BeginWith (but_last (xs ++ rest)) (but_last xs)
+last_within : {R : Type 0} (xs rest : List R) → BeginWith (but_last (xs ++ rest)) (but_last xs)
 last_within [] rest = (but_last rest, refl)
 last_within (x ∷ []) rest = (but_last (x ∷ rest), refl)
-last_within (x ∷ y ∷ ys) rest = let more = last_within (y ∷ ys) rest in (more.0, ap (λ (l : List ItemRead). x ∷ l) more.1)
+last_within (x ∷ y ∷ ys) rest = let more = last_within (y ∷ ys) rest in (more.0, ap (λ (l : List _). x ∷ l) more.1)
 
-last_prefix : (xs : List ItemRead) → BeginWith xs (but_last xs)
+last_prefix : {R : Type 0} (xs : List R) → BeginWith xs (but_last xs)
 last_prefix [] = ([], refl)
 last_prefix (x ∷ []) = (x ∷ [], refl)
-last_prefix (x ∷ y ∷ ys) = let more = last_prefix (y ∷ ys) in (more.0, ap (λ (l : List ItemRead). x ∷ l) more.1)
+last_prefix (x ∷ y ∷ ys) = let more = last_prefix (y ∷ ys) in (more.0, ap (λ (l : List _). x ∷ l) more.1)
 
 -- what is written of records is a prefix of what is written of those that begin with them
-pub text_within : (text : List ItemRead → List ℕ) → ((some more : List ItemRead) → IsPrefix (text some) (text (some ++ more))) → (all some : List ItemRead) → BeginWith all some → IsPrefix (text some) (text all)
-text_within text grows all some (rest, e) = subst (λ (l : List ItemRead). IsPrefix (text some) (text l)) (sym e) (grows some rest)
+pub text_within : {R : Type 0} (text : List R → List ℕ) → ((some more : List R) → IsPrefix (text some) (text (some ++ more))) → (all some : List R) → BeginWith all some → IsPrefix (text some) (text all)
+text_within text grows all some (rest, e) = subst (λ (l : List _). IsPrefix (text some) (text l)) (sym e) (grows some rest)
 
 -- and what is written before the last of all
-pub before_last : (text : List ItemRead → List ℕ) → ((some more : List ItemRead) → IsPrefix (text some) (text (some ++ more))) → (all some : List ItemRead) → BeginWith all some → IsPrefix (text (but_last some)) (text all)
+pub before_last : {R : Type 0} (text : List R → List ℕ) → ((some more : List R) → IsPrefix (text some) (text (some ++ more))) → (all some : List R) → BeginWith all some → IsPrefix (text (but_last some)) (text all)
 before_last text grows all some (rest, e) =
     let prefix = last_prefix some in
-    text_within text grows all (but_last some) (prefix.0 ++ rest, e ∙ ap (λ (l : List ItemRead). l ++ rest) prefix.1 ∙ append_assoc (but_last some) prefix.0 rest)
+    text_within text grows all (but_last some) (prefix.0 ++ rest, e ∙ ap (λ (l : List _). l ++ rest) prefix.1 ∙ append_assoc (but_last some) prefix.0 rest)
 
 -- the least of records with which these begin
-pub least_before : (text : List ItemRead → List ℕ) → ((some more : List ItemRead) → IsPrefix (text some) (text (some ++ more))) → (all some : List ItemRead) → BeginWith all some → IsPrefix (text_before text some) (text (but_last all))
+pub least_before : {R : Type 0} (text : List R → List ℕ) → ((some more : List R) → IsPrefix (text some) (text (some ++ more))) → (all some : List R) → BeginWith all some → IsPrefix (text_before text some) (text (but_last all))
 least_before text grows all [] prefix = prefix_nil (text (but_last all))
 least_before text grows all (r ∷ rs) (rest, e) =
-    text_within text grows (but_last all) (but_last (r ∷ rs)) (subst (λ (l : List ItemRead). BeginWith (but_last l) (but_last (r ∷ rs))) (sym e) (last_within (r ∷ rs) rest))
+    text_within text grows (but_last all) (but_last (r ∷ rs)) (subst (λ (l : List _). BeginWith (but_last l) (but_last (r ∷ rs))) (sym e) (last_within (r ∷ rs) rest))
 
-pub least_all : (text : List ItemRead → List ℕ) → ((some more : List ItemRead) → IsPrefix (text some) (text (some ++ more))) → (all some : List ItemRead) → BeginWith all some → IsPrefix (text_before text some) (text all)
+pub least_all : {R : Type 0} (text : List R → List ℕ) → ((some more : List R) → IsPrefix (text some) (text (some ++ more))) → (all some : List R) → BeginWith all some → IsPrefix (text_before text some) (text all)
 least_all text grows all [] prefix = prefix_nil (text all)
 least_all text grows all (r ∷ rs) prefix = before_last text grows all (r ∷ rs) prefix
 
 -- ---- what was taken
 
 -- nothing was taken
-pub taken_start : (f : Form) (text told : List ItemRead → List ℕ) (holds : List ItemRead → Type 0) (left w u : Option (List ℕ)) (s : RecordsState)
+pub taken_start : {R : Type 0} (f : Form R) (text told : List R → List ℕ) (holds : List R → Type 0) (left w u : Option (List ℕ)) (s : RecordsState)
     → NearSteps f left left s s [] → holds [] → TakenReads f text told holds left left s s w w u u
 taken_start f text told holds left w u s none held = record {
   given = [];
@@ -70,11 +69,11 @@ taken_start f text told holds left w u s none held = record {
 }
 
 -- a record more was taken
-pub taken_more : (f : Form) (text told : List ItemRead → List ℕ) (old_holds holds : List ItemRead → Type 0) (left l1 l2 w w1 w2 u u1 u2 : Option (List ℕ)) (s0 s1 s2 : RecordsState) (read : ItemRead)
+pub taken_more : {R : Type 0} (f : Form R) (text told : List R → List ℕ) (old_holds holds : List R → Type 0) (left l1 l2 w w1 w2 u u1 u2 : Option (List ℕ)) (s0 s1 s2 : RecordsState) (read : R)
     → Follow f → TakenReads f text told old_holds left l1 s0 s1 w w1 u u1 → GivesRecord f l1 l2 s1 s2 read
-    → ((reads : List ItemRead) → old_holds reads → holds (reads ++ read ∷ []))
-    → ((reads : List ItemRead) (start : Option (List ℕ)) → old_holds reads → Appends start w1 (text reads) → Appends start w2 (text (reads ++ read ∷ [])))
-    → ((reads : List ItemRead) (start : Option (List ℕ)) → old_holds reads → Appends start u1 (told reads) → Appends start u2 (told (reads ++ read ∷ [])))
+    → ((reads : List R) → old_holds reads → holds (reads ++ read ∷ []))
+    → ((reads : List R) (start : Option (List ℕ)) → old_holds reads → Appends start w1 (text reads) → Appends start w2 (text (reads ++ read ∷ [])))
+    → ((reads : List R) (start : Option (List ℕ)) → old_holds reads → Appends start u1 (told reads) → Appends start u2 (told (reads ++ read ∷ [])))
     → TakenReads f text told holds left l2 s0 s2 w w2 u u2
 taken_more f text told old_holds holds left l1 l2 w w1 w2 u u1 u2 s0 s1 s2 read follow far gives held output report =
     let all = follow left l1 l2 s0 s1 s2 far.given (read ∷ []) (record { steps = far.steps; near = far.near }) (record { steps = gives.steps; near = gives.near }) in
@@ -89,15 +88,15 @@ taken_more f text told old_holds holds left l1 l2 w w1 w2 u u1 u2 s0 s1 s2 read 
     }
 
 -- there is room for one
-pub room_for : (f : Form) (text told : List ItemRead → List ℕ) (holds : List ItemRead → Type 0) (left l1 w w1 u u1 : Option (List ℕ)) (s0 s1 : RecordsState)
+pub room_for : {R : Type 0} (f : Form R) (text told : List R → List ℕ) (holds : List R → Type 0) (left l1 w w1 u u1 : Option (List ℕ)) (s0 s1 : RecordsState)
     → (far : TakenReads f text told holds left l1 s0 s1 w w1 u u1) → length far.given + 1 < 2 ^ 64
 room_for f text told holds left l1 w w1 u u1 s0 s1 far = omega (arith, far.few, left_few s0)
 
 -- it was not taken to its end
-pub part_of_take : (f : Form) (text told : List ItemRead → List ℕ) (holds : List ItemRead → Type 0) (memory : Bool) (left l1 l2 w w1 w2 u u1 u2 : Option (List ℕ)) (s0 s1 s2 : RecordsState) (read : ItemRead) (fault : BridgeFault)
+pub part_of_take : {R : Type 0} (f : Form R) (text told : List R → List ℕ) (holds : List R → Type 0) (memory : Bool) (left l1 l2 w w1 w2 u u1 u2 : Option (List ℕ)) (s0 s1 s2 : RecordsState) (read : R) (fault : BridgeFault)
     → Follow f → AreNear f → TakenReads f text told holds left l1 s0 s1 w w1 u u1 → GivesRecord f l1 l2 s1 s2 read
-    → ((reads : List ItemRead) (start : Option (List ℕ)) → holds reads → Appends start w1 (text reads) → AppendsBetween start w2 (text reads) (text (reads ++ read ∷ [])))
-    → ((reads : List ItemRead) (start : Option (List ℕ)) → holds reads → Appends start u1 (told reads) → AppendsPrefix start u2 (told (reads ++ read ∷ [])))
+    → ((reads : List R) (start : Option (List ℕ)) → holds reads → Appends start w1 (text reads) → AppendsBetween start w2 (text reads) (text (reads ++ read ∷ [])))
+    → ((reads : List R) (start : Option (List ℕ)) → holds reads → Appends start u1 (told reads) → AppendsBetween start u2 (told reads) (told (reads ++ read ∷ [])))
     → (fault ≡ WriteFault) ⊎ ((fault ≡ ReportFault) ⊎ ((fault ≡ NoMemory) × (memory ≡ true)))
     → TakesPart f text told memory left l2 s0 s2 w w2 u u2 fault
 part_of_take f text told holds memory left l1 l2 w w1 w2 u u1 u2 s0 s1 s2 read fault follow nears far gives output report kind =
@@ -107,9 +106,10 @@ part_of_take f text told holds memory left l1 l2 w w1 w2 u u1 u2 s0 s1 s2 read f
       given = far.given ++ read ∷ [];
       steps = all.steps;
       early = all.early;
-      output = λ start begun. subst (λ (l : List ItemRead). AppendsBetween start w2 (text l) (text (far.given ++ read ∷ []))) (sym (last_behind far.given read))
+      output = λ start begun. subst (λ (l : List _). AppendsBetween start w2 (text l) (text (far.given ++ read ∷ []))) (sym (last_behind far.given read))
           (output far.given start far.held (far.output start begun));
-      report = λ start begun. report far.given start far.held (far.report start begun);
+      report = λ start begun. subst (λ (l : List _). AppendsBetween start u2 (told l) (told (far.given ++ read ∷ []))) (sym (last_behind far.given read))
+          (report far.given start far.held (far.report start begun));
       form = λ is. no_form kind is;
       too_long = λ is. absurd (no_length kind is);
       wants = λ is. wants kind is;
@@ -137,10 +137,10 @@ part_of_take f text told holds memory left l1 l2 w w1 w2 u u1 u2 s0 s1 s2 read f
     wants (inr (inr (m, t))) is = t
 
 -- the reader broke off
-pub part_of_break : (f : Form) (text told : List ItemRead → List ℕ) (holds : List ItemRead → Type 0) (memory : Bool) (left l1 l2 w w1 u u1 : Option (List ℕ)) (s0 s1 s2 : RecordsState) (fault : BridgeFault)
-    → FollowEarly f → ((some more : List ItemRead) → IsPrefix (text some) (text (some ++ more))) → TakenReads f text told holds left l1 s0 s1 w w1 u u1 → BreaksRead f l1 l2 s1 s2 fault
+pub part_of_break : {R : Type 0} (f : Form R) (text told : List R → List ℕ) (holds : List R → Type 0) (memory : Bool) (left l1 l2 w w1 u u1 : Option (List ℕ)) (s0 s1 s2 : RecordsState) (fault : BridgeFault)
+    → FollowEarly f → ((some more : List R) → IsPrefix (text some) (text (some ++ more))) → ((some more : List R) → IsPrefix (told some) (told (some ++ more))) → TakenReads f text told holds left l1 s0 s1 w w1 u u1 → BreaksRead f l1 l2 s1 s2 fault
     → TakesPart f text told memory left l2 s0 s2 w w1 u u1 fault
-part_of_break f text told holds memory left l1 l2 w w1 u u1 s0 s1 s2 fault follow grows far breaks = by fault breaks where
+part_of_break f text told holds memory left l1 l2 w w1 u u1 s0 s1 s2 fault follow grows tells far breaks = by fault breaks where
   part : (fault : BridgeFault) → EarlySteps f l1 l2 s1 s2 [] → (fault ≡ NotThisForm → ⊥) → (fault ≡ TooLong → s2.lines.taken ≡ 2 ^ 32) → (fault ≡ NoMemory → ⊥) → (fault ≡ ReadFault → IsPaused s2)
       → TakesPart f text told memory left l2 s0 s2 w w1 u u1 fault
   part fault steps form long short paused =
@@ -155,7 +155,12 @@ part_of_break f text told holds memory left l1 l2 w w1 u u1 s0 s1 s2 fault follo
           no_less = before_last text grows far.given far.given ([], sym (append-nil far.given));
           grew = far.output start begun;
         };
-        report = λ start begun. whole_prefix start u1 _ (far.report start begun);
+        report = λ start begun. record {
+          prefix = told far.given;
+          within = prefix_same (told far.given);
+          no_less = before_last told tells far.given far.given ([], sym (append-nil far.given));
+          grew = far.report start begun;
+        };
         form = form;
         too_long = long;
         wants = λ is. absurd (short is);
@@ -173,7 +178,7 @@ part_of_break f text told holds memory left l1 l2 w w1 u u1 s0 s1 s2 fault follo
   by NoMemory breaks = absurd breaks
 
 -- no record is left
-pub takes_all : (f : Form) (text told : List ItemRead → List ℕ) (holds : List ItemRead → Type 0) (left l1 l2 w w1 u u1 : Option (List ℕ)) (s0 s1 s2 : RecordsState)
+pub takes_all : {R : Type 0} (f : Form R) (text told : List R → List ℕ) (holds : List R → Type 0) (left l1 l2 w w1 u u1 : Option (List ℕ)) (s0 s1 s2 : RecordsState)
     → Follow f → TakenReads f text told holds left l1 s0 s1 w w1 u u1 → GivesNone f l1 l2 s1 s2
     → TakesAll f text told holds left l2 s0 s2 w w1 u u1
 takes_all f text told holds left l1 l2 w w1 u u1 s0 s1 s2 follow far none =

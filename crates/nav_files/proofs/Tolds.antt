@@ -52,7 +52,6 @@ behind_low : (r slot : ℕ) (read : ItemRead) → slot ≤ 198842 → slot_behin
 behind_low r slot (reads.Item line item) low = item_low r slot line item (is_ephemeris item) (send_fault r item slot) refl low
 behind_low r slot (reads.Refused line reason) low = low
 behind_low r slot (reads.PassedOver line) low = low
-behind_low r slot reads.End low = low
 
 pub slots_low : (r slot : ℕ) (given : List ItemRead) → slot ≤ 198842 → slots_behind r slot given ≤ 198842
 slots_low r slot [] low = low
@@ -103,4 +102,3 @@ texts_are r slot (reads.Item line item ∷ xs) =
     item_text r slot line item (items_of xs) (λ s. flat_map told_text (tolds r s xs)) (is_ephemeris item) (send_fault r item slot) (λ s. texts_are r s xs)
 texts_are r slot (reads.Refused line reason ∷ xs) = texts_are r slot xs
 texts_are r slot (reads.PassedOver line ∷ xs) = texts_are r slot xs
-texts_are r slot (reads.End ∷ xs) = texts_are r slot xs

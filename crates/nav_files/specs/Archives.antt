@@ -8,7 +8,7 @@ use Rattle.nav_lists.specs.declared.range.CoverRange.{CoverRange}
 use Rattle.rinex_read.specs.Files.{items_of}
 use Rattle.rinex_read.specs.Forms.{rinex4}
 use Rattle.rinex_read.specs.declared.judged.ItemRead.{ItemRead}
-use Rattle.rinex_read.specs.declared.judged.ItemRead.TheVariants.{Item, Refused, PassedOver, End}
+use Rattle.rinex_read.specs.declared.judged.ItemRead.TheVariants.{Item, Refused, PassedOver}
 use Rattle.rinex_write.specs.Texts.{header_lines, text_of}
 use Rattle.rinex_write.specs.declared.words.HeaderWords.{HeaderWords}
 use Rattle.outlets.specs.ItemTexts.{rinex_item, satellite_text}
@@ -24,7 +24,6 @@ abbrev pub item_of : ItemRead → List NavItem
 item_of (Item line item) = item ∷ []
 item_of (Refused line reason) = []
 item_of (PassedOver line) = []
-item_of End = []
 
 -- the records of the merged list
 abbrev pub merge_text : List NavItem → List ℕ

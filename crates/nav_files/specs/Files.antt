@@ -6,7 +6,7 @@ use Rattle.rinex_read.specs.Files.{but_last, early_reads, file_reads, items_of, 
 use Rattle.rinex_read.specs.Forms.{Form}
 use Rattle.rinex_read.specs.declared.judged.HeaderFault.{HeaderFault}
 use Rattle.rinex_read.specs.declared.judged.ItemRead.{ItemRead}
-use Rattle.rinex_read.specs.declared.judged.ItemRead.TheVariants.{Item, Refused, PassedOver, End}
+use Rattle.rinex_read.specs.declared.judged.ItemRead.TheVariants.{Item, Refused, PassedOver}
 use Rattle.rinex_read.specs.declared.reason.Reason.{Reason}
 use Rattle.rinex_read.specs.declared.reason.Reason.TheVariants.{BadSat, Short, NotANumber, Blank, OutOfRange, NoSuchDate, Week, Fit, EpochStep, EpochFar}
 use Rattle.outlets.specs.Targets.{prefix_text, item_text}
@@ -34,7 +34,6 @@ abbrev pub read_text : (ℕ → NavItem → List ℕ) → ItemRead → List ℕ
 read_text text (Item line item) = text line item
 read_text text (Refused line reason) = []
 read_text text (PassedOver line) = []
-read_text text End = []
 
 -- the report line of a rejected record: the number of its first line, and the reason; empty for
 -- other records
@@ -42,28 +41,24 @@ abbrev pub read_report : ItemRead → List ℕ
 read_report (Item line item) = []
 read_report (Refused line reason) = report_line (codes "line") line (reason_text reason)
 read_report (PassedOver line) = []
-read_report End = []
 
 -- 1 for a rejected record, else 0
 abbrev pub is_refused_read : ItemRead → ℕ
 is_refused_read (Item line item) = 0
 is_refused_read (Refused line reason) = 1
 is_refused_read (PassedOver line) = 0
-is_refused_read End = 0
 
 -- 1 for a record that is skipped, else 0
 abbrev pub is_passed : ItemRead → ℕ
 is_passed (Item line item) = 0
 is_passed (Refused line reason) = 0
 is_passed (PassedOver line) = 1
-is_passed End = 0
 
 -- 1 for an item, else 0
 abbrev pub is_item : ItemRead → ℕ
 is_item (Item line item) = 1
 is_item (Refused line reason) = 0
 is_item (PassedOver line) = 0
-is_item End = 0
 
 -- the counts of records
 abbrev pub counts_of_reads : List ItemRead → RinexCounts
@@ -82,26 +77,27 @@ file_counts_text c =
     ++ count_line (codes "passed") c.passed) ++ count_line (codes "items") c.items
 
 -- a function of the records, applied to a file: nothing if its header is rejected
-abbrev pub counted_in : {C : Type 0} → (List ItemRead → C) → Result (List ItemRead) HeaderFault → Option C
+abbrev pub counted_in : {C R : Type 0} → (List R → C) → Result (List R) HeaderFault → Option C
 counted_in count (Ok reads) = Some (count reads)
 counted_in count (Err fault) = None
 
 -- a text of the records, applied to a file: empty if its header is rejected
-abbrev pub text_in : (List ItemRead → List ℕ) → Result (List ItemRead) HeaderFault → List ℕ
+abbrev pub text_in : {R : Type 0} → (List R → List ℕ) → Result (List R) HeaderFault → List ℕ
 text_in text (Ok reads) = text reads
 text_in text (Err fault) = []
 
 -- what is written before the last of these records; nothing if there is none
-abbrev pub text_before : (List ItemRead → List ℕ) → List ItemRead → List ℕ
+abbrev pub text_before : {R : Type 0} → (List R → List ℕ) → List R → List ℕ
 text_before text [] = []
 text_before text (r ∷ rs) = text (but_last (r ∷ rs))
 
 -- A run over a file of a format: whether it takes memory, what it has written and reported after
 -- some records, what it writes and reports of all records, and what it counts. After a failed read
 -- it has processed the records that are complete in the bytes; after any error it has written at
--- least what is written before the last of the records complete in all bytes but the last 4,096.
-abbrev pub file_meaning : {C : Type 0} → Form → Bool → (List ItemRead → List ℕ) → (List ItemRead → List ℕ) → (List ItemRead → List ℕ) → (List ItemRead → List ℕ)
-    → (List ItemRead → C) → Meaning C
+-- least what is written before the last of the records complete in all bytes but the last 4,096,
+-- and has reported what is reported before it.
+abbrev pub file_meaning : {C R : Type 0} → Form R → Bool → (List R → List ℕ) → (List R → List ℕ) → (List R → List ℕ) → (List R → List ℕ)
+    → (List R → C) → Meaning C
 file_meaning f memory text told output report count = record {
   reads = true;
   reports = true;
@@ -110,7 +106,7 @@ file_meaning f memory text told output report count = record {
   counts = λ bytes. counted_in count (file_reads f bytes);
   whole = record { output = λ bytes. text_in output (file_reads f bytes); report = λ bytes. text_in report (file_reads f bytes) };
   rejections = λ bytes. text_in told (file_reads f bytes);
-  least = λ bytes. text_before text (early_reads f bytes);
+  least = record { output = λ bytes. text_before text (early_reads f bytes); report = λ bytes. text_before told (early_reads f bytes) };
   flushed = Some (record { output = λ bytes. text_in text (whole_reads f bytes); report = λ bytes. text_in told (whole_reads f bytes) });
 }
 
@@ -127,5 +123,5 @@ abbrev pub convert_report : List ItemRead → List ℕ
 convert_report reads = refusals_text reads ++ file_counts_text (counts_of_reads reads)
 
 -- the meaning of a run that converts a file of a form
-abbrev pub convert_meaning : Form → Target → Meaning RinexCounts
+abbrev pub convert_meaning : Form ItemRead → Target → Meaning RinexCounts
 convert_meaning f to = file_meaning f false (convert_text to) refusals_text (convert_text to) convert_report counts_of_reads

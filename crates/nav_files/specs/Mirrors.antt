@@ -5,7 +5,7 @@ use Rattle.nav_io.specs.declared.lines.LineFault.TheVariants as lines
 use Rattle.rinex_read.specs.States.{AreEarly, RecordsState, HeaderSteps, BreaksRecord, BrokeBy, is_waiting}
 use Rattle.rinex_read.specs.declared.judged.HeaderState.TheVariants.{NotRinexNav, OtherVersion}
 use Rattle.rinex_read.specs.declared.judged.ItemRead.{ItemRead}
-use Rattle.rinex_read.specs.declared.judged.ItemRead.TheVariants.{Item, Refused, PassedOver, End}
+use Rattle.rinex_read.specs.declared.judged.ItemRead.TheVariants.{Item, Refused, PassedOver}
 use Rattle.one_run.specs.declared.fault.BridgeFault.{BridgeFault}
 use Rattle.one_run.specs.declared.fault.BridgeFault.TheVariants.{ReadFault, NotThisForm, TooLong}
 use Rattle.outlets.specs.Times.{with_item}
@@ -13,19 +13,11 @@ use Rattle.outlets.specs.declared.times.Times.{Times}
 use Rattle.nav_files.specs.declared.counts.RinexCounts.{RinexCounts}
 use Rattle.nav_files.specs.Files.{is_refused_read, is_passed, is_item}
 
--- a record, not the end of the file
-abbrev pub IsRecord : ItemRead → Type 0
-IsRecord (Item line item) = Unit {0}
-IsRecord (Refused line reason) = Unit {0}
-IsRecord (PassedOver line) = Unit {0}
-IsRecord End = ⊥
-
 -- the times together with the epoch of the item of a record
 abbrev pub read_times : Option Times → ItemRead → Option Times
 read_times times (Item line item) = with_item times item
 read_times times (Refused line reason) = times
 read_times times (PassedOver line) = times
-read_times times End = times
 
 -- the counts with one record more
 abbrev pub counted : RinexCounts → ItemRead → RinexCounts
@@ -49,13 +41,13 @@ HeaderFaultOf NotThisForm new = (new.header ≡ NotRinexNav) ⊎ (new.header ≡
 HeaderFaultOf _ new = ⊥
 
 -- How the reader breaks off after the header.
-abbrev pub BreaksRead : Form → Option (List ℕ) → Option (List ℕ) → RecordsState → RecordsState → BridgeFault → Type 0
+abbrev pub BreaksRead : {R : Type 0} → Form R → Option (List ℕ) → Option (List ℕ) → RecordsState → RecordsState → BridgeFault → Type 0
 BreaksRead f left left_new old new ReadFault = BreaksRecord f left left_new old new lines.ReadFault
 BreaksRead f left left_new old new TooLong = BreaksRecord f left left_new old new lines.TooLong
 BreaksRead f left left_new old new _ = ⊥
 
 -- The header is rejected, whatever bytes follow, or the reader breaks off in it.
-pub record NoHeader (f : Form) (left left_new : Option (List ℕ)) (old new : RecordsState) (fault : BridgeFault) : Type 0 where
+pub record NoHeader {R : Type 0} (f : Form R) (left left_new : Option (List ℕ)) (old new : RecordsState) (fault : BridgeFault) : Type 0 where
   pub steps : HeaderSteps f left left_new old new
   pub early : AreEarly old.lines steps.reads.taken steps.lines
   pub by : HeaderFaultOf fault new

@@ -35,7 +35,6 @@ abbrev pub told : ℕ → ℕ → ItemRead → Told
 told r slot (reads.Item line item) = told_item line slot item (is_ephemeris item) (send_fault r item slot)
 told r slot (reads.Refused line reason) = Refused line reason
 told r slot (reads.PassedOver line) = PassedOver
-told r slot reads.End = PassedOver
 
 -- the next slot after an outcome
 abbrev pub slot_behind : ℕ → Told → ℕ
@@ -124,5 +123,5 @@ abbrev pub sends_report : ℕ → List ItemRead → List ℕ
 sends_report r reads = withheld_text r reads ++ file_counts_text (counts_of_tolds (tolds r 0 reads))
 
 -- the meaning of a run that transmits a file of a form
-abbrev pub send_meaning : Form → ℕ → Meaning RinexCounts
+abbrev pub send_meaning : Form ItemRead → ℕ → Meaning RinexCounts
 send_meaning f r = file_meaning f false (sends_text_so_far r) (withheld_text r) (sends_text r) (sends_report r) (λ reads. counts_of_tolds (tolds r 0 reads))

@@ -6,6 +6,7 @@ ghost use Rattle.std.specs.Io.KnownBytes.{Appends};
 ghost use Rattle.nav_io.specs.Prefix.{AppendsPrefix};
 ghost use Rattle.outlets.specs.Targets.{item_text};
 ghost use Rattle.one_run.specs.Causes.{HasItsCause, faults_of};
+ghost use Rattle.rinex_read.specs.RoundTrip.{IsWholeRead};
 ghost use Rattle.nav_files.specs.Files.{convert_report, convert_text};
 ghost use Rattle.nav_files.specs.Files.{counts_of_reads, read_report, read_text};
 ghost use Rattle.nav_files.specs.Mirrors.{AreCounted};
@@ -51,15 +52,16 @@ fn tell_read<T: Sink, U: Sink>(
             }
         }
         ItemRead::PassedOver { .. } => Ok(()),
-        ItemRead::End => Ok(()),
     }
 }
 
 // Each item is written as soon as its record was read.
-impl Taker for Target {
+impl Taker<ItemRead> for Target {
     type State = RinexCounts;
 
     type Counts = RinexCounts;
+
+    ghost known = { IsWholeRead };
 
     ghost text = { convert_text };
 

@@ -5,6 +5,7 @@ ghost use Rattle.std.specs.List.{Contains, flat_map};
 ghost use Rattle.nav_io.specs.Writes.{Writes};
 ghost use Rattle.nav_eph.specs.declared.items.NavItem.{NavItem};
 ghost use Rattle.nav_lists.specs.Covering.{AreCovering, AreCovers};
+ghost use Rattle.rinex_read.specs.RoundTrip.{IsWholeRead};
 ghost use Rattle.nav_files.specs.Files.{counts_of_reads, read_report};
 ghost use Rattle.nav_files.specs.Mirrors.{AreCounted};
 ghost use Rattle.nav_files.specs.Archives.{cover_counts_text, cover_line, cover_text};
@@ -82,15 +83,16 @@ fn cover_read(read: &ItemRead, cover: &mut Cover) -> Result<(), BridgeFault>
         },
         ItemRead::Refused { .. } => Ok(()),
         ItemRead::PassedOver { .. } => Ok(()),
-        ItemRead::End => Ok(()),
     }
 }
 
 // Nothing is written before the end.
-impl Taker for Covers {
+impl Taker<ItemRead> for Covers {
     type State = Covered;
 
     type Counts = RinexCounts;
+
+    ghost known = { IsWholeRead };
 
     ghost text = { λ c reads. [] };
 

@@ -16,21 +16,22 @@ use rinex_read::{FileForm, HeaderFault, RecordReader};
 ///
 /// `NotThisForm` if the header is rejected; `ReadFault` only if the input's error count rose or is
 /// at its maximum; `TooLong` only if 4,294,967,295 bytes were read and there was one more.
-pub fn pass_header<F: FileForm, S: Source>(
-    records: &mut RecordReader<F>,
+pub fn pass_header<R, F: FileForm<R>, S: Source>(
+    form: &F,
+    records: &mut RecordReader,
     input: &mut S,
 ) -> Result<(), BridgeFault>
     requires first { IsNew records.old }
-    ensures header { OnOk result (PassesHeader F.form (S.left input.old) (S.left input.new)
+    ensures header { OnOk result (PassesHeader (F.form form.now) (S.left input.old) (S.left input.new)
         records.old records.new) }
-    ensures broken { IfErr result (NoHeader F.form (S.left input.old) (S.left input.new)
+    ensures broken { IfErr result (NoHeader (F.form form.now) (S.left input.old) (S.left input.new)
         records.old records.new) }
     ensures cause { HasItsCause (faults_of (S.faults input.old) 0 0)
         (faults_of (S.faults input.new) 0 0) result }
     ensures never { IsTrue (S.never_fails input.old)
         → (IsErrOf result BridgeFault.ReadFault → ⊥) × IsTrue (S.never_fails input.new) }
 {
-    match records.read_header(input) {
+    match records.read_header(form, input) {
         Ok(()) => Ok(()),
         Err(HeaderFault::NotRinexNav) => Err(BridgeFault::NotThisForm),
         Err(HeaderFault::Version) => Err(BridgeFault::NotThisForm),

@@ -12,7 +12,7 @@ use crate::target::RinexTo;
 use nav_io::{Sink, Source};
 use one_run::BridgeFault;
 use outlets::Target;
-use rinex_read::{Rinex3, Rinex4};
+use rinex_read::{ItemRead, Rinex3, Rinex4};
 
 /// Reads a navigation file of RINEX 4 to its end, and writes what it is converted to while it
 /// reads.
@@ -44,7 +44,14 @@ pub fn run_rinex<S: Source, T: Sink, U: Sink>(
         input.old input.new output.old output.new report.old report.new result }
 {
     let mut counts = RinexCounts::new();
-    run_file::<Rinex4, Target, S, T, U>(&to.target(), &mut counts, input, output, report)
+    run_file::<ItemRead, Rinex4, Target, S, T, U>(
+        &Rinex4,
+        &to.target(),
+        &mut counts,
+        input,
+        output,
+        report,
+    )
 }
 
 /// Reads a navigation file of RINEX 3 to its end, and writes what it is converted to while it
@@ -65,5 +72,12 @@ pub fn run_rinex3<S: Source, T: Sink, U: Sink>(
         input.old input.new output.old output.new report.old report.new result }
 {
     let mut counts = RinexCounts::new();
-    run_file::<Rinex3, Target, S, T, U>(&to.target(), &mut counts, input, output, report)
+    run_file::<ItemRead, Rinex3, Target, S, T, U>(
+        &Rinex3,
+        &to.target(),
+        &mut counts,
+        input,
+        output,
+        report,
+    )
 }

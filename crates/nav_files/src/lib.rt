@@ -49,6 +49,7 @@ pub use crate::counts::RinexCounts;
 pub use crate::files::{run_rinex, run_rinex3};
 pub use crate::laws::{what_is_written_is_the_sent_text, what_is_written_is_the_text_of_a_list};
 pub use crate::merge_counts::MergeCounts;
+pub use crate::records::reason_word;
 pub use crate::runs::{run_cover, run_merge};
 pub use crate::send::{send_rinex, send_rinex3};
 pub use crate::taker::{Taker, run_file};

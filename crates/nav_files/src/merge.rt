@@ -8,6 +8,7 @@ ghost use Rattle.nav_lists.specs.Merging.{merged_of};
 ghost use Rattle.rinex_write.specs.Texts.{header_lines, text_of};
 ghost use Rattle.outlets.specs.ItemTexts.{rinex_item};
 ghost use Rattle.outlets.specs.Times.{times_of};
+ghost use Rattle.rinex_read.specs.RoundTrip.{IsWholeRead};
 ghost use Rattle.nav_files.specs.Files.{counts_of_reads, read_report};
 ghost use Rattle.nav_files.specs.Mirrors.{AreCounted};
 ghost use Rattle.rinex_read.specs.Files.{items_of};
@@ -99,7 +100,6 @@ fn merge_read(read: &ItemRead, merge: &mut Merge) -> Result<(), BridgeFault>
         },
         ItemRead::Refused { .. } => Ok(()),
         ItemRead::PassedOver { .. } => Ok(()),
-        ItemRead::End => Ok(()),
     }
 }
 
@@ -117,10 +117,12 @@ fn kept_text(counts: &MergeCounts) -> Text
 }
 
 // Nothing but the header is written before the end.
-impl Taker for Merging {
+impl Taker<ItemRead> for Merging {
     type State = Merged;
 
     type Counts = MergeCounts;
+
+    ghost known = { IsWholeRead };
 
     ghost text = { λ m reads. text_of (header_lines m.words) };
 

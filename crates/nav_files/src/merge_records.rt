@@ -31,6 +31,5 @@ pub(crate) fn report_read<U: Sink>(read: &ItemRead, report: &mut U) -> Result<()
         }
         ItemRead::Item { .. } => Ok(()),
         ItemRead::PassedOver { .. } => Ok(()),
-        ItemRead::End => Ok(()),
     }
 }

@@ -1,13 +1,12 @@
 //! The records of a navigation file, one after another.
 
 ghost use Rattle.std.specs.Prelude.{◌≡◌, ◌+◌, ◌^◌, ◌<◌, ◌≤◌};
-ghost use Rattle.std.specs.Prelude.{length, IsTrue, IsErrOf, IfOk, IfErr, IfSome, IfNone};
-ghost use Rattle.rinex_read.specs.States.{GivesNone, GivesRead};
-ghost use Rattle.rinex_read.specs.RoundTrip.{IsWholeRead};
+ghost use Rattle.std.specs.Prelude.{length, IsTrue, IsErrOf, IfOk, IfErr, IfSome};
+ghost use Rattle.rinex_read.specs.States.{GivesRead};
 ghost use Rattle.rinex_read.specs.declared.judged.HeaderState.TheVariants.{Passed};
 ghost use Rattle.one_run.specs.Causes.{HasItsCause, fault_by, faults_of};
 ghost use Rattle.nav_files.specs.Files.{reason_text};
-ghost use Rattle.nav_files.specs.Mirrors.{AreCounted, BreaksRead, IsRecord, counted};
+ghost use Rattle.nav_files.specs.Mirrors.{AreCounted, BreaksRead, counted};
 
 use crate::counts::RinexCounts;
 use nav_io::{LineFault, Source};
@@ -46,7 +45,6 @@ pub fn reason_word(reason: Reason) -> &'static [u8]
 
 /// Counts a record.
 pub fn count_read(read: &ItemRead, counts: &mut RinexCounts)
-    requires record { IsRecord read.now }
     requires room { counts.old.records + 1 < 2 ^ 64 }
     requires counted { AreCounted counts.old }
     ensures counts { counts.new ≡ counted counts.old read.now }
@@ -59,39 +57,35 @@ pub fn count_read(read: &ItemRead, counts: &mut RinexCounts)
         }
         ItemRead::Refused { .. } => counts.refused += 1,
         ItemRead::PassedOver { .. } => counts.passed += 1,
-        ItemRead::End => {}
     }
     counts.records += 1;
 }
 
-/// The next record; `None` at the end of the file. An item that is read is complete: its fields fit
-/// their widths in bits, and its parts fit together.
+/// The next record; `None` at the end of the file.
 ///
 /// # Errors
 ///
 /// `ReadFault` only if the input's error count rose or is at its maximum; `TooLong` only if
 /// 4,294,967,295 bytes were read and there was one more.
-pub fn next_read<F: FileForm, S: Source>(
-    records: &mut RecordReader<F>,
+pub fn next_read<R, F: FileForm<R>, S: Source>(
+    form: &F,
+    records: &mut RecordReader,
     input: &mut S,
-) -> Result<Option<ItemRead>, BridgeFault>
+) -> Result<Option<R>, BridgeFault>
     requires header { records.old.header ≡ Passed }
-    ensures read { IfOk result (λ given. IfSome given (λ read. IsRecord read
-        × GivesRead F.form read (S.left input.old) (S.left input.new) records.old records.new)) }
-    ensures item { IfOk result (λ given. IfSome given IsWholeRead) }
-    ensures none { IfOk result (λ given. IfNone given
-        (GivesNone F.form (S.left input.old) (S.left input.new) records.old records.new)) }
+    ensures read { IfOk result (λ given.
+        GivesRead (F.form form.now) given (S.left input.old) (S.left input.new) records.old records.new) }
+    ensures whole { IfOk result (λ given. IfSome given F.whole) }
     ensures header { records.new.header ≡ Passed }
-    ensures broken { IfErr result (λ fault. BreaksRead F.form (S.left input.old) (S.left input.new)
+    ensures broken { IfErr result (λ fault. BreaksRead (F.form form.now) (S.left input.old) (S.left input.new)
         records.old records.new fault) }
     ensures cause { HasItsCause (faults_of (S.faults input.old) 0 0)
         (faults_of (S.faults input.new) 0 0) result }
     ensures never { IsTrue (S.never_fails input.old)
         → (IsErrOf result BridgeFault.ReadFault → ⊥) × IsTrue (S.never_fails input.new) }
 {
-    match records.next_item(input) {
-        Ok(ItemRead::End) => Ok(None),
-        Ok(read) => Ok(Some(read)),
+    match records.next_item(form, input) {
+        Ok(read) => Ok(read),
         Err(fault) => Err(fault_of(fault)),
     }
 }

@@ -11,7 +11,7 @@ use crate::taker::run_file;
 use nav_io::{Sink, Source};
 use nav_lists::{Cover, Merge, covering};
 use one_run::BridgeFault;
-use rinex_read::Rinex4;
+use rinex_read::{ItemRead, Rinex4};
 use rinex_write::HeaderWords;
 use std::alloc::Global;
 
@@ -49,7 +49,9 @@ pub fn run_merge<S: Source, T: Sink, U: Sink>(
         counts: RinexCounts::new(),
     };
     let merging = Merging { words: *words };
-    run_file::<Rinex4, Merging, S, T, U>(&merging, &mut state, input, output, report)
+    run_file::<ItemRead, Rinex4, Merging, S, T, U>(
+        &Rinex4, &merging, &mut state, input, output, report,
+    )
 }
 
 /// Reads navigation files of RINEX 4, concatenated, to their end, and writes the times for which
@@ -76,5 +78,7 @@ pub fn run_cover<S: Source, T: Sink, U: Sink>(
         counts: RinexCounts::new(),
     };
     covering();
-    run_file::<Rinex4, Covers, S, T, U>(&Covers, &mut state, input, output, report)
+    run_file::<ItemRead, Rinex4, Covers, S, T, U>(
+        &Rinex4, &Covers, &mut state, input, output, report,
+    )
 }

@@ -12,7 +12,7 @@ use crate::taker::run_file;
 use gnss_week::RefWeek;
 use nav_io::{Sink, Source};
 use one_run::BridgeFault;
-use rinex_read::{Rinex3, Rinex4};
+use rinex_read::{ItemRead, Rinex3, Rinex4};
 
 /// Reads a navigation file of RINEX 4 to its end, and writes while it reads the capture that
 /// transmits it, for a receiver that resolves week numbers against the reference week `r`.
@@ -48,7 +48,14 @@ pub fn send_rinex<S: Source, T: Sink, U: Sink>(
         counts: no_counts(),
         slot: 0,
     };
-    run_file::<Rinex4, Sending, S, T, U>(&Sending { r }, &mut state, input, output, report)
+    run_file::<ItemRead, Rinex4, Sending, S, T, U>(
+        &Rinex4,
+        &Sending { r },
+        &mut state,
+        input,
+        output,
+        report,
+    )
 }
 
 /// The same for a navigation file of RINEX 3.
@@ -70,5 +77,12 @@ pub fn send_rinex3<S: Source, T: Sink, U: Sink>(
         counts: no_counts(),
         slot: 0,
     };
-    run_file::<Rinex3, Sending, S, T, U>(&Sending { r }, &mut state, input, output, report)
+    run_file::<ItemRead, Rinex3, Sending, S, T, U>(
+        &Rinex3,
+        &Sending { r },
+        &mut state,
+        input,
+        output,
+        report,
+    )
 }

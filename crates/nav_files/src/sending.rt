@@ -4,6 +4,7 @@ ghost use Rattle.std.specs.Prelude.{◌≡◌, ◌++◌, false};
 ghost use Rattle.std.specs.List.{flat_map};
 ghost use Rattle.nav_io.specs.Writes.{Writes};
 ghost use Rattle.page_send.specs.Sendable.{sent_head};
+ghost use Rattle.rinex_read.specs.RoundTrip.{IsWholeRead};
 ghost use Rattle.nav_files.specs.Following.{AreCounted};
 ghost use Rattle.nav_files.specs.Sends.{counts_of_tolds, sends_report, sends_text, slots_behind};
 ghost use Rattle.nav_files.specs.Sends.{told_report, told_text, tolds};
@@ -40,10 +41,12 @@ fn write_head<T: Sink>(out: &mut T) -> Result<(), Failed>
 }
 
 // Each ephemeris is written as soon as its record was read.
-impl Taker for Sending {
+impl Taker<ItemRead> for Sending {
     type State = SoFar;
 
     type Counts = RinexCounts;
+
+    ghost known = { IsWholeRead };
 
     ghost text = { λ s reads. sent_head ++ flat_map told_text (tolds s.r 0 reads) };
 

@@ -7,13 +7,10 @@ ghost use Rattle.std.specs.Io.KnownBytes.{Appends};
 ghost use Rattle.nav_io.specs.Causes.{HasCause};
 ghost use Rattle.nav_io.specs.Prefix.{AppendsPrefix, IsPrefix};
 ghost use Rattle.nav_io.specs.Writes.{Writes};
-ghost use Rattle.rinex_read.specs.RoundTrip.{IsWholeRead};
 ghost use Rattle.rinex_read.specs.declared.judged.HeaderState.TheVariants.{Passed};
-ghost use Rattle.rinex_read.specs.declared.judged.ItemRead.{ItemRead};
 ghost use Rattle.one_run.specs.Causes.{HasItsCause, faults_of};
 ghost use Rattle.one_run.specs.Runs.{AppendsBetween, Ran};
 ghost use Rattle.nav_files.specs.Files.{file_meaning};
-ghost use Rattle.nav_files.specs.Mirrors.{IsRecord};
 ghost use Rattle.nav_files.specs.Taken.{TakesAll, TakesPart};
 
 use crate::file::pass_header;
@@ -21,45 +18,48 @@ use crate::records::next_read;
 use nav_io::{Failed, Sink, Source};
 use one_run::{BridgeFault, Text};
 use rinex_read::{
-    FileForm, ItemRead, RecordReader, early_records_are_given, readers_begin_with_the_file,
-    steps_compose, whole_records_are_given,
+    FileForm, RecordReader, early_records_are_given, readers_begin_with_the_file, steps_compose,
+    whole_records_are_given,
 };
 
 /// What a run does with the records of a file, in order. Its settings do not change; what it holds
 /// of the records is its state.
-pub trait Taker {
+pub trait Taker<R> {
     type State;
 
     type Counts: Copy;
 
-    // What was written and reported after these records.
-    ghost text: { Self → List ItemRead → List ℕ };
+    // What is known of each record.
+    ghost known: { R → Type 0 };
 
-    ghost told: { Self → List ItemRead → List ℕ };
+    // What was written and reported after these records.
+    ghost text: { Self → List R → List ℕ };
+
+    ghost told: { Self → List R → List ℕ };
 
     // What is written and reported of all records of a file, and what is counted.
-    ghost whole: { Self → List ItemRead → List ℕ };
+    ghost whole: { Self → List R → List ℕ };
 
-    ghost reported: { Self → List ItemRead → List ℕ };
+    ghost reported: { Self → List R → List ℕ };
 
-    ghost count: { Self → List ItemRead → Self.Counts };
+    ghost count: { Self → List R → Self.Counts };
 
     // Whether it takes memory.
     ghost memory: { Bool };
 
     // The state is that after these records.
-    ghost holds: { Self → Self.State → List ItemRead → Type 0 };
+    ghost holds: { Self → Self.State → List R → Type 0 };
 
     // What was written and reported is a prefix of the whole, and of what is written and reported
     // of more records; at first nothing is reported.
     fn begins(&self)
-        ensures grows { (some more : List ItemRead)
+        ensures grows { (some more : List R)
             → IsPrefix (text self.now some) (text self.now (some ++ more)) }
-        ensures text { (some more : List ItemRead)
+        ensures text { (some more : List R)
             → IsPrefix (text self.now some) (whole self.now (some ++ more)) }
-        ensures told { (some more : List ItemRead)
+        ensures told { (some more : List R)
             → IsPrefix (told self.now some) (reported self.now (some ++ more)) }
-        ensures more { (some more : List ItemRead)
+        ensures more { (some more : List R)
             → IsPrefix (told self.now some) (told self.now (some ++ more)) }
         ensures silent { told self.now [] ≡ [] };
 
@@ -68,33 +68,33 @@ pub trait Taker {
         ensures { Writes (T.written output.old) (T.written output.new)
             (T.faults output.old) (T.faults output.new) result (text self.now []) };
 
-    // Processes a record. Where that fails, all that belongs to the records before it was written.
+    // Processes a record. Where that fails, all that belongs to the records before it was written
+    // and reported.
     fn take<T: Sink, U: Sink>(
         &self,
         state: &mut Self::State,
-        read: &ItemRead,
+        read: &R,
         output: &mut T,
         report: &mut U,
     ) -> Result<(), BridgeFault>
-        requires record { IsRecord read.now }
-        requires item { IsWholeRead read.now }
-        requires few { (reads : List ItemRead) × holds self.now state.old reads
+        requires known { known read.now }
+        requires few { (reads : List R) × holds self.now state.old reads
             × (length reads + 1 < 2 ^ 64) }
-        ensures held { OnOk result ((reads : List ItemRead) → holds self.now state.old reads
+        ensures held { OnOk result ((reads : List R) → holds self.now state.old reads
             → holds self.now state.new (reads ++ read.now ∷ [])) }
-        ensures output { (reads : List ItemRead) (start : Option (List ℕ))
+        ensures output { (reads : List R) (start : Option (List ℕ))
             → holds self.now state.old reads
             → Appends start (T.written output.old) (text self.now reads)
             → MatchResult result
             (λ _. Appends start (T.written output.new) (text self.now (reads ++ read.now ∷ [])))
             (λ _. AppendsBetween start (T.written output.new) (text self.now reads)
             (text self.now (reads ++ read.now ∷ []))) }
-        ensures report { (reads : List ItemRead) (start : Option (List ℕ))
+        ensures report { (reads : List R) (start : Option (List ℕ))
             → holds self.now state.old reads
             → Appends start (U.written report.old) (told self.now reads)
             → MatchResult result
             (λ _. Appends start (U.written report.new) (told self.now (reads ++ read.now ∷ [])))
-            (λ _. AppendsPrefix start (U.written report.new)
+            (λ _. AppendsBetween start (U.written report.new) (told self.now reads)
             (told self.now (reads ++ read.now ∷ []))) }
         ensures cause { HasItsCause (faults_of 0 (T.faults output.old) (U.faults report.old))
             (faults_of 0 (T.faults output.new) (U.faults report.new)) result }
@@ -104,13 +104,13 @@ pub trait Taker {
 
     // The counts of the records so far.
     fn counts(&self, state: &Self::State) -> Self::Counts
-        ensures { (reads : List ItemRead) → holds self.now state.now reads
+        ensures { (reads : List R) → holds self.now state.now reads
             → result ≡ count self.now reads };
 
     // Writes the text at the end of a file. Where that fails, all that belongs to its records was
     // written before.
     fn finish<T: Sink>(&self, state: &mut Self::State, output: &mut T) -> Result<(), Failed>
-        ensures output { (reads : List ItemRead) (start : Option (List ℕ))
+        ensures output { (reads : List R) (start : Option (List ℕ))
             → holds self.now state.old reads
             → Appends start (T.written output.old) (text self.now reads)
             → MatchResult result
@@ -121,28 +121,32 @@ pub trait Taker {
 
     // The text of counts.
     fn counts_text(&self, counts: &Self::Counts) -> Text
-        ensures { (reads : List ItemRead) → counts.now ≡ count self.now reads
+        ensures { (reads : List R) → counts.now ≡ count self.now reads
             → reported self.now reads ≡ told self.now reads ++ result.items };
 }
 
 // Processes the records after the header, in order.
-fn process_records<F: FileForm, K: Taker, S: Source, T: Sink, U: Sink>(
+fn process_records<R: Drop, F: FileForm<R>, K: Taker<R>, S: Source, T: Sink, U: Sink>(
+    form: &F,
     taker: &K,
     state: &mut K::State,
-    records: &mut RecordReader<F>,
+    records: &mut RecordReader,
     input: &mut S,
     output: &mut T,
     report: &mut U,
 ) -> Result<(), BridgeFault>
     requires header { records.old.header ≡ Passed }
     requires nothing { K.holds taker.now state.old [] }
-    requires grows { (some more : List ItemRead)
+    requires known { (read : R) → F.whole read → K.known read }
+    requires grows { (some more : List R)
         → IsPrefix (K.text taker.now some) (K.text taker.now (some ++ more)) }
-    ensures all { OnOk result (TakesAll F.form (K.text taker.now) (K.told taker.now)
+    requires tells { (some more : List R)
+        → IsPrefix (K.told taker.now some) (K.told taker.now (some ++ more)) }
+    ensures all { OnOk result (TakesAll (F.form form.now) (K.text taker.now) (K.told taker.now)
         (K.holds taker.now state.new) (S.left input.old) (S.left input.new)
         records.old records.new (T.written output.old) (T.written output.new)
         (U.written report.old) (U.written report.new)) }
-    ensures broken { IfErr result (TakesPart F.form (K.text taker.now) (K.told taker.now)
+    ensures broken { IfErr result (TakesPart (F.form form.now) (K.text taker.now) (K.told taker.now)
         K.memory (S.left input.old) (S.left input.new)
         records.old records.new (T.written output.old) (T.written output.new)
         (U.written report.old) (U.written report.new)) }
@@ -151,9 +155,9 @@ fn process_records<F: FileForm, K: Taker, S: Source, T: Sink, U: Sink>(
         (faults_of (S.faults input.new) (T.faults output.new) (U.faults report.new)) result }
     ensures never { IsTrue (S.never_fails input.old) → IsErrOf result BridgeFault.ReadFault → ⊥ }
 {
-    steps_compose::<F>();
+    steps_compose::<R, F>(form);
     'records: loop {
-        match next_read::<F, S>(records, input) {
+        match next_read::<R, F, S>(form, records, input) {
             Err(fault) => return Err(fault),
             Ok(None) => return Ok(()),
             Ok(Some(read)) => taker.take(state, &read, output, report)?,
@@ -165,7 +169,8 @@ fn process_records<F: FileForm, K: Taker, S: Source, T: Sink, U: Sink>(
 ///
 /// The header is checked first; then the records are processed in order, and at the end the counts
 /// are reported.
-pub fn run_file<F: FileForm, K: Taker, S: Source, T: Sink, U: Sink>(
+pub fn run_file<R: Drop, F: FileForm<R>, K: Taker<R>, S: Source, T: Sink, U: Sink>(
+    form: &F,
     taker: &K,
     state: &mut K::State,
     input: &mut S,
@@ -173,23 +178,24 @@ pub fn run_file<F: FileForm, K: Taker, S: Source, T: Sink, U: Sink>(
     report: &mut U,
 ) -> Result<K::Counts, BridgeFault>
     requires nothing { K.holds taker.now state.old [] }
-    ensures { Ran (file_meaning F.form K.memory (K.text taker.now) (K.told taker.now)
+    requires known { (read : R) → F.whole read → K.known read }
+    ensures { Ran (file_meaning (F.form form.now) K.memory (K.text taker.now) (K.told taker.now)
         (K.whole taker.now) (K.reported taker.now) (K.count taker.now))
         S.left S.never_fails S.faults T.written T.faults U.written U.faults
         input.old input.new output.old output.new report.old report.new result }
 {
-    readers_begin_with_the_file::<F>();
-    steps_compose::<F>();
-    whole_records_are_given::<F>();
-    early_records_are_given::<F>();
+    readers_begin_with_the_file::<R, F>(form);
+    steps_compose::<R, F>(form);
+    whole_records_are_given::<R, F>(form);
+    early_records_are_given::<R, F>(form);
     taker.begins();
-    let mut records: RecordReader<F> = RecordReader::new();
-    pass_header::<F, S>(&mut records, input)?;
+    let mut records = RecordReader::new();
+    pass_header::<R, F, S>(form, &mut records, input)?;
     match taker.begin(output) {
         Ok(()) => {}
         Err(Failed) => return Err(BridgeFault::WriteFault),
     }
-    process_records(taker, state, &mut records, input, output, report)?;
+    process_records(form, taker, state, &mut records, input, output, report)?;
     let counts = taker.counts(state);
     match taker.finish(state, output) {
         Ok(()) => {}

@@ -82,7 +82,6 @@ pub(crate) fn told_of(r: RefWeek, slot: u32, read: &ItemRead) -> Told
             reason: *reason,
         },
         ItemRead::PassedOver { .. } => Told::PassedOver,
-        ItemRead::End => Told::PassedOver,
     }
 }
 

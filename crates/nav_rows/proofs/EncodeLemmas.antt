@@ -8,6 +8,7 @@ use Rattle.std.proofs.Common.{zero-add, inl, inr, Option, Some, None, Result, Ok
 use Rattle.std.proofs.Common.{if◌then◌else◌}
 use Rattle.std.specs.Prelude.{nat_eq, nat_le, nat_lt}
 use Rattle.std.proofs.Math.Nat.{div-add-mod, mul-div_cancel_left, mul-mod_right}
+use Rattle.std.proofs.lemmas.Nat.{mod_below}
 use Rattle.std.proofs.lemmas.Int.{ints}
 use Rattle.std.proofs.lemmas.Bool.{le-leb, leb-true, lt-ltb, ltb-true}
 use Rattle.std.proofs.lemmas.Bool.Decides.{nat_tests}
@@ -44,17 +45,18 @@ use Rattle.nav_days.proofs.Surface.{frame_epoch, frame_is, good_rule, near_is, n
 use Rattle.nav_days.proofs.Surface.{ok_same}
 use Rattle.nav_days.proofs.Surface.{passed}
 use Rattle.nav_days.proofs.Surface.{times_near, week_again}
+use Rattle.scaled_decimal.specs.declared.scales.Scale.{Scale}
 use Rattle.rinex_write.specs.declared.columns.Rule.{Rule}
-use Rattle.rinex_write.specs.declared.columns.Rule.TheVariants.{Plain, OrZero, OrLeast, Ura, Sisa}
-use Rattle.rinex_write.specs.declared.columns.Rule.TheVariants.{Fit, Sent, Unread}
+use Rattle.rinex_write.specs.declared.columns.Rule.TheVariants.{Plain, OrZero, OrLeast, OrUnknown}
+use Rattle.rinex_write.specs.declared.columns.Rule.TheVariants.{Ura, Sisa, Fit, Sent, Unread}
 use Rattle.rinex_write.specs.declared.columns.Column.{Column}
-use Rattle.rinex_write.specs.Columns.{AreFields, IsField, are_good, is_good_range, is_good_rule}
-use Rattle.rinex_write.specs.Columns.{is_good_scale}
+use Rattle.rinex_write.specs.Columns.{AreFields, IsField, are_good, is_below_unknown}
+use Rattle.rinex_write.specs.Columns.{is_good_range, is_good_rule, is_good_scale, is_unknown}
 use Rattle.rinex_read.specs.declared.reason.Reason.{Reason}
 use Rattle.rinex_read.specs.Judging.{is_named_week}
 use Rattle.nav_rows.specs.declared.kind.WeekClock.{WeekClock}
 use Rattle.nav_rows.specs.declared.kind.Clock.{Clock}
-use Rattle.nav_rows.specs.declared.kind.Clock.TheVariants.{Frame, Weeks}
+use Rattle.nav_rows.specs.declared.kind.Clock.TheVariants.{Frame, Weeks, Daily}
 use Rattle.nav_rows.specs.declared.kind.Kind.{Kind}
 use Rattle.nav_rows.specs.declared.times.RowTimes.{RowTimes}
 use Rattle.nav_rows.specs.declared.encode.EncodeFault.{EncodeFault}
@@ -62,17 +64,18 @@ use Rattle.nav_rows.specs.declared.encode.EncodeFault.TheVariants as faults
 use Rattle.nav_rows.specs.declared.row.RowFault.TheVariants.{SpareSisa}
 use Rattle.nav_rows.specs.Kinds.{IsKind, all_covered, all_links, are_said, has_columns, has_times}
 use Rattle.nav_rows.specs.Kinds.{has_weeks, head_links, is_given_at, is_of_field, is_whole, link_at}
-use Rattle.nav_rows.specs.Times.{IsSatellite, frame_of, framed, number}
+use Rattle.nav_rows.specs.Times.{IsGiven, IsSatellite, frame_of, framed, number}
 use Rattle.nav_rows.specs.Times.{times_told}
 use Rattle.nav_rows.specs.Times.{weekly}
 use Rattle.nav_rows.specs.Rows.{RowValue, given_of, has_spare_sisa, row_at, row_by, row_in}
 use Rattle.nav_rows.specs.Encoding.{AreUnsaid, HasClock, IsNearRow, IsOfMessage, bytes_by}
 use Rattle.nav_rows.specs.Encoding.{epoch_fault, frame_said, head_of, frame_head, is_near_toe}
 use Rattle.nav_rows.specs.Encoding.{judged_numbers}
-use Rattle.nav_rows.specs.Encoding.{judged_row, message_of, numbers_after, numbers_in, said_numbers}
+use Rattle.nav_rows.specs.Encoding.{judged_row, known, known_in, message_of, numbers_after, numbers_in}
+use Rattle.nav_rows.specs.Encoding.{said_numbers}
 use Rattle.nav_rows.specs.Encoding.{said_times, toe_at, toe_week, week_head, with_head}
 use Rattle.nav_rows.proofs.NumberLemmas.{clock_of, satellite_is, times_are}
-use Rattle.nav_rows.proofs.RowLemmas.{front}
+use Rattle.nav_rows.proofs.RowLemmas.{front, good}
 
 -- ---- the columns of a row
 
@@ -88,18 +91,22 @@ range_small low high z e from to =
     let y = le_z_true high (pos 4294967295) a.1 in
     abs_small z (omega (arith, ints, x, from)) (omega (arith, ints, y, to))
 
-field_small : (rule : Rule) (z : ℤ) → is_good_rule rule ≡ true → IsField rule z
+field_small : (s : Scale) (rule : Rule) (z : ℤ) → is_good_rule s rule ≡ true → IsField rule z
     → unsigned_abs z < 2 ^ 33
-field_small (Plain low high) z e h = range_small low high z e h.0 h.1
-field_small (OrZero low high) z e h = range_small low high z e h.0 h.1
-field_small (OrLeast low high) z e h = range_small low high z e h.0 h.1
-field_small Ura z e h = abs_small z (omega (arith, ints, h.0)) (omega (arith, ints, h.1))
-field_small Sisa z e (inl h) = abs_small z (omega (arith, ints, h.0)) (omega (arith, ints, h.1))
-field_small Sisa z e (inr h) = abs_small z (omega (arith, ints, h)) (omega (arith, ints, h))
-field_small Fit z e h = abs_small z (omega (arith, ints, h.0)) (omega (arith, ints, h.1))
-field_small Sent z e (inl h) = abs_small z (omega (arith, ints, h.0)) (omega (arith, ints, h.1))
-field_small Sent z e (inr h) = abs_small z (omega (arith, ints, h)) (omega (arith, ints, h))
-field_small (Unread n) z e h =
+field_small s (Plain low high) z e h = range_small low high z e h.0 h.1
+field_small s (OrZero low high) z e h = range_small low high z e h.0 h.1
+field_small s (OrLeast low high) z e h = range_small low high z e h.0 h.1
+field_small s (OrUnknown low high) z e (inl h) =
+    range_small low high z (both (is_good_range low high) (is_below_unknown s high) e).0 h.0 h.1
+field_small s (OrUnknown low high) z e (inr h) =
+    abs_small z (omega (arith, ints, h)) (omega (arith, ints, h))
+field_small s Ura z e h = abs_small z (omega (arith, ints, h.0)) (omega (arith, ints, h.1))
+field_small s Sisa z e (inl h) = abs_small z (omega (arith, ints, h.0)) (omega (arith, ints, h.1))
+field_small s Sisa z e (inr h) = abs_small z (omega (arith, ints, h)) (omega (arith, ints, h))
+field_small s Fit z e h = abs_small z (omega (arith, ints, h.0)) (omega (arith, ints, h.1))
+field_small s Sent z e (inl h) = abs_small z (omega (arith, ints, h.0)) (omega (arith, ints, h.1))
+field_small s Sent z e (inr h) = abs_small z (omega (arith, ints, h)) (omega (arith, ints, h))
+field_small s (Unread n) z e h =
     range_small n n z e (omega (arith, ints, h)) (omega (arith, ints, h))
 
 pub fields_small : (cs : List Column) (zs : List ℤ) → are_good cs ≡ true → AreFields cs zs
@@ -108,9 +115,9 @@ fields_small [] [] e h = tt
 fields_small [] (z ∷ zs) e h = absurd h
 fields_small (c ∷ cs) [] e h = absurd h
 fields_small (c ∷ cs) (z ∷ zs) e h =
-    let a = both (is_good_scale c.scale && is_good_rule c.rule) (are_good cs) e in
-    let b = both (is_good_scale c.scale) (is_good_rule c.rule) a.0 in
-    (field_small c.rule z b.1 h.0, fields_small cs zs a.1 h.1)
+    let a = both (is_good_scale c.scale && is_good_rule c.scale c.rule) (are_good cs) e in
+    let b = both (is_good_scale c.scale) (is_good_rule c.scale c.rule) a.0 in
+    (field_small c.scale c.rule z b.1 h.0, fields_small cs zs a.1 h.1)
 
 fields_length : (cs : List Column) (zs : List ℤ) → AreFields cs zs → length zs ≡ length cs
 fields_length [] [] h = refl
@@ -134,6 +141,7 @@ clock_by Frame fs links columns t e count small =
       status = small_at columns 15 small;
       health = small_at columns 18 small;
     }
+clock_by (Daily step) fs links columns t e count small = ltb-true 0 step t
 clock_by (Weeks c) fs links columns t e count small =
     let a = both (nat_lt 21 (length links) && is_of_field c.toe (link_at links 11))
     (is_given_at 0 (link_at links 21)) e in
@@ -148,6 +156,29 @@ clock_by (Weeks c) fs links columns t e count small =
       most = g.most;
       zero = omega (arith, g.zero, g.late);
     }
+
+-- the columns, with 0 for a number that is not known, are as many, and as small
+pub known_length : (cs : List Column) (zs : List ℤ) → AreFields cs zs
+    → length (known cs zs) ≡ length zs
+unfolding known
+known_length [] [] h = refl
+known_length [] (z ∷ zs) h = absurd h
+known_length (c ∷ cs) [] h = absurd h
+known_length (c ∷ cs) (z ∷ zs) h = ap suc (known_length cs zs h.1)
+
+known_one : (b : Bool) (z : ℤ) → unsigned_abs z < 2 ^ 33
+    → unsigned_abs (if b then pos 0 else z) < 2 ^ 33
+known_one true z h = omega arith
+known_one false z h = h
+
+pub known_small : (cs : List Column) (zs : List ℤ) → AreFields cs zs → AreSmall zs
+    → AreSmall (known cs zs)
+unfolding known
+known_small [] [] h small = tt
+known_small [] (z ∷ zs) h small = absurd h
+known_small (c ∷ cs) [] h small = absurd h
+known_small (c ∷ cs) (z ∷ zs) h small =
+    (known_one (is_unknown c.rule z) z small.0, known_small cs zs h.1 small.1)
 
 -- what is known of the columns of a row
 pub record IsRow (k : Kind) (columns : List ℤ) : Type 0 where
@@ -186,6 +217,7 @@ unfolding_head : (clock : Clock) (parts : List Part) (zs : List ℤ)
     → AreFit parts (head_links clock) zs
 unfolding_head Frame parts zs = (tt, (tt, (tt, (tt, (tt, (tt, (tt, (tt, tt))))))))
 unfolding_head (Weeks c) parts zs = (tt, (tt, (tt, tt)))
+unfolding_head (Daily step) parts zs = (tt, tt)
 
 carried : (k : Kind) (zs given : List ℤ) → IsKind k → AreInRange k.table.fields.now zs
     → AreUnsaid k zs
@@ -442,10 +474,43 @@ back_by : (clock : Clock) (fs : List TableField) (ps : List Part) (ls : List Lin
     → has_columns clock ls ≡ true → IsSatellite zs → IsReference r → AreInRange fs zs
     → times_told clock zs r ≡ Some t → IsBack clock ps zs (given_of t) (row_of ps ls zs t)
 back_by Frame fs ps ls zs r t weeks e h satellite reference range told = absurd cc
+back_by (Daily step) fs ps ls zs r t weeks e h satellite reference range told = absurd cc
 back_by (Weeks c) fs ps ls zs r t weeks e h satellite reference range told =
     subst (λ u. IsBack (Weeks c) ps zs (given_of u) (row_of ps ls zs u))
     (some_same (weekly c zs r) t told)
     (week_back c fs ps ls zs r e (week_columns c ls h) satellite reference range)
+
+-- the times of a frame, and of a message with a week, are such as records tell
+given_frame : (clock : Clock) (zs : List ℤ) (r : ℕ) (t : RowTimes) → has_weeks clock ≡ false
+    → times_told clock zs r ≡ Some t → IsGiven clock t
+given_frame (Weeks c) zs r t frame told = absurd cc
+given_frame (Daily step) zs r t frame told = absurd cc
+given_frame Frame zs r t frame told = go (times_to (frame_of zs) r) told
+  where
+    go : (o : Option Times) → framed o ≡ Some t → IsGiven Frame t
+    go None e = absurd cc
+    go (Some x) e =
+        let is : RowTimes = record { epoch = x.epoch; week = 0; sent = x.frame % 604800 } in
+        let few = mod_below x.frame 604800 (omega arith) in
+        subst (IsGiven Frame) (some_same is t e)
+        (record { from = omega arith; to = omega arith; sent = omega (arith, few) })
+
+given_by : (clock : Clock) (fs : List TableField) (zs : List ℤ) (r : ℕ) (t : RowTimes)
+    → has_times clock fs ≡ true → IsReference r → AreInRange fs zs
+    → times_told clock zs r ≡ Some t → IsGiven clock t
+given_by Frame fs zs r t e reference range told = given_frame Frame zs r t refl told
+given_by (Daily step) fs zs r t e reference range told = absurd cc
+given_by (Weeks c) fs zs r t e reference range told =
+    let n = number zs c.week in
+    let g = clock_of c fs e in
+    let rule = good_rule c.rule g.rule in
+    let w = week_to c.rule r n in
+    let near = near_is c.rule r n in
+    let some : 1 ≤ w = omega (arith, near.from, g.some, reference.0) in
+    let most : w ≤ 16382
+    = omega (arith, near.to, g.late, reference.1, rule.some, rule.most) in
+    subst (IsGiven (Weeks c)) (some_same (weekly c zs r) t told)
+    (record { from = grind arith; to = omega (arith, most); sent = omega arith })
 
 -- the numbers of a row whose head and columns are those of the numbers
 sent_is : (k : Kind) (row : RowValue) (zs head : List ℤ)
@@ -464,14 +529,17 @@ sent_is k row zs head epoch told whole range spare =
 back_whole : (k : Kind) (bytes : List ℕ) (zs : List ℤ) (t : RowTimes) → IsKind k
     → AreBytes k.table.bytes bytes → ArePlain bytes 0 k.table.fields.now
     → message_in k.table bytes ≡ Ok zs → has_spare_sisa k.sisa zs ≡ false → AreUnsaid k zs
-    → IsBack k.clock k.parts.now zs (given_of t) (row_of k.parts.now k.links.now zs t)
+    → IsGiven k.clock t → IsBack k.clock k.parts.now zs (given_of t) (row_of k.parts.now k.links.now zs t)
     → message_of k (row_of k.parts.now k.links.now zs t) ≡ Ok bytes
-back_whole k bytes zs t is are plain read spare unsaid back =
+back_whole k bytes zs t is are plain read spare unsaid given back =
     let range = read_in_range k.table bytes zs read in
     let row = row_of k.parts.now k.links.now zs t in
     let head = columns_of k.parts.now (head_links k.clock) zs (given_of t) in
-    let numbers = sent_is k row zs head back.epoch back.head
-    (carried k zs (given_of t) is range unsaid) range spare in
+    let same = (good k zs is range).are_known t given in
+    let whole = ap (λ cs. filled k.parts.now (head_links k.clock) head
+    (filled k.parts.now k.links.now cs (starts k.table.fields.now))) same
+    ∙ carried k zs (given_of t) is range unsaid in
+    let numbers = sent_is k row zs head back.epoch back.head whole range spare in
     ap (bytes_by k) numbers ∙ ap Ok (read_written k.table bytes zs is.table are plain read)
 
 pub weeks_back : (k : Kind) (bytes : List ℕ) (r : ℕ) (row : RowValue) → IsKind k
@@ -490,7 +558,8 @@ weeks_back k bytes r row is whole reference are plain h =
     ap (message_of k) d.is
     ∙ back_whole k bytes d.numbers d.times is are plain d.read d.spare
     (λ j unsaid. said_each k.parts.now (all_links k.clock k.links.now) 0 fs d.numbers a.1 range j
-    (ap (say k.parts.now (all_links k.clock k.links.now)) (zero-add j) ∙ unsaid)) back
+    (ap (say k.parts.now (all_links k.clock k.links.now)) (zero-add j) ∙ unsaid))
+    (given_by k.clock fs d.numbers r d.times is.times reference range d.told) back
 
 eight : (a b c d e f g h a' b' c' d' e' f' g' h' : ℤ) → a ≡ a' → b ≡ b' → c ≡ c' → d ≡ d' → e ≡ e'
     → f ≡ f' → g ≡ g' → h ≡ h'
@@ -512,12 +581,14 @@ said_is m sent t h =
     record { few = ltb-true sent 604800 a.0; late = omega (arith, some); is = b.1 }
 
 frame_back : (clock : Clock) (fs : List TableField) (ps : List Part) (zs given : List ℤ)
-    (row : RowValue) → has_weeks clock ≡ false → has_times clock fs ≡ true → IsSatellite zs
+    (row : RowValue) (r : ℕ) (t : RowTimes) → times_told clock zs r ≡ Some t
+    → has_weeks clock ≡ false → has_times clock fs ≡ true → IsSatellite zs
     → AreInRange fs zs → row.number ≡ number zs 1
     → frame_said row.moment (number row.columns 2) ≡ Ok (frame_of zs) → IsBack clock ps zs given row
 unfolding columns_of
-frame_back (Weeks c) fs ps zs given row frame e satellite range same told = absurd cc
-frame_back Frame fs ps zs given row frame e satellite range same told =
+frame_back (Weeks c) fs ps zs given row r t times frame e satellite range same told = absurd cc
+frame_back (Daily step) fs ps zs given row r t times frame e satellite range same told = absurd cc
+frame_back Frame fs ps zs given row r t times frame e satellite range same told =
     let has = times_are Frame fs zs e range in
     let said = said_is row.moment (number row.columns 2) (frame_of zs) told in
     let quarter : row.moment % 900 ≡ 0 = frame_epoch _ (frame_of zs) said.is in
@@ -551,7 +622,9 @@ frames_back k bytes r row zs is frame are plain read h unsaid told =
     ap (message_of k) d.is
     ∙ back_whole k bytes d.numbers d.times is are plain d.read d.spare
     (subst (AreUnsaid k) (sym same) unsaid)
-    (frame_back k.clock fs k.parts.now d.numbers (given_of d.times) value frame is.times
+    (given_frame k.clock d.numbers r d.times frame d.told)
+    (frame_back k.clock fs k.parts.now d.numbers (given_of d.times) value r d.times d.told frame
+    is.times
     (satellite_is fs d.numbers is.satellite range) range refl said)
 
 -- ---- rows that come back
@@ -601,7 +674,7 @@ sent_head k row ns out (Ok head) epoch e are j =
     let d = judged_is k zs ns (first_outside 0 fs zs) refl j in
     let count : length zs ≡ length fs
     = filled_length k.parts.now (head_links k.clock) head (said_numbers k row)
-    ∙ filled_length k.parts.now k.links.now row.columns (starts fs) ∙ starts_length fs in
+    ∙ filled_length k.parts.now k.links.now (known_in k row) (starts fs) ∙ starts_length fs in
     record {
       numbers = ns;
       head = head;
@@ -659,6 +732,7 @@ said_head : (clock : Clock) (ps : List Part) (given head : List ℤ) (row : RowV
     → head_of clock row ≡ Ok head → AreSaid ps (head_links clock) given head
 said_head Frame ps given head row h =
     said_frame ps given head row.number (frame_said row.moment (number row.columns 2)) h
+said_head (Daily step) ps given head row h = absurd cc
 said_head (Weeks c) ps given head row h =
     subst (AreSaid ps (head_links (Weeks c)) given)
     (ok_same (head_of (Weeks c) row) (week_head c row) head refl h)
@@ -757,6 +831,7 @@ again_by Frame ps ls zs given head r row h columns heads told epoch near =
     (frame_said row.moment sent) head refl
     told heads near in
     record { satellite = is.0; times = is.1 }
+again_by (Daily step) ps ls zs given head r row h columns heads told epoch near = absurd cc
 again_by (Weeks c) ps ls zs given head r row h columns heads told epoch near =
     week_row c ps ls zs given head r row (week_columns c ls h) columns
     (heads ∙ sym (ok_same (head_of (Weeks c) row) (week_head c row) head refl told)) epoch near
@@ -772,13 +847,14 @@ rows_back k row bytes r is of near h =
     let given = given_of (said_times k.clock row) in
     let d = sent_bytes k row bytes (numbers_in k row) refl h in
     let zs = d.numbers in
-    let count = said_length ps ls given row.columns of in
+    let count = said_length ps ls given row.columns of.0 in
     let join : filled ps (ls ++ hs) (row.columns ++ d.head) (starts fs) ≡ zs
-    = filled_append ps ls hs row.columns d.head (starts fs) count ∙ d.whole in
+    = filled_append ps ls hs row.columns d.head (starts fs) count
+    ∙ ap (λ cs. filled ps hs d.head (filled ps ls cs (starts fs))) (sym of.1) ∙ d.whole in
     let all : columns_of ps (ls ++ hs) zs given ≡ row.columns ++ d.head
     = ap (λ ns. columns_of ps (ls ++ hs) ns given) (sym join)
     ∙ back_all (length fs) ps (ls ++ hs) (row.columns ++ d.head) given (starts fs) is.links is.apart
-    (said_append ps ls hs given row.columns d.head of
+    (said_append ps ls hs given row.columns d.head of.0
     (said_head k.clock ps given d.head row d.told)) (starts_length fs) in
     let parts = halves (columns_of ps ls zs given) row.columns (columns_of ps hs zs given) d.head
     (columns_length ps ls zs given ∙ sym count)

@@ -15,7 +15,7 @@ use Rattle.nav_links.proofs.Surface.{inside_at}
 use Rattle.nav_days.specs.Weeks.{first_week, is_week_rule}
 use Rattle.nav_rows.specs.declared.kind.WeekClock.{WeekClock}
 use Rattle.nav_rows.specs.declared.kind.Clock.{Clock}
-use Rattle.nav_rows.specs.declared.kind.Clock.TheVariants.{Frame, Weeks}
+use Rattle.nav_rows.specs.declared.kind.Clock.TheVariants.{Frame, Weeks, Daily}
 use Rattle.nav_rows.specs.Kinds.{is_within, has_frame, has_week, has_times, is_week_clock}
 use Rattle.nav_rows.specs.Times.{number, IsNumber, IsSatellite, HasFrame, HasWeek, HasTimes}
 
@@ -181,3 +181,4 @@ pub times_are : (clock : Clock) (fs : List TableField) (zs : List ℤ) → has_t
     → AreInRange fs zs → HasTimes clock zs
 times_are Frame fs zs e h = frame_is fs zs e h
 times_are (Weeks c) fs zs e h = week_is c fs zs e h
+times_are (Daily step) fs zs e h = tt

@@ -19,10 +19,11 @@ use Rattle.nav_tables.specs.Fields.{IsInRange, is_in_range}
 use Rattle.nav_tables.proofs.Surface.{both, in_range_true, le_z_true}
 use Rattle.nav_links.specs.Links.{field_at}
 use Rattle.rinex_write.specs.declared.columns.Rule.{Rule}
-use Rattle.rinex_write.specs.declared.columns.Rule.TheVariants.{Plain, OrZero, OrLeast, Ura, Sisa}
-use Rattle.rinex_write.specs.declared.columns.Rule.TheVariants.{Fit, Sent, Unread}
+use Rattle.rinex_write.specs.declared.columns.Rule.TheVariants.{Plain, OrZero, OrLeast, OrUnknown}
+use Rattle.rinex_write.specs.declared.columns.Rule.TheVariants.{Ura, Sisa, Fit, Sent, Unread}
 use Rattle.rinex_write.specs.declared.columns.Column.{Column}
-use Rattle.rinex_write.specs.Columns.{AreFields, IsField, are_good, joined_rows, row_lines}
+use Rattle.rinex_write.specs.Columns.{AreFields, IsField, are_good, joined_rows, not_known}
+use Rattle.rinex_write.specs.Columns.{row_lines}
 use Rattle.rinex_write.specs.RowTexts.{RowKind, row_record, row_satellite, row_title}
 use Rattle.rinex_read.specs.declared.reason.Reason.{Reason}
 use Rattle.rinex_read.specs.declared.reason.Reason.TheVariants as reasons
@@ -53,6 +54,11 @@ column_is : (rule : Rule) (z : ℤ) → is_in_column rule z ≡ true → IsField
 column_is (Plain low high) z e = within_is low high z e
 column_is (OrZero low high) z e = within_is low high z e
 column_is (OrLeast low high) z e = within_is low high z e
+column_is (OrUnknown low high) z e =
+    elim (either_is (int_le low z && int_le z high) _ e) [
+      | inl h ↦ inl (within_is low high z h)
+      | inr h ↦ let w = within_is not_known not_known z h in inr (omega (arith, ints, w.0, w.1))
+    ]
 column_is Ura z e = within_is (pos 0) (pos 15) z e
 column_is Sisa z e =
     let a = both (int_le (pos 0) z && int_le z (pos 255)) _ e in
@@ -74,10 +80,18 @@ column_is (Unread n) z e = let w = within_is n n z e in omega (arith, ints, w.0,
 z_le_true : (a b : ℤ) → a ≤ℤ b → int_le a b ≡ true
 z_le_true a b h = grind (arith, ints)
 
+or_true : (a : Bool) → (a || true) ≡ true
+or_true true = refl
+or_true false = refl
+
 is_column : (rule : Rule) (z : ℤ) → IsField rule z → is_in_column rule z ≡ true
 is_column (Plain low high) z h = rw (z_le_true low z h.0, z_le_true z high h.1) refl
 is_column (OrZero low high) z h = rw (z_le_true low z h.0, z_le_true z high h.1) refl
 is_column (OrLeast low high) z h = rw (z_le_true low z h.0, z_le_true z high h.1) refl
+is_column (OrUnknown low high) z (inl h) = rw (z_le_true low z h.0, z_le_true z high h.1) refl
+is_column (OrUnknown low high) z (inr h) =
+    ap (λ y. (int_le low y && int_le y high) || (int_le not_known y && int_le y not_known)) h
+    ∙ or_true (int_le low not_known && int_le not_known high)
 is_column Ura z h = rw (z_le_true (pos 0) z h.0, z_le_true z (pos 15) h.1) refl
 is_column Sisa z (inl h) =
     rw (

@@ -1,9 +1,9 @@
 -- The columns of a message are fields of the record.
 use Rattle.std.proofs.Common.{◌≡◌, ℕ, zero, suc, ◌+◌, ◌^◌, ◌<◌, ◌&&◌, Bool, true, false, List, []}
 use Rattle.std.proofs.Common.{◌∷◌, ◌++◌, length, sum, map, take, drop, refl, sym, ap, ◌∙◌, subst}
-use Rattle.std.proofs.Common.{length-drop, arith, ℤ, pos, negsuc, neg_ℤ, ◌-ℤ◌, ◌≤ℤ◌, int_le, inl}
+use Rattle.std.proofs.Common.{length-drop, ap₂, if◌then◌else◌, arith, ℤ, pos, negsuc, neg_ℤ, ◌-ℤ◌, ◌≤ℤ◌, int_le, inl}
 use Rattle.std.proofs.Common.{inr, ◌⊎◌, Option, Some, None}
-use Rattle.std.specs.Prelude.{nat_le, nat_lt}
+use Rattle.std.specs.Prelude.{nat_le, nat_lt, int_lt}
 use Rattle.std.proofs.lemmas.Int.{ints}
 use Rattle.std.proofs.lemmas.Bool.{ltb-true}
 use Rattle.std.proofs.lemmas.Bool.Decides.{nat_tests}
@@ -19,11 +19,14 @@ use Rattle.nav_links.specs.Links.{nth, parts_from, joined, width_of, are_parts, 
 use Rattle.nav_links.specs.Links.{column_of, columns_of, ranges_fit, range_fits, AreFit}
 use Rattle.nav_tables.proofs.Surface.{both, le_z_true, range_length}
 use Rattle.nav_links.proofs.Surface.{joined-lt, inside_at, fit_parts, fit_all, links_append}
+use Rattle.scaled_decimal.specs.declared.scales.Scale.{Scale}
 use Rattle.rinex_write.specs.declared.columns.Rule.{Rule}
-use Rattle.rinex_write.specs.declared.columns.Rule.TheVariants.{Plain, OrZero, OrLeast, Ura, Sisa}
-use Rattle.rinex_write.specs.declared.columns.Rule.TheVariants.{Fit, Sent, Unread}
+use Rattle.rinex_write.specs.declared.columns.Rule.TheVariants.{Plain, OrZero, OrLeast, OrUnknown}
+use Rattle.rinex_write.specs.declared.columns.Rule.TheVariants.{Ura, Sisa, Fit, Sent, Unread}
 use Rattle.rinex_write.specs.declared.columns.Column.{Column}
-use Rattle.rinex_write.specs.Columns.{IsField, AreFields, joined_rows}
+use Rattle.rinex_write.specs.Columns.{IsField, AreFields, are_good, is_below_unknown}
+use Rattle.rinex_write.specs.Columns.{is_good_range, is_good_rule, is_good_scale, is_unknown}
+use Rattle.rinex_write.specs.Columns.{joined_rows, not_known}
 use Rattle.rinex_write.specs.RowTexts.{split_rows}
 use Rattle.rinex_write.specs.Mirrors.{IsSmall, IsKept, AreKept, AreReady}
 use Rattle.rinex_write.proofs.Surface.{kept_ready}
@@ -34,6 +37,7 @@ use Rattle.nav_rows.specs.Kinds.{Range, given_range, range_of, gives_sisa, cover
 use Rattle.nav_rows.specs.Kinds.{has_sisa, head_links, IsKind}
 use Rattle.nav_rows.specs.Times.{IsSatellite, HasTimes, IsGiven}
 use Rattle.nav_rows.specs.Rows.{record_kind, given_of, has_spare_sisa, SisaInside}
+use Rattle.nav_rows.specs.Encoding.{known}
 use Rattle.nav_rows.proofs.NumberLemmas.{satellite_is, times_are}
 
 abbrev IsIn : Range → ℤ → Type 0
@@ -111,6 +115,7 @@ is_field : (sisa : Bool) (rule : Rule) (r : Range) (z : ℤ) → covers sisa rul
 is_field sisa (Plain low high) r z e s h = between low high r z e h
 is_field sisa (OrZero low high) r z e s h = between low high r z e h
 is_field sisa (OrLeast low high) r z e s h = between low high r z e h
+is_field sisa (OrUnknown low high) r z e s h = inl (between low high r z e h)
 is_field sisa Ura r z e s h = between (pos 0) (pos 15) r z e h
 is_field sisa Sisa r z e s h =
     let a = both (sisa && int_le (pos 0) r.low) (int_le r.high (pos 255)) e in
@@ -146,6 +151,49 @@ fields_all clock sisa fs parts (l ∷ ls) (c ∷ cs) zs given e r v h g s =
       fields_all clock sisa fs parts ls cs zs given a.1 b.1 d.1 h g s,
     )
 
+-- the columns of a message are known
+is_known : (s : Scale) (sisa : Bool) (rule : Rule) (r : Range) (z : ℤ) → is_good_rule s rule ≡ true
+    → covers sisa rule r ≡ true → IsIn r z → is_unknown rule z ≡ false
+is_known s sisa (OrUnknown low high) r z g e h =
+    let a = both (is_good_range low high) (is_below_unknown s high) g in
+    let b = both _ (int_lt high not_known) a.1 in
+    below z high (between low high r z e h).1 b.1
+  where
+    below : (y top : ℤ) → y ≤ℤ top → int_lt top not_known ≡ true → int_le not_known y ≡ false
+    below y top le lt = grind (arith, ints)
+is_known s sisa (Plain low high) r z g e h = refl
+is_known s sisa (OrZero low high) r z g e h = refl
+is_known s sisa (OrLeast low high) r z g e h = refl
+is_known s sisa Ura r z g e h = refl
+is_known s sisa Sisa r z g e h = refl
+is_known s sisa Fit r z g e h = refl
+is_known s sisa Sent r z g e h = refl
+is_known s sisa (Unread n) r z g e h = refl
+
+known_all : (clock : Clock) (sisa : Option ℕ) (fs : List TableField) (parts : List Part)
+    (ls : List Link) (cs : List Column) (zs given : List ℤ)
+    → are_links (length fs) parts ls ≡ true → ranges_fit fs parts ls ≡ true
+    → all_covered clock sisa fs parts ls cs ≡ true → are_good cs ≡ true → AreInRange fs zs
+    → AreGiven clock given → known cs (columns_of parts ls zs given) ≡ columns_of parts ls zs given
+unfolding columns_of known
+known_all clock sisa fs parts [] [] zs given e r v q h g = refl
+known_all clock sisa fs parts [] (c ∷ cs) zs given e r v q h g = let no : false ≡ true
+    = v in absurd cc
+known_all clock sisa fs parts (l ∷ ls) [] zs given e r v q h g = let no : false ≡ true
+    = v in absurd cc
+known_all clock sisa fs parts (l ∷ ls) (c ∷ cs) zs given e r v q h g =
+    let w = both (is_good_scale c.scale && is_good_rule c.scale c.rule) (are_good cs) q in
+    let x = both (is_good_scale c.scale) (is_good_rule c.scale c.rule) w.0 in
+    let a = both (is_link (length fs) parts l) (are_links (length fs) parts ls) e in
+    let b = both (range_fits fs parts l) (ranges_fit fs parts ls) r in
+    let d = both (covers (gives_sisa sisa l) c.rule (range_of clock fs parts l))
+    (all_covered clock sisa fs parts ls cs) v in
+    let z = column_of parts l zs given in
+    let first = is_known c.scale (gives_sisa sisa l) c.rule (range_of clock fs parts l) z x.1 d.0
+    (in_range clock fs parts l zs given a.0 b.0 h g) in
+    let rest = known_all clock sisa fs parts ls cs zs given a.1 b.1 d.1 w.1 h g in
+    ap₂ (λ y ys. y ∷ ys) (ap (λ u. if u then pos 0 else z) first) rest
+
 given_are : (clock : Clock) (t : RowTimes) → IsGiven clock t → AreGiven clock (given_of t)
 given_are clock t g zero = (omega (arith, ints, g.from), omega (arith, ints, g.to))
 given_are clock t g (suc zero) = (omega (arith, ints), omega (arith, ints, g.sent))
@@ -163,6 +211,7 @@ kept : (rule : Rule) (z : ℤ) → IsField rule z → IsKept IsSmall rule z
 kept (Plain low high) z h = h
 kept (OrZero low high) z h = h
 kept (OrLeast low high) z h = h
+kept (OrUnknown low high) z h = h
 kept Ura z h = h
 kept Sisa z h = h
 kept Fit z h = h
@@ -228,6 +277,9 @@ pub record AreGood (k : Kind) (zs : List ℤ) : Type 0 where
   pub fit : AreFit k.parts.now k.links.now zs
   pub fields : (t : RowTimes) → IsGiven k.clock t → has_spare_sisa k.sisa zs ≡ false
       → AreFields k.layout.columns.now (columns_of k.parts.now k.links.now zs (given_of t))
+  pub are_known : (t : RowTimes) → IsGiven k.clock t
+      → known k.layout.columns.now (columns_of k.parts.now k.links.now zs (given_of t))
+      ≡ columns_of k.parts.now k.links.now zs (given_of t)
 
 -- the links of the columns, and those of satellite and times
 pub front : (k : Kind) → IsKind k
@@ -254,4 +306,6 @@ good k zs is h =
       fit = fit_all fs k.parts.now k.links.now zs (front k is) is.fit h;
       fields = λ t g s. fields_all k.clock k.sisa fs k.parts.now k.links.now k.layout.columns.now
           zs (given_of t) (front k is) is.fit is.covered h (given_are k.clock t g) s;
+      are_known = λ t g. known_all k.clock k.sisa fs k.parts.now k.links.now k.layout.columns.now
+          zs (given_of t) (front k is) is.fit is.covered is.lines.good h (given_are k.clock t g);
     }

@@ -13,12 +13,14 @@ use Rattle.nav_days.specs.declared.times.TimeFault.TheVariants as frames
 use Rattle.nav_days.specs.Times.{frame_in}
 use Rattle.nav_days.specs.Days.{distance}
 use Rattle.nav_days.specs.Weeks.{first_week, number_of_week}
+use Rattle.rinex_write.specs.declared.columns.Column.{Column}
+use Rattle.rinex_write.specs.Columns.{is_unknown}
 use Rattle.rinex_read.specs.declared.reason.Reason.{Reason}
 use Rattle.rinex_read.specs.declared.reason.Reason.TheVariants as reasons
 use Rattle.rinex_read.specs.Judging.{is_named_week}
 use Rattle.nav_rows.specs.declared.kind.WeekClock.{WeekClock}
 use Rattle.nav_rows.specs.declared.kind.Clock.{Clock}
-use Rattle.nav_rows.specs.declared.kind.Clock.TheVariants.{Frame, Weeks}
+use Rattle.nav_rows.specs.declared.kind.Clock.TheVariants.{Frame, Weeks, Daily}
 use Rattle.nav_rows.specs.declared.kind.Kind.{Kind}
 use Rattle.nav_rows.specs.declared.encode.EncodeFault.{EncodeFault}
 use Rattle.nav_rows.specs.declared.encode.EncodeFault.TheVariants as faults
@@ -39,8 +41,8 @@ abbrev pub is_near_toe : ℕ → ℕ → Bool
 is_near_toe m toe = nat_lt toe (m + 302400) && nat_le m (toe + 302400)
 
 -- the first reason why an epoch is none of its kind: the week of toe is not 1 to 16382, the epoch
--- is not a multiple of toc's
--- unit or, of frames, of a quarter of an hour, or it is not near toe
+-- is not a multiple of toc's unit, of that of t0 or, of frames, of a quarter of an hour, or it is
+-- not near toe
 abbrev pub epoch_fault : Clock → ℕ → List ℤ → Option Reason
 epoch_fault Frame m columns = if nat_eq (m % 900) 0 then None else Some reasons.EpochStep
 epoch_fault (Weeks c) m columns =
@@ -49,6 +51,7 @@ epoch_fault (Weeks c) m columns =
     else if not (nat_eq (m % 604800 % c.step) 0) then Some reasons.EpochStep
     else if not (is_near_toe m (toe_at c columns)) then Some reasons.EpochFar
     else None
+epoch_fault (Daily step) m columns = if nat_eq (m % 604800 % step) 0 then None else Some reasons.EpochStep
 
 -- the time of a frame with this epoch, sent at this time of week nearest to it
 abbrev pub frame_said : ℕ → ℕ → Result FrameTime TimeFault
@@ -72,6 +75,7 @@ week_head c row =
 abbrev pub head_of : Clock → RowValue → Result (List ℤ) EncodeFault
 head_of Frame row = frame_head row.number (frame_said row.moment (number row.columns 2))
 head_of (Weeks c) row = Ok (week_head c row)
+head_of (Daily step) row = Err faults.NoMessage
 
 abbrev pub with_head : List Part → Clock → Result (List ℤ) EncodeFault → List ℤ
     → Result (List ℤ) EncodeFault
@@ -92,9 +96,18 @@ abbrev pub judged_row : Kind → Result (List ℤ) EncodeFault → Result (List 
 judged_row k (Err fault) = Err fault
 judged_row k (Ok numbers) = judged_numbers k numbers (first_outside 0 k.table.fields.now numbers)
 
--- what the columns say of the numbers; the others are constants or 0
+-- the columns, with 0 for a number that is not known
+unfoldable pub known : List Column → List ℤ → List ℤ
+known [] zs = []
+known (c ∷ cs) [] = []
+known (c ∷ cs) (z ∷ zs) = (if is_unknown c.rule z then pos 0 else z) ∷ known cs zs
+
+abbrev pub known_in : Kind → RowValue → List ℤ
+known_in k row = known k.layout.columns.now row.columns
+
+-- what the columns say of the numbers, 0 where it is not known; the others are constants or 0
 abbrev pub said_numbers : Kind → RowValue → List ℤ
-said_numbers k row = filled k.parts.now k.links.now row.columns (starts k.table.fields.now)
+said_numbers k row = filled k.parts.now k.links.now (known_in k row) (starts k.table.fields.now)
 
 abbrev pub numbers_after : Kind → RowValue → Option Reason → Result (List ℤ) EncodeFault
 numbers_after k row (Some reason) = Err (faults.Epoch reason)
@@ -122,10 +135,12 @@ said_times clock row = record {
   sent = if has_weeks clock then 0 else number row.columns 2;
 }
 
--- the columns are those of a message: a time of transmission is not known, and spare columns are
--- as they are written
+-- the columns are those of a message: a time of transmission is not known, spare columns are as
+-- they are written, and other numbers are known
 abbrev pub IsOfMessage : Kind → RowValue → Type 0
-IsOfMessage k row = AreSaid k.parts.now k.links.now (given_of (said_times k.clock row)) row.columns
+IsOfMessage k row =
+    AreSaid k.parts.now k.links.now (given_of (said_times k.clock row)) row.columns
+    × (known_in k row ≡ row.columns)
 
 -- the reference week is one near which the message has the times of the row
 abbrev pub IsNearRow : Clock → RowValue → ℕ → Type 0
@@ -134,6 +149,7 @@ IsNearRow Frame row r =
 IsNearRow (Weeks c) row r =
     (first_week c.rule r ≤ toe_week c row.columns)
     × (toe_week c row.columns < first_week c.rule r + 2 ^ c.rule.bits)
+IsNearRow (Daily step) row r = Unit {0}
 
 -- what no column says is as messages of rows have it: constants, and 0
 abbrev pub AreUnsaid : Kind → List ℤ → Type 0
@@ -161,3 +177,4 @@ pub record HasFlags (columns : List ℤ) : Type 0 where
 abbrev pub HasClock : Clock → List ℤ → Type 0
 HasClock Frame columns = HasFlags columns
 HasClock (Weeks c) columns = HasToe c columns
+HasClock (Daily step) columns = 0 < step

@@ -14,15 +14,15 @@ use Rattle.nav_links.specs.Links.{parts_from, width_of, are_apart, are_links, fi
 use Rattle.nav_links.specs.Links.{say}
 use Rattle.nav_days.specs.Weeks.{is_week_rule}
 use Rattle.rinex_write.specs.declared.columns.Rule.{Rule}
-use Rattle.rinex_write.specs.declared.columns.Rule.TheVariants.{Plain, OrZero, OrLeast, Ura, Sisa}
-use Rattle.rinex_write.specs.declared.columns.Rule.TheVariants.{Fit, Sent, Unread}
+use Rattle.rinex_write.specs.declared.columns.Rule.TheVariants.{Plain, OrZero, OrLeast, OrUnknown}
+use Rattle.rinex_write.specs.declared.columns.Rule.TheVariants.{Ura, Sisa, Fit, Sent, Unread}
 use Rattle.rinex_write.specs.declared.columns.Column.{Column}
 use Rattle.rinex_write.specs.Mirrors.{IsTable}
 use Rattle.rinex_read.specs.Lines.{columns}
 use Rattle.rinex_read.specs.Mirrors.{IsLayout}
 use Rattle.nav_rows.specs.declared.kind.WeekClock.{WeekClock}
 use Rattle.nav_rows.specs.declared.kind.Clock.{Clock}
-use Rattle.nav_rows.specs.declared.kind.Clock.TheVariants.{Frame, Weeks}
+use Rattle.nav_rows.specs.declared.kind.Clock.TheVariants.{Frame, Weeks, Daily}
 use Rattle.nav_rows.specs.declared.kind.Kind.{Kind}
 
 -- ---- which columns can be given
@@ -35,10 +35,12 @@ pub record Range : Type 0 where
 abbrev pub week_low : Clock → ℕ
 week_low Frame = 0
 week_low (Weeks c) = max 1 c.rule.zero - c.zero
+week_low (Daily step) = 0
 
 abbrev pub week_high : Clock → ℕ
 week_high Frame = 0
 week_high (Weeks c) = 16382 - c.zero
+week_high (Daily step) = 0
 
 -- the range of the numbers that no field has alone: the week, and the time of week of the frame
 abbrev pub given_range : Clock → ℕ → Range
@@ -77,6 +79,7 @@ abbrev pub covers : Bool → Rule → Range → Bool
 covers sisa (Plain low high) r = int_le low r.low && int_le r.high high
 covers sisa (OrZero low high) r = int_le low r.low && int_le r.high high
 covers sisa (OrLeast low high) r = int_le low r.low && int_le r.high high
+covers sisa (OrUnknown low high) r = int_le low r.low && int_le r.high high
 covers sisa Ura r = int_le (pos 0) r.low && int_le r.high (pos 15)
 covers sisa Sisa r = sisa && int_le (pos 0) r.low && int_le r.high (pos 255)
 covers sisa Fit r = int_le (pos 0) r.low && int_le r.high (pos 1)
@@ -118,6 +121,7 @@ has_week c fields =
 abbrev pub has_times : Clock → List TableField → Bool
 has_times Frame fields = has_frame fields
 has_times (Weeks c) fields = has_week c fields
+has_times (Daily step) fields = nat_lt 0 step
 
 -- the field with the SISA index is one of so many
 abbrev pub has_sisa : Option ℕ → ℕ → Bool
@@ -132,6 +136,7 @@ abbrev pub head_links : Clock → List Link
 head_links Frame =
     Field 1 ∷ Field 32 ∷ Field 35 ∷ Field 30 ∷ Field 6 ∷ Field 7 ∷ Field 8 ∷ Field 11 ∷ []
 head_links (Weeks c) = Field 1 ∷ Field c.week ∷ Field c.toc ∷ []
+head_links (Daily step) = Field 1 ∷ []
 
 abbrev pub all_links : Clock → List Link → List Link
 all_links clock links = links ++ head_links clock
@@ -155,6 +160,7 @@ has_columns Frame links = nat_lt 18 (length links) && is_given_at 1 (link_at lin
 has_columns (Weeks c) links =
     nat_lt 21 (length links) && is_of_field c.toe (link_at links 11)
     && is_given_at 0 (link_at links 21)
+has_columns (Daily step) links = true
 
 -- each field from k on is said by a link or constant
 abbrev pub are_said : List Part → List Link → ℕ → List TableField → Bool
@@ -165,6 +171,7 @@ are_said parts links k (f ∷ fs) =
 abbrev pub has_weeks : Clock → Bool
 has_weeks Frame = false
 has_weeks (Weeks c) = true
+has_weeks (Daily step) = false
 
 -- the columns, the satellite and the times of a record say all of its message
 abbrev pub is_whole : Kind → Bool
@@ -221,4 +228,5 @@ kind_titled title =
     else if is_titled 69 (codes "FNAV") title then Some (69, codes "FNAV")
     else if is_titled 74 (codes "LNAV") title then Some (74, codes "LNAV")
     else if is_titled 73 (codes "LNAV") title then Some (73, codes "LNAV")
+    else if is_titled 83 (codes "SBAS") title then Some (83, codes "SBAS")
     else None

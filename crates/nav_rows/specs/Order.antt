@@ -5,7 +5,7 @@ use Rattle.std.specs.Ordering.{int_cmp, on, then_cmp}
 use Rattle.std.specs.declared.cmp.Ordering.{Ordering}
 use Rattle.nav_links.specs.Links.{nth}
 use Rattle.nav_rows.specs.declared.kind.Clock.{Clock}
-use Rattle.nav_rows.specs.declared.kind.Clock.TheVariants.{Frame, Weeks}
+use Rattle.nav_rows.specs.declared.kind.Clock.TheVariants.{Frame, Weeks, Daily}
 use Rattle.nav_rows.specs.declared.kind.Kind.{Kind}
 use Rattle.nav_rows.specs.Times.{number}
 use Rattle.nav_rows.specs.Rows.{RowValue}
@@ -22,15 +22,17 @@ flags_settled columns =
 abbrev pub settled_by : Clock → List ℤ → List ℤ
 settled_by Frame columns = flags_settled columns
 settled_by (Weeks c) columns = columns
+settled_by (Daily step) columns = columns
 
 -- the columns without the time sent and what changes from frame to frame
 abbrev pub settled : Kind → List ℤ → List ℤ
 settled k columns = set (settled_by k.clock columns) k.sent (pos 0)
 
--- toe or, of frames, the epoch
+-- toe or, of frames and where no week is told, the epoch
 abbrev pub moment_by : Clock → RowValue → ℕ
 moment_by Frame row = row.moment
 moment_by (Weeks c) row = toe_at c row.columns
+moment_by (Daily step) row = row.moment
 
 abbrev pub front_of : Kind → RowValue → List ℤ
 front_of k row =

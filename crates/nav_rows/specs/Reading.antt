@@ -8,9 +8,10 @@ use Rattle.scaled_decimal.specs.NumberReading.{is_decimal}
 use Rattle.nav_tables.specs.Fields.{is_in_range}
 use Rattle.nav_links.specs.Links.{field_at}
 use Rattle.rinex_write.specs.declared.columns.Rule.{Rule}
-use Rattle.rinex_write.specs.declared.columns.Rule.TheVariants.{Plain, OrZero, OrLeast, Ura, Sisa}
-use Rattle.rinex_write.specs.declared.columns.Rule.TheVariants.{Fit, Sent, Unread}
+use Rattle.rinex_write.specs.declared.columns.Rule.TheVariants.{Plain, OrZero, OrLeast, OrUnknown}
+use Rattle.rinex_write.specs.declared.columns.Rule.TheVariants.{Ura, Sisa, Fit, Sent, Unread}
 use Rattle.rinex_write.specs.declared.columns.Column.{Column}
+use Rattle.rinex_write.specs.Columns.{not_known}
 use Rattle.rinex_read.specs.declared.reason.Reason.{Reason}
 use Rattle.rinex_read.specs.declared.reason.Reason.TheVariants as reasons
 use Rattle.rinex_read.specs.Fields.{◌>>=◌}
@@ -25,6 +26,8 @@ abbrev pub is_in_column : Rule → ℤ → Bool
 is_in_column (Plain low high) z = int_le low z && int_le z high
 is_in_column (OrZero low high) z = int_le low z && int_le z high
 is_in_column (OrLeast low high) z = int_le low z && int_le z high
+is_in_column (OrUnknown low high) z =
+    (int_le low z && int_le z high) || (int_le not_known z && int_le z not_known)
 is_in_column Ura z = int_le (pos 0) z && int_le z (pos 15)
 is_in_column Sisa z = int_le (pos 0) z && int_le z (pos 255)
     && (int_le z (pos 125) || int_le (pos 255) z)

@@ -9,7 +9,7 @@ use Rattle.nav_days.specs.Times.{times_to, IsFrameTime}
 use Rattle.nav_days.specs.Weeks.{week_to}
 use Rattle.nav_rows.specs.declared.kind.WeekClock.{WeekClock}
 use Rattle.nav_rows.specs.declared.kind.Clock.{Clock}
-use Rattle.nav_rows.specs.declared.kind.Clock.TheVariants.{Frame, Weeks}
+use Rattle.nav_rows.specs.declared.kind.Clock.TheVariants.{Frame, Weeks, Daily}
 use Rattle.nav_rows.specs.declared.times.RowTimes.{RowTimes}
 use Rattle.nav_rows.specs.Kinds.{is_week_clock, week_low, week_high}
 
@@ -49,6 +49,7 @@ weekly c numbers r = times_in_week c (week_to c.rule r (number numbers c.week))
 abbrev pub times_told : Clock → List ℤ → ℕ → Option RowTimes
 times_told Frame numbers r = framed (times_to (frame_of numbers) r)
 times_told (Weeks c) numbers r = Some (weekly c numbers r)
+times_told (Daily step) numbers r = None
 
 -- the ranges of what records tell of these times
 pub record IsGiven (clock : Clock) (t : RowTimes) : Type 0 where
@@ -91,3 +92,4 @@ pub record HasWeek (c : WeekClock) (zs : List ℤ) : Type 0 where
 abbrev pub HasTimes : Clock → List ℤ → Type 0
 HasTimes Frame zs = HasFrame zs
 HasTimes (Weeks c) zs = (IsTrue (is_week_clock c)) × HasWeek c zs
+HasTimes (Daily step) zs = Unit {0}

@@ -1,17 +1,17 @@
 //! Messages of rows.
 
-ghost use Rattle.std.specs.Prelude.{◌≡◌, ◌≤◌, ◌<◌, ◌+◌, ◌*◌, ◌^◌, ◌∷◌, [], length, pos, IfOk};
-ghost use Rattle.std.specs.Prelude.{IfErr, IsTrue, Ok, Err, None};
+ghost use Rattle.std.specs.Prelude.{◌≡◌, ◌≤◌, ◌<◌, ◌+◌, ◌*◌, ◌^◌, ◌∷◌, ◌++◌, [], length, pos, IfOk};
+ghost use Rattle.std.specs.Prelude.{IfErr, IsTrue, Ok, Err, None, if◌then◌else◌};
 ghost use Rattle.nav_tables.specs.Messages.{AreInRange, starts};
 ghost use Rattle.nav_links.specs.Links.{AreSmall, are_links};
 ghost use Rattle.nav_days.specs.Weeks.{is_week_rule};
-ghost use Rattle.rinex_write.specs.Columns.{AreFields};
+ghost use Rattle.rinex_write.specs.Columns.{AreFields, is_unknown};
 ghost use Rattle.nav_rows.specs.declared.kind.Clock.TheVariants.{Frame, Weeks};
 ghost use Rattle.nav_rows.specs.Kinds.{IsKind, head_links};
 ghost use Rattle.nav_rows.specs.Rows.{value};
 ghost use Rattle.nav_rows.specs.Encoding.{HasClock, HasFlags, HasToe, epoch_fault, frame_said};
-ghost use Rattle.nav_rows.specs.Encoding.{is_near_toe, judged_row, message_of, numbers_in, toe_at};
-ghost use Rattle.nav_rows.specs.Encoding.{toe_week, week_head, with_head_of};
+ghost use Rattle.nav_rows.specs.Encoding.{is_near_toe, judged_row, known, message_of, numbers_in};
+ghost use Rattle.nav_rows.specs.Encoding.{toe_at, toe_week, week_head, with_head_of};
 
 use crate::kind::{Clock, Kind, WeekClock};
 use crate::row::{Row, has_spare_sisa};
@@ -21,6 +21,7 @@ use nav_days::{FrameTime, TimeFault, Times, frame_time, number_of_week};
 use nav_links::{Link, Part, fill_numbers};
 use nav_tables::{first_outside, start_numbers, write_message};
 use rinex_read::Reason;
+use rinex_write::{Column, NOT_KNOWN, Rule};
 
 /// Why a row has no message: the first of these that holds, in this order.
 #[derive(Clone, Copy, PartialEq, Eq, Debug)]
@@ -36,6 +37,8 @@ pub enum EncodeFault {
     },
     /// Its SISA index is a spare one, 126 to 254.
     SpareSisa,
+    /// No message has its kind.
+    NoMessage,
 }
 
 // The week of toe, counted from 1980-01-06.
@@ -90,6 +93,13 @@ pub(crate) fn epoch_fault(clock: &Clock, moment: Moment, columns: &[i64]) -> Opt
                 return Some(Reason::EpochFar);
             }
             None
+        }
+        Clock::Daily(step) => {
+            if moment.second().value() % *step == 0 {
+                None
+            } else {
+                Some(Reason::EpochStep)
+            }
         }
     }
 }
@@ -216,6 +226,7 @@ fn write_head(kind: &Kind, row: &Row, numbers: &mut [i64]) -> Result<(), EncodeF
             write_week_head(clock, row, kind.parts, numbers);
             Ok(())
         }
+        Clock::Daily(_) => Err(EncodeFault::NoMessage),
     }
 }
 
@@ -239,6 +250,30 @@ fn judged(kind: &Kind, numbers: &[i64]) -> Result<(), EncodeFault>
     }
 }
 
+// A field, or 0 if it is a number that is not known.
+fn known_field(rule: &Rule, field: i64) -> i64
+    ensures { result ≡ (if is_unknown rule.now field then pos 0 else field) }
+{
+    match rule {
+        Rule::OrUnknown { .. } if field >= NOT_KNOWN => 0,
+        _ => field,
+    }
+}
+
+// Appends fields, with 0 for a number that is not known.
+#[tactic(auto, unfolding(crate::specs::Encoding::known))]
+fn push_known(columns: &[Column], fields: &[i64], out: &mut ArrayVec<i64, 29>)
+    requires { length out.old.items + length fields.now ≤ 29 }
+    ensures { out.new.items ≡ out.old.items ++ known columns.now fields.now }
+{
+    if let [column, columns_left @ ..] = columns {
+        if let [field, fields_left @ ..] = fields {
+            out.push(known_field(&column.rule, *field));
+            push_known(columns_left, fields_left, out);
+        }
+    }
+}
+
 // Writes the numbers of a row's message.
 #[tactic(auto, unfolding(crate::specs::Encoding::numbers_in))]
 fn write_numbers(kind: &Kind, row: &Row, numbers: &mut [i64]) -> Result<(), EncodeFault>
@@ -253,7 +288,9 @@ fn write_numbers(kind: &Kind, row: &Row, numbers: &mut [i64]) -> Result<(), Enco
     match epoch_fault(&kind.clock, row.moment, columns) {
         Some(reason) => Err(EncodeFault::Epoch(reason)),
         None => {
-            fill_numbers(kind.links, kind.parts, columns, numbers);
+            let mut known = ArrayVec::new();
+            push_known(kind.layout.columns, columns, &mut known);
+            fill_numbers(kind.links, kind.parts, known.as_slice(), numbers);
             match write_head(kind, row, numbers) {
                 Ok(()) => judged(kind, numbers),
                 Err(fault) => Err(fault),

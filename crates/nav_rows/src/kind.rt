@@ -5,15 +5,16 @@ ghost use Rattle.nav_rows.specs.Kinds.{HasName, IsKind, is_titled, is_whole, kin
 
 use crate::links::{
     D1_LINKS, D1_PARTS, FDMA_LINKS, FDMA_PARTS, FNAV_LINKS, FNAV_PARTS, NAVIC_LINKS, NAVIC_PARTS,
-    QZSS_LINKS, QZSS_PARTS,
+    QZSS_LINKS, QZSS_PARTS, SBAS_LINKS, SBAS_PARTS,
 };
-use crate::tables::{FIELDS_1020, FIELDS_1041, FIELDS_1042, FIELDS_1044, FIELDS_1045};
+use crate::tables::{FIELDS_1020, FIELDS_1041, FIELDS_1042, FIELDS_1044, FIELDS_1045, FIELDS_SBAS};
 use nav_days::WeekRule;
 use nav_links::{Link, Part};
 use nav_tables::Table;
 use rinex_read::columns;
 use rinex_write::{
-    D1, D1_ROWS, FDMA, FDMA_ROWS, FNAV, FNAV_ROWS, NAVIC, NAVIC_ROWS, QZSS, QZSS_ROWS, RecordLayout,
+    D1, D1_ROWS, FDMA, FDMA_ROWS, FNAV, FNAV_ROWS, NAVIC, NAVIC_ROWS, QZSS, QZSS_ROWS,
+    RecordLayout, SBAS, SBAS_ROWS,
 };
 
 /// The scale in which the epochs of a kind's records are dates.
@@ -53,6 +54,8 @@ pub enum Clock {
     Frame,
     /// By a week number and two times of week.
     Weeks(WeekClock),
+    /// By a time of day alone, of this unit in seconds: only a record tells the day.
+    Daily(u32),
 }
 
 /// A kind of ephemeris: all that distinguishes it from others.
@@ -66,7 +69,8 @@ pub struct Kind {
     pub prn: u8,
     /// The scale of its epochs.
     pub scale: TimeScale,
-    /// The place of its system in the order of records: GPS, Galileo, GLONASS, BeiDou, QZSS, NavIC.
+    /// The place of its system in the order of records: GPS, Galileo, GLONASS, BeiDou, QZSS, NavIC,
+    /// SBAS.
     pub system: u8,
     /// The place of its message type among those of its system.
     pub message: u8,
@@ -258,6 +262,29 @@ pub fn kind_navic() -> Kind
     }
 }
 
+/// SBAS, whose ephemeris no message of RTCM carries.
+pub fn kind_sbas() -> Kind
+    ensures kind { IsKind result }
+    ensures name { HasName result (codes "S") (codes "SBAS") }
+{
+    Kind {
+        letter: b'S',
+        title: b"SBAS",
+        prn: 100,
+        scale: TimeScale::Gps,
+        system: 6,
+        message: 0,
+        sent: 2,
+        may_end_early: false,
+        clock: Clock::Daily(16),
+        sisa: None,
+        table: message!(FIELDS_SBAS, 29),
+        links: &SBAS_LINKS,
+        parts: &SBAS_PARTS,
+        layout: layout!(SBAS, SBAS_ROWS),
+    }
+}
+
 /// The kind of the messages of a number; of 1042 satellites 1 to 5 and 59 to 63 send D2
 /// (BDS-SIS-ICD-B1I-3.0).
 pub fn kind_of(message: u16, satellite: u8) -> Option<Kind>
@@ -285,8 +312,8 @@ fn beidou_kind(satellite: u8) -> Kind
     }
 }
 
-// Whether a title is that of a kind: record type, letter and message type.
-fn is_titled(title: &[u8; 80], letter: u8, message: &[u8]) -> bool
+/// Whether a title of RINEX 4 has this letter and message type, of an ephemeris.
+pub fn is_titled(title: &[u8; 80], letter: u8, message: &[u8]) -> bool
     requires { length message.now ≤ 4 }
     ensures { result ≡ is_titled letter message.now title.now }
 {
@@ -318,6 +345,9 @@ pub fn kind_of_title(title: &[u8; 80]) -> Option<Kind>
     if is_titled(title, b'I', b"LNAV") {
         return Some(kind_navic());
     }
+    if is_titled(title, b'S', b"SBAS") {
+        return Some(kind_sbas());
+    }
     None
 }
 
@@ -332,6 +362,7 @@ pub fn kind_of_letter(letter: u8, satellite: u8) -> Option<Kind>
         b'C' => Some(beidou_kind(satellite)),
         b'J' => Some(kind_qzss()),
         b'I' => Some(kind_navic()),
+        b'S' => Some(kind_sbas()),
         _ => None,
     }
 }

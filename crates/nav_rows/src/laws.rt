@@ -77,7 +77,8 @@ pub fn messages_come_back()
 {}
 
 /// The row of the message of a row is that row near its week, if its columns are those of a
-/// message: a time of transmission is not known, and spare columns are as they are written.
+/// message: a time of transmission is not known, spare columns are as they are written, and other
+/// numbers are known.
 pub fn rows_come_back()
     ensures { (k : Kind) (row : RowValue) (bytes : List ℕ) (r : ℕ) → IsKind k →
         IsOfMessage k row → IsNearRow k.clock row r → message_of k row ≡ Ok bytes →

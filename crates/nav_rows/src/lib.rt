@@ -31,8 +31,8 @@ mod times;
 
 pub use crate::encode::{EncodeFault, message_of_row};
 pub use crate::kind::{
-    Clock, Kind, TimeScale, WeekClock, kind_d1, kind_d2, kind_fdma, kind_fnav, kind_navic, kind_of,
-    kind_of_letter, kind_of_title, kind_qzss,
+    Clock, Kind, TimeScale, WeekClock, is_titled, kind_d1, kind_d2, kind_fdma, kind_fnav,
+    kind_navic, kind_of, kind_of_letter, kind_of_title, kind_qzss, kind_sbas,
 };
 pub use crate::laws::{
     messages_come_back, records_of_rows_are_read, rows_are_ordered, rows_come_back,

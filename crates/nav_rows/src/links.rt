@@ -201,3 +201,26 @@ pub const NAVIC_PARTS: [Part; 2] = [
     part!(12, 1, 1), // l5_flag
     part!(13, 1, 0), // s_flag
 ];
+
+/// Where the columns of an SBAS ephemeris come from in message 9 of SBAS, whose health is not in
+/// it.
+pub const SBAS_LINKS: [Link; 15] = [
+    Link::Field { field: 14 }, // agf0
+    Link::Field { field: 15 }, // agf1
+    SENT, // sent
+    Link::Field { field: 5 }, // x
+    Link::Field { field: 8 }, // x_velocity
+    Link::Field { field: 11 }, // x_acceleration
+    Link::Fixed { number: 0 }, // health
+    Link::Field { field: 6 }, // y
+    Link::Field { field: 9 }, // y_velocity
+    Link::Field { field: 12 }, // y_acceleration
+    Link::Field { field: 4 }, // ura
+    Link::Field { field: 7 }, // z
+    Link::Field { field: 10 }, // z_velocity
+    Link::Field { field: 13 }, // z_acceleration
+    Link::Field { field: 2 }, // iodn
+];
+
+/// The parts of its columns.
+pub const SBAS_PARTS: [Part; 0] = [];

@@ -36,6 +36,7 @@ fn settle_by(clock: &Clock, columns: &mut [i64])
     match clock {
         Clock::Frame => settle_flags(columns),
         Clock::Weeks(_) => {}
+        Clock::Daily(_) => {}
     }
 }
 
@@ -62,7 +63,7 @@ fn extended(numbers: ArrayVec<i64, 34>, more: &[i64]) -> ArrayVec<i64, 34>
     }
 }
 
-// Toe or, of frames, the epoch.
+// Toe or, of frames and where no week is told, the epoch.
 fn moment_by(clock: &Clock, row: &Row) -> u64
     requires { HasClock clock.now row.now.columns.items }
     ensures same { result ≡ moment_by clock.now (value row.now) }
@@ -71,6 +72,7 @@ fn moment_by(clock: &Clock, row: &Row) -> u64
     match clock {
         Clock::Frame => row.moment.value(),
         Clock::Weeks(weeks) => toe_at(weeks, row.columns.as_slice()),
+        Clock::Daily(_) => row.moment.value(),
     }
 }
 

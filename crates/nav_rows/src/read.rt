@@ -16,7 +16,7 @@ use crate::encode::epoch_fault;
 use crate::kind::Kind;
 use crate::row::Row;
 use rinex_read::{Reason, RowSaid, read_row_lines};
-use rinex_write::{Column, Rule};
+use rinex_write::{Column, NOT_KNOWN, Rule};
 use scaled_decimal::is_decimal;
 
 // Whether a number is from one to another, both included.
@@ -34,6 +34,9 @@ fn is_in_column(rule: &Rule, number: i64) -> bool
         Rule::Plain { low, high } => is_from(low, number, high),
         Rule::OrZero { low, high } => is_from(low, number, high),
         Rule::OrLeast { low, high } => is_from(low, number, high),
+        Rule::OrUnknown { low, high } => {
+            is_from(low, number, high) || is_from(NOT_KNOWN, number, NOT_KNOWN)
+        }
         Rule::Ura => is_from(0, number, 15),
         Rule::Sisa => is_from(0, number, 255) && (number <= 125 || number >= 255),
         Rule::Fit => is_from(0, number, 1),
@@ -180,7 +183,7 @@ fn completed(lines: &[[u8; 80]]) -> [[u8; 80]; 5]
 }
 
 /// The row of a record by its title and the lines after it, each truncated to 80 characters or
-/// filled with blanks. A GLONASS record may lack its last line, whose numbers are 0 then.
+/// filled with blanks. A GLONASS record may lack its last line, whose numbers are not known then.
 ///
 /// The error is the first reason: satellite, number of lines, another satellite in the first line,
 /// date, numbers, epoch.

@@ -319,3 +319,25 @@ pub fn table_1046() -> Table
         bytes: 63,
     }
 }
+
+/// The fields of message 9 of SBAS, GEO navigation data (RTCA DO-229), with the number of its
+/// satellite in front, PRN less 100; no message of RTCM carries them.
+pub const FIELDS_SBAS: [Field; 17] = [
+    constant!(6, 9), // type
+    unsigned!(8, 20, 58), // satellite
+    unsigned!(8), // iodn
+    unsigned!(13, 0, 5_399), // t0
+    unsigned!(4), // ura
+    signed!(30), // x
+    signed!(30), // y
+    signed!(25), // z
+    signed!(17), // x_velocity
+    signed!(17), // y_velocity
+    signed!(18), // z_velocity
+    signed!(10), // x_acceleration
+    signed!(10), // y_acceleration
+    signed!(10), // z_acceleration
+    signed!(12), // agf0
+    signed!(8), // agf1
+    reserved!(6), // reserved
+];

@@ -12,6 +12,7 @@ use crate::tables::table_1046;
 use gnss_week::RefWeek;
 use nav_io::MemSink;
 use nav_tables::{read_message, write_message};
+use rinex_write::NOT_KNOWN;
 use std::alloc::Global;
 
 // A message of a satellite in hexadecimal digits, bytes 0 behind it, and its record.
@@ -370,7 +371,24 @@ fn random_rows(row: &RandomRow, alloc: Global) -> u32 {
     good
 }
 
-// Whether a GLONASS record without its last line is read, the numbers of that line being 0.
+// Whether the message of a GLONASS row has 0 for the numbers of the last line.
+fn is_sent_as_zero(kind: &Kind, row: &Row) -> Option<bool>
+    requires kind { IsKind kind.now }
+    requires fields { AreFields kind.now.layout.columns.now row.now.columns.items }
+{
+    let mut payload = [0; 64];
+    let count = kind.table.bytes;
+    if count > 64 {
+        return None;
+    }
+    message_of_row(kind, row, &mut payload[..count]).ok()?;
+    let again = row_of_message(kind, &payload, RefWeek::new(2295)?).ok()?;
+    let columns = again.columns.as_slice();
+    Some(columns.len() == 19 && [columns[15], columns[16], columns[17], columns[18]] == [0; 4])
+}
+
+// Whether a GLONASS record without its last line is read, the numbers of that line being not known,
+// and is sent with 0 for them.
 fn is_read_early(row: &MessageRow) -> Option<bool> {
     let kind = kind_of(row.message, row.satellite)?;
     let (lines, _) = lines_of(row.record);
@@ -387,7 +405,8 @@ fn is_read_early(row: &MessageRow) -> Option<bool> {
         early.number == whole.number
             && columns[0] == numbers[0]
             && columns[14] == numbers[14]
-            && left == [0; 4],
+            && left == [NOT_KNOWN; 4]
+            && is_sent_as_zero(&kind, &early)?,
     )
 }
 

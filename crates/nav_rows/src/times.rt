@@ -101,5 +101,6 @@ pub(crate) fn times_told(clock: &Clock, numbers: &[i64], reference: RefWeek) -> 
     match clock {
         Clock::Frame => frame_times(numbers, reference),
         Clock::Weeks(weeks) => Some(week_times(weeks, numbers, reference)),
+        Clock::Daily(_) => None,
     }
 }

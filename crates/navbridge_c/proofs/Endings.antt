@@ -174,13 +174,14 @@ module _ {S T U : Type 0} (left : S → List ℕ) (written : T → List ℕ) (wr
   begun_of job i i' o o' r r' fault none silent broke =
       let m = meaning_of job in
       let is : broke.text.prefix ≡ written o' = sym (grown _ _ _ none broke.text.grew) in
-      let told : broke.told.0 ≡ reported r' = sym (grown _ _ _ silent broke.told.2) in
+      let told : broke.told.prefix ≡ reported r' = sym (grown _ _ _ silent broke.told.grew) in
       record {
         taken = broke.taken;
         prefix = prefix_taken m.reads (left i) (left i') broke.taken broke.consumes;
         output = subst (λ (l : List ℕ). IsPrefix l (m.whole.output broke.taken)) is broke.text.within;
-        least = subst (λ (l : List ℕ). IsPrefix (m.least broke.taken) l) is broke.text.no_less;
-        report = subst (λ (l : List ℕ). IsPrefix l (m.whole.report broke.taken)) told broke.told.1;
+        least = subst (λ (l : List ℕ). IsPrefix (m.least.output broke.taken) l) is broke.text.no_less;
+        report = subst (λ (l : List ℕ). IsPrefix l (m.whole.report broke.taken)) told broke.told.within;
+        least_report = subst (λ (l : List ℕ). IsPrefix (m.least.report broke.taken) l) told broke.told.no_less;
       }
 
   nothing_of : (o o' : T) (r r' : U) → written o ≡ [] → reported r ≡ [] → o' ≡ o → r' ≡ r → nothing ≡ made_of (written o') (reported r')

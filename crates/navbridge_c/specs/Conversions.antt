@@ -31,13 +31,14 @@ pub record IsWhole (job : Job) (input : List ℕ) (made : Made) : Type 0 where
   pub report : made.report ≡ (meaning_of job).whole.report (read_by job input)
 
 -- The conversion ended before it was done: it took some prefix of the input, and made a prefix of
--- what that gives, no less than the least.
+-- what that gives, neither output nor report less than its least.
 pub record IsBegun (job : Job) (input : List ℕ) (made : Made) : Type 0 where
   pub taken : List ℕ
   pub prefix : IsPrefix taken (read_by job input)
   pub output : IsPrefix made.output ((meaning_of job).whole.output taken)
-  pub least : IsPrefix ((meaning_of job).least taken) made.output
+  pub least : IsPrefix ((meaning_of job).least.output taken) made.output
   pub report : IsPrefix made.report ((meaning_of job).whole.report taken)
+  pub least_report : IsPrefix ((meaning_of job).least.report taken) made.report
 
 -- the arguments name a conversion, and this holds of it
 abbrev pub ForJob : List (List ℕ) → (Job → Type 0) → Type 0

@@ -42,7 +42,7 @@ ghost use Rattle.c_messages.specs.Subframes.{IsContent, IsSubframeOf, PutsSubfra
 ghost use Rattle.c_messages.specs.Pages.{ArePair, BelongTogether, IsAlert, IsPageOf, PutsWord};
 ghost use Rattle.c_messages.specs.Pages.{IsContent as IsWord, content_in as word_in, word_read};
 ghost use Rattle.c_messages.specs.RecordEnds.{EndsHeader, EndsRecord};
-ghost use Rattle.c_messages.specs.RecordReads.{IsVersion, PutsRead, judged_in};
+ghost use Rattle.c_messages.specs.RecordReads.{IsVersion, PutsRead, read_in};
 ghost use Rattle.c_messages.specs.RecordWrites.{IsHeader, IsSaidBy, PutsRecord, header_text};
 ghost use Rattle.c_messages.specs.Weeks.{unix_week};
 ghost use Rattle.c_rows.specs.Rows.{GivesColumn, ReadsRow, WritesFrame, WritesRow};
@@ -262,7 +262,7 @@ pub extern "C" fn nb_page_write(word: &WordRaw, satellite: u32, page: &mut PageB
 #[unsafe(no_mangle)]
 pub extern "C" fn nb_record_read(text: &[u8], version: u32, item: &mut ItemRaw) -> u32
     ensures read { IsVersion version →
-        PutsRead (judged_in version text.now) item.old item.new result }
+        PutsRead (read_in version text.now) item.old item.new result }
     ensures version { (IsVersion version → ⊥) → (result ≡ 24) × (item.new ≡ item.old) }
 {
     c_messages::read_record(text, version, item)

@@ -133,8 +133,8 @@ fn read(rt: &HostRuntime, all: bool, quiet: bool, file: Compared) -> Result<File
     let mut input = input;
     let mut items = FileItems::new(rt.alloc());
     let got = match kind {
-        Kind::Rinex3 => read_items::<Rinex3, Peeked<Input>>(all, &mut items, &mut input),
-        _ => read_items::<Rinex4, Peeked<Input>>(all, &mut items, &mut input),
+        Kind::Rinex3 => read_items(&Rinex3, all, &mut items, &mut input),
+        _ => read_items(&Rinex4, all, &mut items, &mut input),
     };
     match got {
         Ok(counts) => {

@@ -1,4 +1,5 @@
-//! The commands that do the same: of `navbridge`, and of a stream of all systems `navconvert`'s own.
+//! The commands that do the same: of `navbridge`, and of ephemerides of all systems `navconvert`'s
+//! own.
 
 use crate::files::Settings;
 use crate::forms::{format_word, input_kind};
@@ -54,7 +55,7 @@ fn show_before(settings: &Settings, files: &[&str], name: Option<&str>) -> u8 {
     line.end(name)
 }
 
-// Prints the command for files of this form: for a stream of all systems that of this program.
+// Prints the command for files of this form: for ephemerides of all systems that of this program.
 fn show_kind(
     settings: &Settings,
     first: &str,
@@ -87,7 +88,7 @@ fn show_kind(
 // The program that does a task from its input to its output.
 fn program_of(task: &Task) -> &'static str {
     match task {
-        Task::Systems(_) => "navconvert -o - -",
+        Task::Systems(_) | Task::SystemFile(_) => "navconvert -o - -",
         Task::Does(_) | Task::Copied => "navbridge",
     }
 }
@@ -95,7 +96,7 @@ fn program_of(task: &Task) -> &'static str {
 /// The reference week of a task.
 pub(crate) fn week_in(task: &Task) -> Option<RefWeek> {
     match task {
-        Task::Copied => None,
+        Task::Copied | Task::SystemFile(_) => None,
         Task::Systems(job) => Some(job.week),
         Task::Does(Job::Capture(job)) => job.week,
         Task::Does(Job::Stream(job)) => Some(job.week),

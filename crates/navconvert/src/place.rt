@@ -119,11 +119,12 @@ impl<'a> Place<'a> {
         }
     }
 
-    /// What was seen of an input that was read under this format, and of what was made of it.
-    pub(crate) fn seen(&mut self, kind: Option<Kind>) -> Seen {
+    /// What was seen of an input that was read under this format, all systems of a navigation file
+    /// or not, and of what was made of it.
+    pub(crate) fn seen(&mut self, kind: Option<Kind>, is_of_all: bool) -> Seen {
         let skips = match kind {
             None => Skips::new(),
-            Some(kind) => self.watch.skips(kind),
+            Some(kind) => self.watch.skips(kind, is_of_all),
         };
         Seen {
             skips,

@@ -14,8 +14,7 @@ use crate::systems::Skips;
 use crate::taken::is_read_once;
 use crate::telling::tell_file;
 use crate::values::Wanted;
-use bridge_engine::Done;
-use file_conversion::{Outcome, Refusal, Target, refusal_of};
+use file_conversion::{Done, Outcome, Refusal, Target, refusal_of};
 use std::slice::from_ref;
 use whole_file::{Given, Kind};
 
@@ -81,11 +80,12 @@ pub(crate) fn is_three(settings: &Settings, file: &str) -> bool {
     matches!(file_kind(settings, None, file), Ok(Kind::Rinex3))
 }
 
-/// What is asked of a file of RINEX 3 that is merged: to convert it to RINEX 4.
+/// What is asked of a file of RINEX 3 that is merged: to convert what is merged of it to RINEX 4.
 pub(crate) fn wanted_before(settings: &Settings) -> Wanted {
     Wanted {
         form: Some(Kind::Rinex3),
         target: Target::Rinex,
+        merges: true,
         ..settings.wanted
     }
 }
@@ -139,7 +139,7 @@ fn convert_by<'a>(
             Err(tell_file(settings, file, &refusal))
         }
         Ok(made) => {
-            before.add(&made.done, &place.seen(kind));
+            before.add(&made.done, &place.seen(kind, false));
             match place.bytes {
                 Some(bytes) => Ok(bytes),
                 None => Err(tell_file(settings, file, &Refusal::NoMemory)),

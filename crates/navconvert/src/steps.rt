@@ -8,8 +8,7 @@ use crate::outputs::size_of;
 use crate::place::{Goal, Place};
 use crate::tally::{ReportFile, Reported};
 use crate::telling::{Saying, tell_file};
-use bridge_engine::Done;
-use file_conversion::{Observers, Outcome, Refusal, Stop, convert_one, finish};
+use file_conversion::{Done, Made, Observers, Outcome, Refusal, Stop, convert_one, finish};
 use whole_file::Namer;
 
 /// Where what is made of files goes.
@@ -49,7 +48,7 @@ pub(crate) fn made_by<'x, 'a, A: Namer<Option<Done>>>(
         settings,
         file: first,
         name: goes.shown,
-        seen: place.seen(outcome.kind),
+        seen: place.seen(outcome.kind, is_of_all(&outcome.done)),
         faults: 0,
     };
     let status = finish(&outcome, goes.name, goes.part, &mut teller);
@@ -88,6 +87,14 @@ pub(crate) fn converted<'a, A: Namer<Option<Done>>>(
         part,
         names,
     )
+}
+
+// Whether all systems of a navigation file were read.
+fn is_of_all(done: &Result<Made, Stop>) -> bool {
+    match done {
+        Ok(made) => matches!(made.done, Some(Done::File(_))),
+        Err(_) => false,
+    }
 }
 
 // How far files, the first of which has this name, have come, where that is shown.

@@ -6,8 +6,8 @@ use crate::forms::format_word;
 use crate::json::Quoted;
 use crate::place::Seen;
 use crate::systems::{COUNT, SYSTEMS, Skips};
-use bridge_engine::{CaptureCounts, Done};
-use file_conversion::{Shown, Target, task_for};
+use bridge_engine::{CaptureCounts, Done as JobDone, Times};
+use file_conversion::{Done, Shown, Target, task_for};
 use receiver_log::LogCounts;
 use std::fmt;
 use whole_file::Kind;
@@ -21,28 +21,68 @@ pub(crate) struct JobCounts {
     pub amiss: [u64; KINDS],
     /// The records or messages that were skipped.
     pub skipped: u64,
+    /// Those of `items` for which the output format has no record or message; none, if they are not
+    /// counted.
+    pub unwritten: Option<u64>,
+    /// The GPS week of their last epoch, if it is known.
+    pub last_week: Option<u32>,
 }
 
 /// What is counted of what a conversion has done. Of a capture the messages that are not used are
 /// not told apart.
 pub(crate) fn counted(done: &Option<Done>) -> JobCounts {
-    let (items, amiss, skipped) = match done {
-        None | Some(Done::Frames(_) | Done::Generated(_)) => (None, [0; KINDS], 0),
-        Some(Done::Capture(c)) => (Some(c.whole), of_capture(c), 0),
-        Some(Done::Stream(c)) => (Some(c.items), [c.refused, 0, 0, 0, 0, 0, 0, 0], c.unused),
-        Some(Done::File(c) | Done::Sent(c) | Done::Covered(c)) => {
-            (Some(c.items), [c.refused, 0, 0, 0, 0, 0, 0, 0], c.passed)
+    match done {
+        None => counts_of(None, [0; KINDS], 0),
+        Some(Done::Job(done)) => counted_by(done),
+        Some(Done::Stream(c)) => JobCounts {
+            last_week: week_of(c.times),
+            ..counts_of(Some(c.items), rejected(c.refused), c.unused)
+        },
+        Some(Done::File(c)) => JobCounts {
+            unwritten: Some(c.unwritten),
+            ..counts_of(Some(c.items), rejected(c.refused), c.passed)
+        },
+    }
+}
+
+// The week of the last of the epochs.
+fn week_of(times: Option<Times>) -> Option<u32> {
+    match times {
+        None => None,
+        Some(times) => Some(times.last.week()),
+    }
+}
+
+// The same of a conversion of navbridge.
+fn counted_by(done: &JobDone) -> JobCounts {
+    match done {
+        JobDone::Frames(_) | JobDone::Generated(_) => counts_of(None, [0; KINDS], 0),
+        JobDone::Capture(c) => counts_of(Some(c.whole), of_capture(c), 0),
+        JobDone::Stream(c) => counts_of(Some(c.items), rejected(c.refused), c.unused),
+        JobDone::File(c) | JobDone::Sent(c) | JobDone::Covered(c) => {
+            counts_of(Some(c.items), rejected(c.refused), c.passed)
         }
-        Some(Done::Merged(c)) => {
+        JobDone::Merged(c) => {
             let again = c.items.saturating_sub(c.kept);
-            (Some(c.kept), [c.refused, 0, 0, 0, 0, 0, again, 0], c.passed)
+            counts_of(Some(c.kept), [c.refused, 0, 0, 0, 0, 0, again, 0], c.passed)
         }
-    };
+    }
+}
+
+// Counts of a conversion whose output has whatever was made.
+fn counts_of(items: Option<u64>, amiss: [u64; KINDS], skipped: u64) -> JobCounts {
     JobCounts {
         items,
         amiss,
         skipped,
+        unwritten: None,
+        last_week: None,
     }
+}
+
+// Nothing is amiss but that so many were rejected.
+fn rejected(count: u64) -> [u64; KINDS] {
+    [count, 0, 0, 0, 0, 0, 0, 0]
 }
 
 // What is amiss in a capture.
@@ -96,7 +136,15 @@ impl fmt::Display for Summary<'_, '_> {
         }
         match self.clock_week() {
             None => Ok(()),
-            Some(week) => write!(f, "; read near week {week} of the clock"),
+            Some(week) => {
+                write!(f, "; read near week {week} of the clock")?;
+                match self.counted.last_week {
+                    Some(last) if last > week.saturating_add(1) => {
+                        write!(f, ", with dates up to week {last}: name the week by --week")
+                    }
+                    _ => Ok(()),
+                }
+            }
         }
     }
 }
@@ -169,7 +217,13 @@ impl Summary<'_, '_> {
                     ("ionosphere record", "ionosphere records"),
                 )
             }
-            (None, Some(items), _) => write_count(f, ": made of ", items, ITEMS),
+            (None, Some(items), _) => {
+                write_count(f, ": made of ", items, ITEMS)?;
+                match self.counted.unwritten {
+                    None | Some(0) => Ok(()),
+                    Some(count) => write!(f, ", {count} not in the output format"),
+                }
+            }
             (None, None, None) => f.write_str(": written"),
             (None, None, Some(counts)) => {
                 write_count(f, ": ", counts.capture.subframes, ("subframe", "subframes"))?;
@@ -235,6 +289,7 @@ impl Summary<'_, '_> {
         write_member(f, ",", "made", self.counted.items)?;
         write_member(f, ",", "ephemerides", ephemerides)?;
         write_member(f, ",", "ionospheres", ionospheres)?;
+        write_member(f, ",", "unwritten", self.counted.unwritten)?;
         for place in 0..KINDS {
             write_member(f, ",", AMISS[place].0, Some(self.amiss(place)))?;
         }

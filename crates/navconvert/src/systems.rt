@@ -115,6 +115,17 @@ pub(crate) fn system_in(numbers: &[Numbers], number: u16) -> Option<System> {
     None
 }
 
+// The messages of RINEX 4 whose ephemerides of other systems are read, by the letter of the satellite.
+static READ: [(u8, &[u8]); 7] = [
+    (b'R', b"FDMA"),
+    (b'E', b"FNAV"),
+    (b'C', b"D1"),
+    (b'C', b"D2"),
+    (b'J', b"LNAV"),
+    (b'I', b"LNAV"),
+    (b'S', b"SBAS"),
+];
+
 /// The system of a record of RINEX, by the letter of its satellite.
 pub(crate) fn system_of_letter(letter: u8) -> Option<System> {
     system_in(&LETTERS, u16::from(letter))
@@ -131,4 +142,17 @@ pub(crate) fn system_of_title(title: &[u8]) -> Option<System> {
         (Some(letter), _) => system_of_letter(*letter),
         _ => None,
     }
+}
+
+/// Whether a record of RINEX 4 is an ephemeris of another system that is read, by its title.
+pub(crate) fn is_read_title(title: &[u8]) -> bool {
+    let Some([b'E', b'P', b'H', _, letter, _, _, _, message @ ..]) = title.get(2..) else {
+        return false;
+    };
+    for (system, name) in &READ {
+        if letter == system && message.starts_with(name) {
+            return true;
+        }
+    }
+    false
 }

@@ -79,12 +79,14 @@ impl Watch {
         }
     }
 
-    /// What is skipped of an input that is read under this format, which is at its end.
-    pub(crate) fn skips(&mut self, kind: Kind) -> Skips {
+    /// What is skipped of an input that is read under this format, which is at its end; of a
+    /// navigation file of which all systems are read, or not.
+    pub(crate) fn skips(&mut self, kind: Kind, is_of_all: bool) -> Skips {
         if !self.is_told {
             self.tell();
         }
         match &self.records {
+            Some(records) if is_of_all => records.unread,
             Some(records) => records.skips,
             None => self.messages.skips(kind),
         }

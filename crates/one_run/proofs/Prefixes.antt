@@ -58,3 +58,30 @@ between w w1 text (prefix, within, grew) = record {
   no_less = prefix_nil prefix;
   grew = grew;
 }
+
+-- a whole text
+pub between_whole : (w w1 : Option (List ℕ)) (text : List ℕ) → Appends w w1 text → AppendsBetween w w1 text text
+between_whole w w1 text whole = record {
+  prefix = text;
+  within = prefix_same text;
+  no_less = prefix_same text;
+  grew = whole;
+}
+
+-- a text and a prefix of another one
+pub between_behind : (w w1 w2 : Option (List ℕ)) (some more : List ℕ) → Appends w w1 some → AppendsPrefix w1 w2 more → AppendsBetween w w2 some (some ++ more)
+between_behind w w1 w2 some more whole (prefix, within, grew) = record {
+  prefix = some ++ prefix;
+  within = prefix_after some prefix more within;
+  no_less = prefix_more some prefix;
+  grew = Appends-trans w w1 w2 some prefix whole grew;
+}
+
+-- what grew by a text between two others grew by one between a prefix of the first and any text that the second begins
+pub between_within : (w w1 : Option (List ℕ)) (least some more whole : List ℕ) → IsPrefix least some → IsPrefix more whole → AppendsBetween w w1 some more → AppendsBetween w w1 least whole
+between_within w w1 least some more whole low high grew = record {
+  prefix = grew.prefix;
+  within = prefix_trans grew.prefix more whole grew.within high;
+  no_less = prefix_trans least some grew.prefix low grew.no_less;
+  grew = grew.grew;
+}

@@ -28,12 +28,12 @@ pub record Meaning (C : Type 0) : Type 0 where
   pub whole : Texts
   -- what it reports of a complete input before the counts
   pub rejections : List ℕ → List ℕ
-  -- what it has written at least once these bytes were read, whatever fails
-  pub least : List ℕ → List ℕ
+  -- what it has written and reported at least once these bytes were read, whatever fails
+  pub least : Texts
   -- exactly what was written and reported of the bytes read when a read fails, if the meaning determines it
   pub flushed : Option Texts
 
--- nothing: the least output if no more is guaranteed
+-- nothing: the least output or report if no more is guaranteed
 abbrev pub no_least : List ℕ → List ℕ
 no_least bytes = []
 
@@ -130,14 +130,14 @@ Says m taken before after NotThisForm =
 Says m taken before after TooLong = length taken ≡ m.limit
 Says m taken before after NoMemory = (m.memory ≡ true) × Accepts m before
 
--- The run ended early with an error: a prefix of the output of the bytes read was written, no less
--- than the least, and a prefix of their report; both are prefixes of what the complete input gives.
--- Unless the report failed, no counts were reported. Nothing else failed.
+-- The run ended early with an error: a prefix of the output of the bytes read was written, and a
+-- prefix of their report, neither less than its least; both are prefixes of what the complete input
+-- gives. Unless the report failed, no counts were reported. Nothing else failed.
 pub record Broke {C S T U : Type 0} (m : Meaning C) (before after : World S T U) (fault : BridgeFault) : Type 0 where
   pub taken : List ℕ
   pub consumes : Consumes (bytes_for m before) (bytes_for m after) taken
-  pub text : AppendsBetween before.written after.written (m.least taken) (m.whole.output taken)
-  pub told : AppendsPrefix before.reported after.reported (m.whole.report taken)
+  pub text : AppendsBetween before.written after.written (m.least.output taken) (m.whole.output taken)
+  pub told : AppendsBetween before.reported after.reported (m.least.report taken) (m.whole.report taken)
   pub ahead : IsAheadOf m.whole (bytes_for m before) before.written after.written before.reported after.reported
   pub no_counts : (fault ≡ ReportFault → ⊥) → IfSome (bytes_for m before) (λ bytes. AppendsPrefix before.reported after.reported (m.rejections bytes))
   pub cause : HasItsCause {T = Unit {0}} (faults_in before) (faults_in after) (Err fault)

@@ -33,7 +33,7 @@ between_crowded first (Some second) parts many =
     rw (few, and3_false (nat_le first (second + 1)) (nat_le second (first + 60))) refl
 
 -- with too many between, there is no time
-decision_crowded : (more : Bool) (first : ℕ) (says : List Said) (parts : ℕ) → 1024 < parts
+pub decision_crowded : (more : Bool) (first : ℕ) (says : List Said) (parts : ℕ) → 1024 < parts
     → decision more (Some first) says parts ≡ Some None
 decision_crowded more first says parts many =
     let few : nat_le parts 1024 ≡ false = lt-leb parts 1024 many in

@@ -1,4 +1,5 @@
 mod Comings
+mod Staying
 mod LogSteps
 mod LogEnds
 mod OneStep

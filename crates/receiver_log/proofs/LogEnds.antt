@@ -1,35 +1,53 @@
 -- The ends of a run over a log.
-use Rattle.std.proofs.Common.{◌≡◌, ℕ, Bool, true, false, List, [], ◌++◌, length, map}
-use Rattle.std.proofs.Common.{refl, sym, ap, subst, ◌∙◌, append-nil, arith}
+use Rattle.std.proofs.Common.{◌≡◌, ℕ, ◌-◌, Bool, true, false, List, [], ◌++◌, length, map}
+use Rattle.std.proofs.Common.{take, drop}
+use Rattle.std.proofs.Common.{refl, sym, ap, subst, ◌∙◌, append-nil, append_assoc, arith}
+use Rattle.std.proofs.Common.{length-append, ◌⊎◌, inl, inr}
+use Rattle.std.proofs.lemmas.List.{take-append-drop, take-append-le}
 use Rattle.std.proofs.KnownBytes.{Appends-trans}
 use Rattle.std.specs.Prelude.{Option, Some, None, Err, IfSome, IsSome}
 use Rattle.std.specs.Io.KnownBytes.{Appends, IsAtEnd}
 use Rattle.nav_io.specs.Causes.{Rose}
-use Rattle.nav_io.specs.Prefix.{AppendsPrefix}
+use Rattle.nav_io.specs.Prefix.{AppendsPrefix, IsPrefix}
 use Rattle.receiver_frames.specs.Headings.{Heading, format_of}
 use Rattle.receiver_frames.specs.Messages.{messages, messages_past, decided}
 use Rattle.one_run.specs.Causes.{HasItsCause}
-use Rattle.one_run.specs.Runs.{Accepts, Broke, Done, Says, World, faults_in}
+use Rattle.one_run.specs.Runs.{Accepts, AppendsBetween, Broke, Done, Says, World, faults_in}
 use Rattle.one_run.specs.declared.fault.BridgeFault.{BridgeFault}
 use Rattle.one_run.specs.declared.fault.BridgeFault.TheVariants.{ReadFault, WriteFault, ReportFault}
 use Rattle.one_run.specs.declared.fault.BridgeFault.TheVariants.{NotThisForm, TooLong, NoMemory}
-use Rattle.one_run.proofs.Surface.{ahead_at_end, ahead_by, between, none_failed, prefix_behind}
-use Rattle.one_run.proofs.Surface.{prefix_longer, read_failed, report_failed, whole_prefix}
+use Rattle.one_run.proofs.Surface.{ahead_at_end, ahead_by, between_behind, between_whole}
+use Rattle.one_run.proofs.Surface.{between_within, none_failed, prefix_more, prefix_of, prefix_same}
+use Rattle.one_run.proofs.Surface.{prefix_trans, prefix_within, read_failed, report_failed}
 use Rattle.one_run.proofs.Surface.{with_rest, write_failed}
 use Rattle.receiver_messages.specs.declared.said.Said.{Said}
 use Rattle.receiver_log.specs.declared.reception.Reception.{Reception}
 use Rattle.receiver_log.specs.declared.state.LogCounts.{LogCounts}
 use Rattle.receiver_log.specs.Capture.{capture_of, counts_after, counts_of, decided_capture}
-use Rattle.receiver_log.specs.Capture.{lines_from, log_meaning, refusals_from}
+use Rattle.receiver_log.specs.Capture.{least_capture, least_report, lines_from, log_meaning}
+use Rattle.receiver_log.specs.Capture.{refusals_from}
 use Rattle.receiver_log.specs.Capture.{report_of, state_after}
 use Rattle.receiver_log.specs.Log.{begun, none_counted}
 use Rattle.receiver_log.specs.Mirrors.{ahead, behind_time, start_of}
 use Rattle.receiver_log.specs.Receptions.{decided_receptions, received_from, receptions_of}
 use Rattle.receiver_log.specs.Report.{counts_report}
-use Rattle.receiver_log.specs.Steps.{Hears, IsIdle, LogView, Reads, Stops, Tells, fresh}
+use Rattle.receiver_log.specs.Steps.{Advances, Breaks, Early, Hears, IsIdle, LastPiece}
+use Rattle.receiver_log.specs.Steps.{LogView, Passes, Reads, Stops, Tells, fresh}
 use Rattle.receiver_log.proofs.Comings.{comes_as_defined}
-use Rattle.receiver_log.proofs.LogSteps.{Joins, appends_none, both_told, hears_behind, hears_nothing}
+use Rattle.receiver_log.proofs.Staying.{Grows}
+use Rattle.receiver_log.proofs.LogSteps.{Joins, appends_none, between_after, both_told}
+use Rattle.receiver_log.proofs.LogSteps.{hears_nothing, hears_on}
 use Rattle.receiver_log.proofs.LogSteps.{lines_on, reads_none, reads_on, refusals_on, told_by}
+
+-- the receptions that all but the last 16,384 bytes decide
+abbrev pub early_receptions : Heading → (List ℕ → Said) → List ℕ → List Reception
+early_receptions h said bytes =
+    decided_receptions said (decided (format_of h) (take (length bytes - 16384) bytes))
+
+-- receptions begin with these
+abbrev pub IsEarly : Heading → (List ℕ → Said) → List ℕ → List Reception → Type 0
+IsEarly h said bytes heard =
+    (rest : List Reception) × (heard ≡ early_receptions h said bytes ++ rest)
 
 -- the log was read so far, and the lines that came were written
 pub record SoFar (h : Heading) (said : List ℕ → Said)
@@ -38,15 +56,65 @@ pub record SoFar (h : Heading) (said : List ℕ → Said)
   pub text : List ℕ
   pub reads : Reads h said fresh a left left_new [] text (Appends reported reported_new)
   pub grew : Appends written written_new text
+  pub early : IsEarly h said reads.bytes reads.hears.heard
 
 module _ (h : Heading) (said : List ℕ → Said) where
+  -- ---- what was passed before the last piece
+
+  -- the decided receptions to come from the start are those of the definition
+  start_with_more : (bytes : List ℕ) → ahead h said true (start_of []) bytes
+      ≡ decided_receptions said (decided (format_of h) bytes)
+  start_with_more bytes =
+      sym (comes_as_defined true [] (map said (messages_past (format_of h) true bytes 0)))
+
+  -- those that all but the last 16,384 bytes decide are among those before the last piece
+  early_on : (a : LogView) (x y : List ℕ) (xs before : List Reception) → Grows h said
+      → Passes h said fresh a x xs → IsEarly h said x xs → (a.ended ≡ true → y ≡ [])
+      → (y ≡ []) ⊎ LastPiece h said a y before → IsEarly h said (x ++ y) (xs ++ before)
+  early_on a x y xs before grows passes early stays pieces = by_end a.ended refl pieces where
+    none : y ≡ [] → IsEarly h said (x ++ y) (xs ++ before)
+    none empty = subst (λ l. IsEarly h said l (xs ++ before))
+        (sym (ap (λ t. x ++ t) empty ∙ append-nil x)) (
+          early.0 ++ before,
+          ap (λ t. t ++ before) early.1 ∙ append_assoc (early_receptions h said x) early.0 before,
+        )
+
+    some : a.ended ≡ false → LastPiece h said a y before → IsEarly h said (x ++ y) (xs ++ before)
+    some on last =
+        let all = x ++ last.first in
+        let k = length (all ++ last.piece) - 16384 in
+        let whole : x ++ y ≡ all ++ last.piece =
+        ap (λ t. x ++ t) last.bytes_are ∙ sym (append_assoc x last.first last.piece) in
+        let front : take k (all ++ last.piece) ≡ take k all =
+        take-append-le k all last.piece (omega (arith, length-append all last.piece, last.few)) in
+        let more = grows (take k all) (drop k all) in
+        let decides : decided_receptions said (decided (format_of h) all) ≡ xs ++ before =
+        sym (start_with_more all) ∙ passes.decides on last.first
+        ∙ ap (λ t. xs ++ t) (sym last.before_are) in
+        subst (λ l. IsEarly h said l (xs ++ before)) (sym whole) (
+          more.0,
+          sym decides
+              ∙ ap (λ t. decided_receptions said (decided (format_of h) t))
+              (sym (take-append-drop k all))
+              ∙ more.1
+              ∙ ap (λ t. decided_receptions said (decided (format_of h) t) ++ more.0) (sym front),
+        )
+
+    by_end : (f : Bool) → a.ended ≡ f → (y ≡ []) ⊎ LastPiece h said a y before
+        → IsEarly h said (x ++ y) (xs ++ before)
+    by_end f is (inl empty) = none empty
+    by_end false on (inr last) = some on last
+    by_end true over (inr last) = none (stays over)
+
   -- nothing was read yet
   pub start : (left w r : Option (List ℕ)) (a : LogView) → a ≡ fresh → SoFar h said left left w w r r a
+  unfolding reads_none hears_nothing
   start left w r a is = rw is (record {
     text = [];
     reads = reads_none h said fresh fresh left [] [] (Appends r r) refl refl
         (hears_nothing h said fresh [] (Appends r r) (appends_none r));
     grew = appends_none w;
+    early = ([], refl);
   })
 
   -- the next lines behind those that were written
@@ -58,8 +126,14 @@ module _ (h : Heading) (said : List ℕ → Said) where
     consumes = m.consumes;
     size = m.size;
     end = m.end;
-    hears = hears_behind h said a b m.bytes lines text p
-        (subst (λ l. Hears h said a b m.bytes l lines p) none m.hears);
+    hears = record {
+      heard = m.hears.heard;
+      passes = m.hears.passes;
+      state_is = m.hears.state_is;
+      lines_are = ap (λ t. text ++ t)
+          (m.hears.lines_are ∙ ap (λ t. t ++ lines_from a.state m.hears.heard) none);
+      told = m.hears.told;
+    };
   }
 
   next : (left l1 l2 w w1 r r1 : Option (List ℕ)) (a b : LogView) (old lines : List ℕ)
@@ -70,17 +144,45 @@ module _ (h : Heading) (said : List ℕ → Said) where
       reads_on h said fresh a b left l1 l2 [] far.text (far.text ++ lines) (Appends r r1) p q join
       far.reads (behind a b l1 l2 old lines far.text p none m)
 
+  -- what was passed before the last piece begins as it must
+  next_early : (left l1 l2 w w1 r r1 : Option (List ℕ)) (a b : LogView) (old lines : List ℕ)
+      (p : List ℕ → Type 0) (far : SoFar h said left l1 w w1 r r1 a)
+      (m : Reads h said a b l1 l2 old lines p) (e : Early h said a m.bytes m.hears.heard)
+      → Grows h said
+      → IsEarly h said (far.reads.bytes ++ m.bytes) (far.reads.hears.heard ++ e.before)
+  next_early left l1 l2 w w1 r r1 a b old lines p far m e grows =
+      early_on a far.reads.bytes m.bytes far.reads.hears.heard e.before grows far.reads.hears.passes
+      far.early (λ over. (m.hears.passes.stays over).1) e.pieces
+
+  -- and so does all that was passed
+  next_all : (left l1 l2 w w1 r r1 : Option (List ℕ)) (a b : LogView) (old lines : List ℕ)
+      (p : List ℕ → Type 0) (far : SoFar h said left l1 w w1 r r1 a)
+      (m : Reads h said a b l1 l2 old lines p) (e : Early h said a m.bytes m.hears.heard)
+      → Grows h said
+      → IsEarly h said (far.reads.bytes ++ m.bytes) (far.reads.hears.heard ++ m.hears.heard)
+  next_all left l1 l2 w w1 r r1 a b old lines p far m e grows =
+      let first = next_early left l1 l2 w w1 r r1 a b old lines p far m e grows in
+      let early = early_receptions h said (far.reads.bytes ++ m.bytes) in (
+        first.0 ++ e.rest,
+        ap (λ t. far.reads.hears.heard ++ t) e.heard_are
+            ∙ sym (append_assoc far.reads.hears.heard e.before e.rest)
+            ∙ ap (λ t. t ++ e.rest) first.1 ∙ append_assoc early first.0 e.rest,
+      )
+
   -- lines came, and were written
   pub further : (left l1 l2 w w1 w2 r r1 r2 : Option (List ℕ)) (a b : LogView)
-      (old lines piece : List ℕ)
+      (old lines piece : List ℕ) → Grows h said
       → SoFar h said left l1 w w1 r r1 a → old ≡ []
-      → Reads h said a b l1 l2 old lines (Appends r1 r2) → piece ≡ lines → Appends w1 w2 piece
+      → Advances h said a b l1 l2 old lines (Appends r1 r2) → piece ≡ lines → Appends w1 w2 piece
       → SoFar h said left l2 w w2 r r2 b
-  further left l1 l2 w w1 w2 r r1 r2 a b old lines piece far none m is put = record {
+  unfolding next behind reads_on hears_on
+  further left l1 l2 w w1 w2 r r1 r2 a b old lines piece grows far none m is put = record {
     text = far.text ++ lines;
     reads = next left l1 l2 w w1 r r1 a b old lines (Appends r1 r2) (Appends r r2)
-        (both_told r r1 r2) far none m;
+        (both_told r r1 r2) far none m.reads;
     grew = Appends-trans w w1 w2 far.text lines far.grew (subst (Appends w1 w2) is put);
+    early = next_all left l1 l2 w w1 r r1 a b old lines (Appends r1 r2) far m.reads (m.early none)
+        grows;
   }
 
   -- ---- the receptions of a log
@@ -140,29 +242,29 @@ module _ (h : Heading) (said : List ℕ → Said) where
         → Begins (bytes ++ following) (ahead h said false a.place following)
     received_with following last = sym (start_with (bytes ++ following)) ∙ m.passes.stream following last
 
-    capture_has : (all : List ℕ) (more : List Reception) → Begins all more
-        → (w w1 : Option (List ℕ)) → AppendsPrefix w w1 lines
-        → AppendsPrefix w w1 (capture_of h said all)
-    capture_has all more is w w1 put =
-        subst (λ rs. AppendsPrefix w w1 (lines_from begun rs)) (sym is)
-        (subst (AppendsPrefix w w1) (sym (lines_on begun m.heard more))
-        (prefix_longer w w1 (lines_from begun m.heard) _
-        (subst (AppendsPrefix w w1) m.lines_are put)))
+    -- the lines that came begin the capture, and the refusals the report
+    capture_front : (all : List ℕ) (more : List Reception) → Begins all more
+        → IsPrefix lines (capture_of h said all)
+    capture_front all more is =
+        subst (λ rs. IsPrefix lines (lines_from begun rs)) (sym is) (
+          lines_from (state_after begun m.heard) more,
+          lines_on begun m.heard more
+              ∙ ap (λ t. t ++ lines_from (state_after begun m.heard) more) (sym m.lines_are),
+        )
 
-    refusals_has : (all : List ℕ) (more : List Reception) → Begins all more
-        → (r r1 : Option (List ℕ)) → AppendsPrefix r r1 (refusals_from begun m.heard)
-        → AppendsPrefix r r1 (refusals_from begun (receptions_of said (messages (format_of h) all)))
-    refusals_has all more is r r1 told =
-        subst (λ rs. AppendsPrefix r r1 (refusals_from begun rs)) (sym is)
-        (subst (AppendsPrefix r r1) (sym (refusals_on begun m.heard more))
-        (prefix_longer r r1 (refusals_from begun m.heard) _ told))
+    refusals_front : (all : List ℕ) (more : List Reception) → Begins all more
+        → IsPrefix (refusals_from begun m.heard)
+        (refusals_from begun (receptions_of said (messages (format_of h) all)))
+    refusals_front all more is =
+        subst (λ rs. IsPrefix (refusals_from begun m.heard) (refusals_from begun rs)) (sym is)
+        (refusals_from (state_after begun m.heard) more, refusals_on begun m.heard more)
 
-    report_has : (all : List ℕ) (more : List Reception) → Begins all more
-        → (r r1 : Option (List ℕ)) → AppendsPrefix r r1 (refusals_from begun m.heard)
-        → AppendsPrefix r r1 (report_of h said all)
-    report_has all more is r r1 told =
-        prefix_longer r r1 (refusals_from begun (receptions_of said (messages (format_of h) all))) _
-        (refusals_has all more is r r1 told)
+    report_front : (all : List ℕ) (more : List Reception) → Begins all more
+        → IsPrefix (refusals_from begun m.heard) (report_of h said all)
+    report_front all more is =
+        let refusals = refusals_from begun (receptions_of said (messages (format_of h) all)) in
+        prefix_trans (refusals_from begun m.heard) refusals (report_of h said all)
+        (refusals_front all more is) (prefix_more refusals _)
 
   -- ---- in the words of the contract
 
@@ -173,50 +275,67 @@ module _ (h : Heading) (said : List ℕ → Said) where
     each None = tt
     each (Some bytes) = refl
 
+  -- the receptions that all but the last 16,384 bytes decide give the least
+  least_lines : (bytes : List ℕ) (xs : List Reception) (text : List ℕ) → IsEarly h said bytes xs
+      → text ≡ lines_from begun xs → IsPrefix (least_capture h said bytes) text
+  least_lines bytes xs text early is =
+      let first = early_receptions h said bytes in (
+        lines_from (state_after begun first) early.0,
+        is ∙ ap (lines_from begun) early.1 ∙ lines_on begun first early.0,
+      )
+
+  least_refusals : (bytes : List ℕ) (xs : List Reception) → IsEarly h said bytes xs
+      → IsPrefix (least_report h said bytes) (refusals_from begun xs)
+  least_refusals bytes xs early =
+      let first = early_receptions h said bytes in (
+        refusals_from (state_after begun first) early.0,
+        ap (refusals_from begun) early.1 ∙ refusals_on begun first early.0,
+      )
+
   -- a run that ended early
   broke : {S T U : Type 0} (b a : World S T U) (fault : BridgeFault) (v : LogView)
-      (lines : List ℕ) (p : List ℕ → Type 0)
+      (lines some told : List ℕ) (p : List ℕ → Type 0)
       (m : Reads h said fresh v b.left a.left [] lines p)
-      → AppendsPrefix b.written a.written lines
-      → ((t : List ℕ) → p t → AppendsPrefix b.reported a.reported t)
+      → AppendsBetween b.written a.written some lines → IsPrefix (least_capture h said m.bytes) some
+      → AppendsBetween b.reported a.reported told (refusals_from begun m.hears.heard)
+      → IsPrefix (least_report h said m.bytes) told
       → HasItsCause {T = Unit {0}} (faults_in b) (faults_in a) (Err fault)
       → Says (log_meaning h said) m.bytes b a fault → Broke (log_meaning h said) b a fault
-  broke b a fault v lines p m put told cause says = record {
+  broke b a fault v lines some told p m put least report least_told cause says = record {
     taken = m.bytes;
     consumes = m.consumes;
-    text = between b.written a.written _
-        (capture_has v m.bytes lines p m.hears m.bytes _ (received v m.bytes lines p m.hears)
-        b.written a.written put);
-    told = report_has v m.bytes lines p m.hears m.bytes _ (received v m.bytes lines p m.hears)
-        b.reported a.reported (told _ m.hears.told);
+    text = between_within b.written a.written (least_capture h said m.bytes) some lines _ least
+        (capture_front v m.bytes lines p m.hears m.bytes _ (received v m.bytes lines p m.hears))
+        put;
+    told = between_within b.reported a.reported (least_report h said m.bytes) told
+        (refusals_from begun m.hears.heard) _ least_told
+        (report_front v m.bytes lines p m.hears m.bytes _ (received v m.bytes lines p m.hears))
+        report;
     ahead = ahead_by (log_meaning h said).whole b.left a.left b.written a.written
         b.reported a.reported m.bytes m.consumes (λ rest is. (
-          capture_has v m.bytes lines p m.hears (m.bytes ++ rest) _ (all rest is)
-              b.written a.written put,
-          report_has v m.bytes lines p m.hears (m.bytes ++ rest) _ (all rest is)
-              b.reported a.reported (told _ m.hears.told),
+          prefix_within b.written a.written lines _
+              (capture_front v m.bytes lines p m.hears (m.bytes ++ rest) _ (all rest is)) wrote,
+          prefix_within b.reported a.reported (refusals_from begun m.hears.heard) _
+              (report_front v m.bytes lines p m.hears (m.bytes ++ rest) _ (all rest is)) said_so,
         ));
     no_counts = λ other. with_rest b.left a.left m.bytes _ m.consumes (λ rest is.
-        refusals_has v m.bytes lines p m.hears (m.bytes ++ rest) _ (all rest is)
-        b.reported a.reported (told _ m.hears.told));
+        prefix_within b.reported a.reported (refusals_from begun m.hears.heard) _
+        (refusals_front v m.bytes lines p m.hears (m.bytes ++ rest) _ (all rest is)) said_so);
     cause = cause;
     leaves = record { unread = λ e. cc e; silent = λ e. cc e };
     says = says;
   }
     where
+      wrote : AppendsPrefix b.written a.written lines
+      wrote = prefix_of b.written a.written some lines put
+
+      said_so : AppendsPrefix b.reported a.reported (refusals_from begun m.hears.heard)
+      said_so = prefix_of b.reported a.reported told (refusals_from begun m.hears.heard) report
+
       all : (rest : List ℕ) → a.left ≡ Some rest
           → Begins v m.bytes lines p m.hears (m.bytes ++ rest) (ahead h said false v.place rest)
       all rest is = received_with v m.bytes lines p m.hears rest
           (λ over. subst IsAtEnd is (m.end over (λ e. cc e)).0)
-
-  prefix_told : (fault : BridgeFault) (r r1 : Option (List ℕ)) (t : List ℕ) → Tells fault r r1 t
-      → AppendsPrefix r r1 t
-  prefix_told ReadFault r r1 t told = whole_prefix r r1 t told
-  prefix_told WriteFault r r1 t told = whole_prefix r r1 t told
-  prefix_told ReportFault r r1 t told = told
-  prefix_told NotThisForm r r1 t told = whole_prefix r r1 t told
-  prefix_told TooLong r r1 t told = whole_prefix r r1 t told
-  prefix_told NoMemory r r1 t told = whole_prefix r r1 t told
 
   stop_says : {S T U : Type 0} (b a : World S T U) (fault : BridgeFault) (v : LogView)
       (waiting text : List ℕ)
@@ -260,40 +379,86 @@ module _ (h : Heading) (said : List ℕ → Said) where
   stop_cause b a TooLong v waiting writes (kept, many, silent) = none_failed b a kept writes silent
   stop_cause b a NoMemory v waiting writes stops = absurd stops
 
+  -- what was written before the last piece is no less than the least
+  least_written : (left l1 l2 w w1 r r1 : Option (List ℕ)) (u v : LogView) (old lines : List ℕ)
+      (p : List ℕ → Type 0) (far : SoFar h said left l1 w w1 r r1 u)
+      (m : Reads h said u v l1 l2 old lines p) (e : Early h said u m.bytes m.hears.heard)
+      → Grows h said → IsPrefix (least_capture h said (far.reads.bytes ++ m.bytes)) far.text
+  least_written left l1 l2 w w1 r r1 u v old lines p far m e grows =
+      let heard = far.reads.hears.heard in
+      least_lines (far.reads.bytes ++ m.bytes) (heard ++ e.before) far.text
+      (next_early left l1 l2 w w1 r r1 u v old lines p far m e grows)
+      (sym (lines_on begun heard e.before
+      ∙ ap (λ s. lines_from begun heard ++ lines_from s e.before) (sym far.reads.hears.state_is)
+      ∙ ap (λ t. lines_from begun heard ++ t) e.silent ∙ append-nil (lines_from begun heard)
+      ∙ sym far.reads.hears.lines_are))
+
   -- no more lines came
   pub stopped : {S T U : Type 0} (b a : World S T U) (fault : BridgeFault)
-      (l1 r1 : Option (List ℕ)) (u v : LogView) (old waiting : List ℕ)
+      (l1 r1 : Option (List ℕ)) (u v : LogView) (old waiting : List ℕ) → Grows h said
       → SoFar h said b.left l1 b.written a.written b.reported r1 u → old ≡ []
-      → Reads h said u v l1 a.left old waiting (Tells fault r1 a.reported)
+      → Breaks h said u v l1 a.left old waiting fault r1 a.reported
       → Stops h said v waiting b.never_fails b.reads_failed a.reads_failed b.reports_failed
       a.reports_failed fault → a.writes_failed ≡ b.writes_failed
       → Broke (log_meaning h said) b a fault
-  stopped b a fault l1 r1 u v old waiting far none m stops writes =
+  unfolding next behind reads_on hears_on
+  stopped b a fault l1 r1 u v old waiting grows far none m stops writes =
       let all = next b.left l1 a.left b.written a.written b.reported r1 u v old waiting
       (Tells fault r1 a.reported) (Tells fault b.reported a.reported)
-      (told_by fault b.reported r1 a.reported) far none m in
-      broke b a fault v (far.text ++ waiting) (Tells fault b.reported a.reported) all
-      (prefix_longer b.written a.written far.text waiting
-      (whole_prefix b.written a.written far.text far.grew))
-      (prefix_told fault b.reported a.reported) (stop_cause b a fault v waiting writes stops)
+      (told_by fault b.reported r1 a.reported) far none m.reads in
+      let heard = far.reads.hears.heard in
+      let e = m.early none in
+      let first = refusals_from begun heard in
+      let before = refusals_from u.state e.before in
+      let behind = refusals_from u.state m.reads.hears.heard in
+      let on : (xs : List Reception)
+      → refusals_from begun (heard ++ xs) ≡ first ++ refusals_from u.state xs =
+      λ xs. refusals_on begun heard xs
+      ∙ ap (λ s. first ++ refusals_from s xs) (sym far.reads.hears.state_is) in
+      let report : AppendsBetween b.reported a.reported (first ++ before) (first ++ behind) =
+      between_after b.reported r1 a.reported first before behind far.reads.hears.told
+      (m.told none) in
+      broke b a fault v (far.text ++ waiting) far.text (refusals_from begun (heard ++ e.before))
+      (Tells fault b.reported a.reported) all
+      (between_within b.written a.written far.text far.text far.text (far.text ++ waiting)
+      (prefix_same far.text) (prefix_more far.text waiting)
+      (between_whole b.written a.written far.text far.grew))
+      (least_written b.left l1 a.left b.written a.written b.reported r1 u v old waiting
+      (Tells fault r1 a.reported) far m.reads e grows)
+      (subst (λ t. AppendsBetween b.reported a.reported t
+      (refusals_from begun (heard ++ m.reads.hears.heard))) (sym (on e.before))
+      (subst (AppendsBetween b.reported a.reported (first ++ before))
+      (sym (on m.reads.hears.heard)) report))
+      (least_refusals (far.reads.bytes ++ m.reads.bytes) (heard ++ e.before)
+      (next_early b.left l1 a.left b.written a.written b.reported r1 u v old waiting
+      (Tells fault r1 a.reported) far m.reads e grows))
+      (stop_cause b a fault v waiting writes stops)
       (stop_says b a fault v waiting far.text all far.grew stops)
 
   -- the lines were not written
   pub unwritten : {S T U : Type 0} (b a : World S T U) (l1 w1 r1 : Option (List ℕ))
-      (u v : LogView) (old lines piece : List ℕ)
+      (u v : LogView) (old lines piece : List ℕ) → Grows h said
       → SoFar h said b.left l1 b.written w1 b.reported r1 u → old ≡ []
-      → Reads h said u v l1 a.left old lines (Appends r1 a.reported)
+      → Advances h said u v l1 a.left old lines (Appends r1 a.reported)
       → piece ≡ lines → AppendsPrefix w1 a.written piece → Rose b.writes_failed a.writes_failed
       → a.reads_failed ≡ b.reads_failed → a.reports_failed ≡ b.reports_failed
       → Broke (log_meaning h said) b a WriteFault
-  unwritten b a l1 w1 r1 u v old lines piece far none m is put rose reads reports =
-      broke b a WriteFault v (far.text ++ lines) (Appends b.reported a.reported)
-      (next b.left l1 a.left b.written w1 b.reported r1 u v old lines
+  unfolding next behind reads_on hears_on
+  unwritten b a l1 w1 r1 u v old lines piece grows far none m is put rose reads reports =
+      let all = next b.left l1 a.left b.written w1 b.reported r1 u v old lines
       (Appends r1 a.reported) (Appends b.reported a.reported)
-      (both_told b.reported r1 a.reported) far none m)
-      (prefix_behind b.written w1 a.written far.text lines far.grew
+      (both_told b.reported r1 a.reported) far none m.reads in
+      broke b a WriteFault v (far.text ++ lines) far.text (refusals_from begun all.hears.heard)
+      (Appends b.reported a.reported) all
+      (between_behind b.written w1 a.written far.text lines far.grew
       (subst (AppendsPrefix w1 a.written) is put))
-      (λ t told. whole_prefix b.reported a.reported t told)
+      (least_written b.left l1 a.left b.written w1 b.reported r1 u v old lines
+      (Appends r1 a.reported) far m.reads (m.early none) grows)
+      (between_whole b.reported a.reported (refusals_from begun all.hears.heard) all.hears.told)
+      (least_refusals (far.reads.bytes ++ m.reads.bytes)
+      (far.reads.hears.heard ++ m.reads.hears.heard)
+      (next_all b.left l1 a.left b.written w1 b.reported r1 u v old lines (Appends r1 a.reported)
+      far m.reads (m.early none) grows))
       (write_failed b a rose reads reports) (rose, accepts b)
 
   -- all was read and written
@@ -346,19 +511,35 @@ module _ (h : Heading) (said : List ℕ → Said) where
         → Rose b.reports_failed a.reports_failed → a.reads_failed ≡ b.reads_failed
         → a.writes_failed ≡ b.writes_failed → Broke (log_meaning h said) b a ReportFault
     unreported part rose reads writes =
-        let text = capture_has v far.reads.bytes far.text _ far.reads.hears far.reads.bytes _
-        (received v far.reads.bytes far.text _ far.reads.hears) b.written a.written
-        (whole_prefix b.written a.written far.text far.grew) in
-        let report = prefix_behind b.reported r2 a.reported _ _ told
-        (subst (AppendsPrefix r2 a.reported) (says ∙ counts_text) part) in
+        let bytes = far.reads.bytes in
+        let front = capture_front v bytes far.text _ far.reads.hears bytes _
+        (received v bytes far.text _ far.reads.hears) in
+        let wrote : AppendsBetween b.written a.written (least_capture h said bytes)
+        (capture_of h said bytes) =
+        between_within b.written a.written (least_capture h said bytes) far.text far.text
+        (capture_of h said bytes)
+        (least_lines bytes far.reads.hears.heard far.text far.early far.reads.hears.lines_are) front
+        (between_whole b.written a.written far.text far.grew) in
+        let refusals = refusals_from begun (receptions_of said (messages (format_of h) bytes)) in
+        let least : IsPrefix (least_report h said bytes) refusals =
+        subst (λ rs. IsPrefix (least_report h said bytes) (refusals_from begun rs)) (sym is)
+        (least_refusals bytes far.reads.hears.heard far.early) in
+        let report : AppendsBetween b.reported a.reported (least_report h said bytes)
+        (report_of h said bytes) =
+        between_within b.reported a.reported (least_report h said bytes) refusals
+        (report_of h said bytes) (report_of h said bytes) least
+        (prefix_same (report_of h said bytes))
+        (between_behind b.reported r2 a.reported refusals _ told
+        (subst (AppendsPrefix r2 a.reported) (says ∙ counts_text) part)) in
         record {
           taken = far.reads.bytes;
           consumes = far.reads.consumes;
-          text = between b.written a.written _ text;
+          text = wrote;
           told = report;
           ahead = ahead_at_end (log_meaning h said).whole b.left a.left b.written a.written
               b.reported a.reported far.reads.bytes far.reads.consumes
-              (far.reads.end over (λ e. cc e)).0 text report;
+              (far.reads.end over (λ e. cc e)).0 (prefix_of b.written a.written _ _ wrote)
+              (prefix_of b.reported a.reported _ _ report);
           no_counts = λ other. absurd (other refl);
           cause = report_failed b a rose reads writes;
           leaves = record { unread = λ e. cc e; silent = λ e. cc e };

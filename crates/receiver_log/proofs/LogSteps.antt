@@ -1,13 +1,16 @@
 -- Steps of a log, one after another: bytes are fed, receptions are passed, and lines wait.
-use Rattle.std.proofs.Common.{◌≡◌, ℕ, ◌+◌, Bool, true, false, List, [], ◌∷◌, ◌++◌, length, map, take, ◌<◌}
+use Rattle.std.proofs.Common.{◌≡◌, ℕ, ◌+◌, Bool, true, false, List, [], ◌∷◌, ◌++◌, length, map}
+use Rattle.std.proofs.Common.{take, ◌<◌, ◌≤◌, ◌⊎◌, inl, inr}
 use Rattle.std.proofs.Common.{refl, sym, ap, subst, ◌∙◌, append-nil, append_assoc, arith, length-append}
 use Rattle.std.proofs.KnownBytes.{Appends-trans, Consumes-trans}
 use Rattle.std.specs.Prelude.{Option, Some, None, IsTrue}
 use Rattle.std.specs.Io.KnownBytes.{Appends, Consumes, IsAtEnd, Keeps}
-use Rattle.nav_io.specs.Prefix.{AppendsPrefix}
+use Rattle.nav_io.specs.Prefix.{AppendsPrefix, IsPrefix}
 use Rattle.receiver_frames.specs.Headings.{Heading, format_of}
 use Rattle.receiver_frames.specs.Messages.{messages, messages_past}
-use Rattle.one_run.proofs.Surface.{prefix_behind}
+use Rattle.one_run.specs.Runs.{AppendsBetween}
+use Rattle.one_run.proofs.Surface.{between_behind, between_whole, between_within, prefix_after}
+use Rattle.one_run.proofs.Surface.{prefix_behind, prefix_same}
 use Rattle.one_run.specs.declared.fault.BridgeFault.{BridgeFault}
 use Rattle.one_run.specs.declared.fault.BridgeFault.TheVariants.{ReadFault, WriteFault, ReportFault}
 use Rattle.one_run.specs.declared.fault.BridgeFault.TheVariants.{NotThisForm, TooLong, NoMemory}
@@ -17,7 +20,8 @@ use Rattle.receiver_log.specs.declared.state.LogState.{LogState}
 use Rattle.receiver_log.specs.Capture.{counts_after, given, lines_from, refusal_text, refusals_from}
 use Rattle.receiver_log.specs.Capture.{state_after, too_many}
 use Rattle.receiver_log.specs.Mirrors.{Place, ahead, fed_with, to_come}
-use Rattle.receiver_log.specs.Steps.{Hears, IsOver, LogView, Passes, Reads, Stops, Tells}
+use Rattle.receiver_log.specs.Steps.{Advances, Breaks, Early, Hears, IsIdle, IsOver}
+use Rattle.receiver_log.specs.Steps.{LastPiece, LogView, Passes, Reads, Stops, Tells}
 
 -- ---- known bytes
 
@@ -52,7 +56,7 @@ refusals_on s (r ∷ rs) ys =
     ∙ sym (append_assoc (refusal_text s r) (refusals_from (given s r).state rs)
     (refusals_from (state_after (given s r).state rs) ys))
 
-state_on : (s : LogState) (xs ys : List Reception)
+pub state_on : (s : LogState) (xs ys : List Reception)
     → state_after s (xs ++ ys) ≡ state_after (state_after s xs) ys
 state_on s [] ys = refl
 state_on s (r ∷ rs) ys = state_on (given s r).state rs ys
@@ -81,6 +85,16 @@ told_by ReportFault r r1 r2 t u = prefix_behind r r1 r2 t u
 told_by NotThisForm r r1 r2 t u = Appends-trans r r1 r2 t u
 told_by TooLong r r1 r2 t u = Appends-trans r r1 r2 t u
 told_by NoMemory r r1 r2 t u = Appends-trans r r1 r2 t u
+
+-- a text, and then a text between two others
+pub between_after : (w w1 w2 : Option (List ℕ)) (xs ys zs : List ℕ) → Appends w w1 xs
+    → AppendsBetween w1 w2 ys zs → AppendsBetween w w2 (xs ++ ys) (xs ++ zs)
+between_after w w1 w2 xs ys zs grew more = record {
+  prefix = xs ++ more.prefix;
+  within = prefix_after xs more.prefix zs more.within;
+  no_less = prefix_after xs ys more.prefix more.no_less;
+  grew = Appends-trans w w1 w2 xs more.prefix grew more.grew;
+}
 
 -- ---- steps
 
@@ -119,7 +133,7 @@ module _ (h : Heading) (said : List ℕ → Said) where
       still : c.ended ≡ false → b.ended ≡ false
       still = by_end b.ended (λ over. (q.stays over).0)
 
-  pub hears_nothing : (a : LogView) (lines : List ℕ) (p : List ℕ → Type 0) → p []
+  unfoldable pub hears_nothing : (a : LogView) (lines : List ℕ) (p : List ℕ → Type 0) → p []
       → Hears h said a a [] lines lines p
   hears_nothing a lines p told = record {
     heard = [];
@@ -139,7 +153,8 @@ module _ (h : Heading) (said : List ℕ → Said) where
       → p [] → Hears h said a b [] [] lines p
   hears_cleared a b lines p same none told = rw (same, none) (hears_nothing a [] p told)
 
-  pub hears_on : (a b c : LogView) (x y l l1 l2 : List ℕ) (p q r : List ℕ → Type 0) → Joins p q r
+  unfoldable pub hears_on : (a b c : LogView) (x y l l1 l2 : List ℕ) (p q r : List ℕ → Type 0)
+      → Joins p q r
       → Hears h said a b x l l1 p → Hears h said b c y l1 l2 q
       → Hears h said a c (x ++ y) l l2 r
   hears_on a b c x y l l1 l2 p q r join m n = record {
@@ -155,19 +170,9 @@ module _ (h : Heading) (said : List ℕ → Said) where
         ∙ sym (refusals_on a.state m.heard n.heard)) (join _ _ m.told n.told);
   }
 
-  -- lines that were written stand before those that wait
-  pub hears_behind : (a b : LogView) (x l text : List ℕ) (p : List ℕ → Type 0)
-      → Hears h said a b x [] l p → Hears h said a b x text (text ++ l) p
-  hears_behind a b x l text p m = record {
-    heard = m.heard;
-    passes = m.passes;
-    state_is = m.state_is;
-    lines_are = ap (λ t. text ++ t) m.lines_are;
-    told = m.told;
-  }
-
   -- nothing was read
-  pub reads_none : (a b : LogView) (left : Option (List ℕ)) (l l1 : List ℕ) (p : List ℕ → Type 0)
+  unfoldable pub reads_none : (a b : LogView) (left : Option (List ℕ)) (l l1 : List ℕ)
+      (p : List ℕ → Type 0)
       → b.taken ≡ a.taken → b.ended ≡ a.ended → Hears h said a b [] l l1 p
       → Reads h said a b left left l l1 p
   reads_none a b left l l1 p taken ended m = record {
@@ -178,8 +183,8 @@ module _ (h : Heading) (said : List ℕ → Said) where
     hears = m;
   }
 
-  pub reads_on : (a b c : LogView) (left left1 left2 : Option (List ℕ)) (l l1 l2 : List ℕ)
-      (p q r : List ℕ → Type 0) → Joins p q r
+  unfoldable pub reads_on : (a b c : LogView) (left left1 left2 : Option (List ℕ))
+      (l l1 l2 : List ℕ) (p q r : List ℕ → Type 0) → Joins p q r
       → Reads h said a b left left1 l l1 p → Reads h said b c left1 left2 l1 l2 q
       → Reads h said a c left left2 l l2 r
   reads_on a b c left left1 left2 l l1 l2 p q r join m n = record {
@@ -287,6 +292,143 @@ module _ (h : Heading) (said : List ℕ → Said) where
   reads_stopped fault a b c left left1 left2 l l1 l2 r r1 never reads reads1 m n stops =
       reads_on a b c left left1 left2 l l1 l2 (Appends r r1) (λ text. text ≡ []) (Tells fault r r1)
       (fault_told fault c never reads reads1 r r1 stops) m n
+
+  -- ---- what was passed before the last piece
+
+  -- the report of receptions one after another
+  refusals_both : (a b : LogView) (x l l1 : List ℕ) (p : List ℕ → Type 0) (ys : List Reception)
+      → (m : Hears h said a b x l l1 p)
+      → refusals_from a.state (m.heard ++ ys)
+      ≡ refusals_from a.state m.heard ++ refusals_from b.state ys
+  refusals_both a b x l l1 p ys m =
+      refusals_on a.state m.heard ys
+      ∙ ap (λ s. refusals_from a.state m.heard ++ refusals_from s ys) (sym m.state_is)
+
+  -- nothing was read yet
+  pub advances_none : (a : LogView) (left : Option (List ℕ)) (l : List ℕ) (p : List ℕ → Type 0)
+      → p [] → Advances h said a a left left l l p
+  unfolding reads_none hears_nothing
+  advances_none a left l p told = record {
+    reads = reads_none a a left l l p refl refl (hears_nothing a l p told);
+    early = λ none. record {
+      before = [];
+      rest = [];
+      heard_are = refl;
+      silent = refl;
+      pieces = inl refl;
+    };
+  }
+
+  -- receptions more were passed, and no byte was read
+  early_more : (a : LogView) (bytes : List ℕ) (heard more : List Reception)
+      → Early h said a bytes heard → Early h said a (bytes ++ []) (heard ++ more)
+  early_more a bytes heard more e = record {
+    before = e.before;
+    rest = e.rest ++ more;
+    heard_are = ap (λ t. t ++ more) e.heard_are ∙ append_assoc e.before e.rest more;
+    silent = e.silent;
+    pieces = subst (λ l. (l ≡ []) ⊎ LastPiece h said a l e.before) (sym (append-nil bytes))
+        e.pieces;
+  }
+
+  -- messages were taken, where no line waited
+  pub advances_took : (a b c : LogView) (left left1 : Option (List ℕ)) (l l1 l2 : List ℕ)
+      (p q r : List ℕ → Type 0) → Joins p q r → l1 ≡ [] → Advances h said a b left left1 l l1 p
+      → c.taken ≡ b.taken → c.ended ≡ b.ended → Hears h said b c [] [] l2 q
+      → Advances h said a c left left1 l l2 r
+  unfolding reads_took reads_none reads_on hears_on early_more
+  advances_took a b c left left1 l l1 l2 p q r join none m taken ended n = record {
+    reads = reads_took a b c left left1 l l1 l2 p q r join none m.reads taken ended n;
+    early = λ empty. early_more a m.reads.bytes m.reads.hears.heard
+        (subst (λ t. Hears h said b c [] t l2 q) (sym none) n).heard (m.early empty);
+  }
+
+  -- a message could not be reported
+  pub breaks_took : (a b c : LogView) (left left1 : Option (List ℕ)) (l l1 l2 : List ℕ)
+      (r r1 r2 : Option (List ℕ)) → l1 ≡ [] → Advances h said a b left left1 l l1 (Appends r r1)
+      → c.taken ≡ b.taken → c.ended ≡ b.ended → Hears h said b c [] [] l2 (AppendsPrefix r1 r2)
+      → Breaks h said a c left left1 l l2 ReportFault r r2
+  unfolding reads_took reads_none reads_on hears_on early_more
+  breaks_took a b c left left1 l l1 l2 r r1 r2 none m taken ended n =
+      let more = subst (λ t. Hears h said b c [] t l2 (AppendsPrefix r1 r2)) (sym none) n in
+      let first = refusals_from a.state m.reads.hears.heard in
+      let all = refusals_from a.state (m.reads.hears.heard ++ more.heard) in
+      let between : AppendsBetween r r2 first all =
+      subst (AppendsBetween r r2 first)
+      (sym (refusals_both a b m.reads.bytes l l1 (Appends r r1) more.heard m.reads.hears))
+      (between_behind r r1 r2 first (refusals_from b.state more.heard) m.reads.hears.told
+      more.told) in
+      record {
+        reads = reads_took a b c left left1 l l1 l2 (Appends r r1) (AppendsPrefix r1 r2)
+            (Tells ReportFault r r2) (told_by ReportFault r r1 r2) none m.reads taken ended n;
+        early = λ empty. early_more a m.reads.bytes m.reads.hears.heard more.heard (m.early empty);
+        told = λ empty.
+            let e = m.early empty in
+            let low : IsPrefix (refusals_from a.state e.before) first = (
+              refusals_from (state_after a.state e.before) e.rest,
+              ap (refusals_from a.state) e.heard_are ∙ refusals_on a.state e.before e.rest,
+            ) in
+            between_within r r2 (refusals_from a.state e.before) first all all low (prefix_same all)
+            between;
+      }
+
+  -- a piece was read behind all that was decided
+  early_filled : (a c d : LogView) (left left1 left2 : Option (List ℕ)) (l l1 l2 : List ℕ)
+      (p q : List ℕ → Type 0) (m : Reads h said a c left left1 l l1 p)
+      (n : Reads h said c d left1 left2 l1 l2 q) → l ≡ [] → l1 ≡ [] → IsIdle h said c
+      → c.ended ≡ false → d.taken ≤ c.taken + 16384
+      → Early h said a (m.bytes ++ n.bytes) (m.hears.heard ++ n.hears.heard)
+  early_filled a c d left left1 left2 l l1 l2 p q m n empty none idle on few = record {
+    before = m.hears.heard;
+    rest = n.hears.heard;
+    heard_are = refl;
+    silent = sym (m.hears.lines_are ∙ ap (λ t. t ++ lines_from a.state m.hears.heard) empty) ∙ none;
+    pieces = inr (record {
+      first = m.bytes;
+      piece = n.bytes;
+      bytes_are = refl;
+      few = omega (arith, n.size, few);
+      before_are = sym (ap (λ t. ahead h said true a.place t) (sym (append-nil m.bytes))
+          ∙ m.hears.passes.decides on [] ∙ ap (λ t. m.hears.heard ++ t) (rw on at idle.last)
+          ∙ append-nil m.hears.heard);
+    });
+  }
+
+  pub advances_filled : (a c d : LogView) (left left1 left2 : Option (List ℕ)) (l l1 l2 : List ℕ)
+      (p : List ℕ → Type 0) → Advances h said a c left left1 l l1 p
+      → Reads h said c d left1 left2 l1 l2 (λ text. text ≡ []) → l1 ≡ [] → IsIdle h said c
+      → c.ended ≡ false → d.taken ≤ c.taken + 16384 → Advances h said a d left left2 l l2 p
+  unfolding reads_more reads_on hears_on
+  advances_filled a c d left left1 left2 l l1 l2 p m n none idle on few = record {
+    reads = reads_more a c d left left1 left2 l l1 l2 p m.reads n;
+    early = λ empty. early_filled a c d left left1 left2 l l1 l2 p (λ text. text ≡ []) m.reads n
+        empty none idle on few;
+  }
+
+  -- none could be read
+  pub breaks_filled : (fault : BridgeFault) (a c d : LogView) (left left1 left2 : Option (List ℕ))
+      (l l1 l2 : List ℕ) (r r1 : Option (List ℕ)) (never : Bool) (reads reads1 : ℕ)
+      → Advances h said a c left left1 l l1 (Appends r r1)
+      → Reads h said c d left1 left2 l1 l2 (λ text. text ≡ []) → l1 ≡ [] → IsIdle h said c
+      → c.ended ≡ false → d.taken ≤ c.taken + 16384
+      → Stops h said d [] never reads reads1 0 0 fault
+      → Breaks h said a d left left2 l l2 fault r r1
+  unfolding reads_stopped reads_on hears_on early_filled
+  breaks_filled fault a c d left left1 left2 l l1 l2 r r1 never reads reads1 m n none idle on few
+      stops =
+      let first = m.reads.hears.heard in
+      let same : refusals_from a.state (first ++ n.hears.heard) ≡ refusals_from a.state first =
+      refusals_both a c m.reads.bytes l l1 (Appends r r1) n.hears.heard m.reads.hears
+      ∙ ap (λ t. refusals_from a.state first ++ t) n.hears.told
+      ∙ append-nil (refusals_from a.state first) in
+      record {
+        reads = reads_stopped fault a c d left left1 left2 l l1 l2 r r1 never reads reads1 m.reads n
+            stops;
+        early = λ empty. early_filled a c d left left1 left2 l l1 l2 (Appends r r1)
+            (λ text. text ≡ []) m.reads n empty none idle on few;
+        told = λ empty. subst (AppendsBetween r r1 (refusals_from a.state first)) (sym same)
+            (between_whole r r1 (refusals_from a.state first) m.reads.hears.told);
+      }
 
   -- counted from before
   pub stops_from : (fault : BridgeFault) (a : LogView) (waiting : List ℕ) (never never0 : Bool)

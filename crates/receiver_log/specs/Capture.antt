@@ -1,9 +1,10 @@
 -- The capture of a log, and its report.
-use Rattle.std.specs.Prelude.{ℕ, ◌-◌, ◌^◌, true, false, List, [], ◌∷◌, ◌++◌, length, codes, Option, Some, None}
+use Rattle.std.specs.Prelude.{ℕ, ◌-◌, ◌^◌, true, false, List, [], ◌∷◌, ◌++◌, length, take, codes}
+use Rattle.std.specs.Prelude.{Option, Some, None}
 use Rattle.receiver_frames.specs.Messages.{messages, decided}
 use Rattle.receiver_frames.specs.Headings.{Heading, format_of}
 use Rattle.one_run.specs.Reports.{report_line}
-use Rattle.one_run.specs.Runs.{Meaning, no_least}
+use Rattle.one_run.specs.Runs.{Meaning}
 use Rattle.receiver_messages.specs.declared.said.Reason.{Reason}
 use Rattle.receiver_messages.specs.declared.said.Said.{Said}
 use Rattle.receiver_log.specs.declared.reception.Reception.{Reception}
@@ -75,6 +76,15 @@ abbrev pub decided_report : Heading → (List ℕ → Said) → List ℕ → Lis
 decided_report heading said bytes =
     refusals_from begun (decided_receptions said (decided (format_of heading) bytes))
 
+-- the least that was written of the bytes read, whatever fails: the lines of what all but the last
+-- 16,384 bytes decide (one read asks for so many)
+abbrev pub least_capture : Heading → (List ℕ → Said) → List ℕ → List ℕ
+least_capture heading said bytes = decided_capture heading said (take (length bytes - 16384) bytes)
+
+-- the least that was reported of them: the report lines of the same
+abbrev pub least_report : Heading → (List ℕ → Said) → List ℕ → List ℕ
+least_report heading said bytes = decided_report heading said (take (length bytes - 16384) bytes)
+
 -- the number of bytes at which a log is too long
 abbrev pub too_many : ℕ
 too_many = 2 ^ 64 - 1
@@ -90,7 +100,7 @@ log_meaning heading said = record {
   counts = λ bytes. Some (counts_of said (messages (format_of heading) bytes));
   whole = record { output = capture_of heading said; report = report_of heading said };
   rejections = λ bytes. refusals_from begun (receptions_of said (messages (format_of heading) bytes));
-  least = no_least;
+  least = record { output = least_capture heading said; report = least_report heading said };
   flushed = Some (record {
     output = decided_capture heading said;
     report = decided_report heading said;

@@ -5,3 +5,4 @@ pub mod Report
 pub mod Mirrors
 pub mod Steps
 pub mod LogLeft
+pub mod SaysTimes

@@ -1,9 +1,10 @@
 -- A log while its bytes are read; cited by private functions.
 use Rattle.std.specs.Prelude.{◌≡◌, ◌≤◌, ◌<◌, ℕ, ◌+◌, ◌-◌, ◌*◌, ◌^◌, Bool, true, false, not, if◌then◌else◌}
-use Rattle.std.specs.Prelude.{List, [], ◌++◌, length, drop, Option, IsTrue}
+use Rattle.std.specs.Prelude.{List, [], ◌++◌, length, drop, Option, IsTrue, ◌⊎◌}
 use Rattle.std.specs.Io.KnownBytes.{Appends, Consumes, IsAtEnd}
 use Rattle.nav_io.specs.Causes.{Rose}
 use Rattle.nav_io.specs.Prefix.{AppendsPrefix}
+use Rattle.one_run.specs.Runs.{AppendsBetween}
 use Rattle.one_run.specs.declared.fault.BridgeFault.{BridgeFault}
 use Rattle.one_run.specs.declared.fault.BridgeFault.TheVariants.{ReadFault, ReportFault, TooLong}
 use Rattle.receiver_frames.specs.Headings.{Heading, format_of}
@@ -81,16 +82,51 @@ pub record Reads (h : Heading) (said : List ℕ → Said) (a b : LogView)
   pub end : b.ended ≡ true → (a.ended ≡ true → IsOver left a.taken) → IsOver left_new b.taken
   pub hears : Hears h said a b bytes lines lines_new tells
 
+-- what was reported of a text before this error: a prefix if the report failed, else all of it
+abbrev pub Tells : BridgeFault → Option (List ℕ) → Option (List ℕ) → List ℕ → Type 0
+Tells ReportFault reported reported_new text = AppendsPrefix reported reported_new text
+Tells fault reported reported_new text = Appends reported reported_new text
+
+-- all that is decided of these bytes without a last piece, of 16,384 bytes at most
+pub record LastPiece (h : Heading) (said : List ℕ → Said) (a : LogView) (bytes : List ℕ)
+    (before : List Reception) : Type 0 where
+  pub first : List ℕ
+  pub piece : List ℕ
+  pub bytes_are : bytes ≡ first ++ piece
+  pub few : length piece ≤ 16384
+  pub before_are : before ≡ ahead h said true a.place first
+
+-- If any bytes were fed, all that was decided before the last piece of them is among the receptions
+-- passed, and gave no lines.
+pub record Early (h : Heading) (said : List ℕ → Said) (a : LogView) (bytes : List ℕ)
+    (heard : List Reception) : Type 0 where
+  pub before : List Reception
+  pub rest : List Reception
+  pub heard_are : heard ≡ before ++ rest
+  pub silent : lines_from a.state before ≡ []
+  pub pieces : (bytes ≡ []) ⊎ LastPiece h said a bytes before
+
+-- bytes were read, from where no lines wait
+pub record Advances (h : Heading) (said : List ℕ → Said) (a b : LogView)
+    (left left_new : Option (List ℕ)) (lines lines_new : List ℕ) (tells : List ℕ → Type 0) :
+    Type 0 where
+  pub reads : Reads h said a b left left_new lines lines_new tells
+  pub early : lines ≡ [] → Early h said a reads.bytes reads.hears.heard
+
+-- the same up to an error, with no less reported than what was decided before the last piece
+pub record Breaks (h : Heading) (said : List ℕ → Said) (a b : LogView)
+    (left left_new : Option (List ℕ)) (lines lines_new : List ℕ) (fault : BridgeFault)
+    (reported reported_new : Option (List ℕ)) : Type 0 where
+  pub reads : Reads h said a b left left_new lines lines_new (Tells fault reported reported_new)
+  pub early : lines ≡ [] → Early h said a reads.bytes reads.hears.heard
+  pub told : (none : lines ≡ []) → AppendsBetween reported reported_new
+      (refusals_from a.state (early none).before) (refusals_from a.state reads.hears.heard)
+
 -- nothing more is decided
 pub record IsIdle (h : Heading) (said : List ℕ → Said) (a : LogView) : Type 0 where
   pub waiting : IsWaiting (format_of h) a.place.rest
   pub last : ahead h said (not a.ended) a.place [] ≡ []
   pub rest : a.ended ≡ true → a.place.rest ≡ []
-
--- what was reported of a text before this error: a prefix if the report failed, else all of it
-abbrev pub Tells : BridgeFault → Option (List ℕ) → Option (List ℕ) → List ℕ → Type 0
-Tells ReportFault reported reported_new text = AppendsPrefix reported reported_new text
-Tells fault reported reported_new text = Appends reported reported_new text
 
 -- why no more lines come, by the error: of a read, of the report, or because the log is too long
 abbrev pub Stops : Heading → (List ℕ → Said) → LogView → List ℕ → Bool → ℕ → ℕ → ℕ → ℕ → BridgeFault

@@ -12,8 +12,8 @@ ghost use Rattle.receiver_log.specs.Capture.{refusal_line};
 ghost use Rattle.receiver_messages.specs.declared.said.Said.{Said as SaidNow};
 ghost use Rattle.receiver_log.specs.Log.{counted};
 ghost use Rattle.receiver_log.specs.Mirrors.{to_come, work_left};
-ghost use Rattle.receiver_log.specs.Steps.{Hears, IsIdle, Reads, Stops, Tells, fresh, steps_left};
-ghost use Rattle.receiver_log.specs.Steps.{view_of, waiting_of};
+ghost use Rattle.receiver_log.specs.Steps.{Advances, Breaks, Hears, IsIdle, Reads, Stops, fresh};
+ghost use Rattle.receiver_log.specs.Steps.{steps_left, view_of, waiting_of};
 
 use crate::hearing::hear;
 use crate::queue::{Pending, Queue};
@@ -64,13 +64,13 @@ impl<J: Receiver> Log<J> {
         source: &mut S,
         refused: &mut R,
     ) -> Result<bool, BridgeFault>
-        ensures reads { OnOk result (Reads J.heading J.said (view_of self.old) (view_of self.new)
+        ensures reads { OnOk result (Advances J.heading J.said (view_of self.old) (view_of self.new)
             (S.left source.old) (S.left source.new) (waiting_of self.old) (waiting_of self.new)
             (Appends (R.reported refused.old) (R.reported refused.new))) }
-        ensures stopped { IfErr result (λ fault. Reads J.heading J.said
+        ensures stopped { IfErr result (λ fault. Breaks J.heading J.said
             (view_of self.old) (view_of self.new)
             (S.left source.old) (S.left source.new) (waiting_of self.old) (waiting_of self.new)
-            (Tells fault (R.reported refused.old) (R.reported refused.new))) }
+            fault (R.reported refused.old) (R.reported refused.new)) }
         ensures faults { OnOk result ((S.faults source.new ≡ S.faults source.old)
             × (R.faults refused.new ≡ R.faults refused.old)) }
         ensures why { IfErr result (Stops J.heading J.said (view_of self.new) (waiting_of self.new)
@@ -207,6 +207,7 @@ impl<J: Receiver> Log<J> {
         ensures lines { (self.new.lines.items ≡ self.old.lines.items)
             × (self.new.given ≡ self.old.given) }
         ensures faults { OnOk result (S.faults source.new ≡ S.faults source.old) }
+        ensures few { self.new.taken ≤ self.old.taken + 16384 }
         ensures same { OnErr result (view_of self.new ≡ (view_of self.old)) }
         ensures why { (text : List ℕ) → (reports : ℕ) → text ≡ []
             → IsIdle J.heading J.said (view_of self.old)

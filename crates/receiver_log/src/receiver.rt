@@ -5,6 +5,7 @@ ghost use Rattle.receiver_messages.specs.declared.said.Said.{Said as WhatIsSaid}
 ghost use Rattle.receiver_messages.specs.Sbf.{sbf_said as sbf_says};
 ghost use Rattle.receiver_messages.specs.Ubx.{ubx_said as ubx_says};
 ghost use Rattle.receiver_messages.specs.Systems.{SaysOfSystem, SaysTimes};
+ghost use Rattle.receiver_log.specs.SaysTimes.{sbf_says_times, ubx_says_times};
 
 use receiver_frames::{Judge, SbfJudge, UbxJudge};
 use receiver_messages::{Said, sbf_said, ubx_said};
@@ -22,12 +23,16 @@ pub trait Receiver: Judge {
         ensures value { result ≡ said message.now }
         ensures system { SaysOfSystem result }
         ensures times { SaysTimes has_times result };
+
+    ghost says_times: { (message : List ℕ) → SaysTimes has_times (said message) };
 }
 
 impl Receiver for UbxJudge {
     ghost said = { ubx_says };
 
     ghost has_times = { false };
+
+    ghost says_times = { ubx_says_times };
 
     fn tell(message: &[u8]) -> Said {
         ubx_said(message)
@@ -38,6 +43,8 @@ impl Receiver for SbfJudge {
     ghost said = { sbf_says };
 
     ghost has_times = { true };
+
+    ghost says_times = { sbf_says_times };
 
     fn tell(message: &[u8]) -> Said {
         sbf_said(message)

@@ -8,6 +8,7 @@ use crate::report::counts_text;
 use crate::state::{Log, LogCounts};
 use nav_io::{Failed, Sink, Source};
 use one_run::BridgeFault;
+use receiver_frames::decided_messages_stay_decided;
 
 /// Reads a log to its end, writes its capture, and reports rejected messages and counts.
 ///
@@ -19,7 +20,8 @@ use one_run::BridgeFault;
 /// - `ReadFault`, `WriteFault`, `ReportFault` only if the error count of the input, the output or
 ///   the report rose, or is at its maximum. After a failed read exactly the lines and the
 ///   rejections of all that the bytes read decide were written and reported. After any error a
-///   prefix of the capture and of the report of the bytes read was.
+///   prefix of the capture and of the report of the bytes read was, at least what all but the last
+///   16,384 of them decide.
 /// - `TooLong` only if 18,446,744,073,709,551,615 bytes were read.
 pub fn run_log<J: Receiver, S: Source, T: Sink, U: Sink>(
     input: &mut S,
@@ -30,6 +32,7 @@ pub fn run_log<J: Receiver, S: Source, T: Sink, U: Sink>(
         S.left S.never_fails S.faults T.written T.faults U.written U.faults
         input.old input.new output.old output.new report.old report.new result }
 {
+    decided_messages_stay_decided();
     let mut log: Log<J> = Log::new();
     while log.next_lines(input, report)? {
         match output.write(log.waiting()) {

@@ -1,14 +1,12 @@
 -- Columns past 80, lines past the last of a layout, and what is cut off long lines do not matter.
-use Rattle.std.proofs.Common.{◌≡◌, ℕ, zero, suc, ◌+◌, ◌*◌, ◌<◌, ◌≤◌, ◌&&◌, nat_le, Bool, true, List, [], ◌∷◌, ◌++◌, length, get_or, take, map, Ok, refl, ap, sym, ◌∙◌, ⊎_elim, arith}
+use Rattle.std.proofs.Common.{◌≡◌, ℕ, zero, suc, ◌+◌, ◌*◌, ◌<◌, ◌≤◌, ◌&&◌, nat_le, Bool, true, List, [], ◌∷◌, ◌++◌, length, get_or, set, take, map, Ok, refl, ap, sym, ◌∙◌, ⊎_elim, arith}
 use Rattle.std.proofs.lemmas.Bool.{and_parts, cases_lt, leb-true, le-leb, lt-leb}
-use Rattle.scaled_decimal.specs.ScaleValue.{size_of}
-use Rattle.scaled_decimal.specs.NumberReading.{seen}
 use Rattle.nav_eph.specs.declared.sat.System.{System}
 use Rattle.rinex_write.specs.declared.columns.Column.{Column}
 use Rattle.rinex_write.specs.Layouts.{Kind, gps_kind, galileo_kind, gps_ionosphere_kind, galileo_ionosphere_kind, gps_rows, galileo_rows, gps_ionosphere_rows, galileo_ionosphere_rows}
 use Rattle.rinex_write.specs.Texts.{letter_of}
 use Rattle.rinex_read.specs.Lines.{columns, stands_at}
-use Rattle.rinex_read.specs.Fields.{◌>>=◌, taken, field_at, read_row, read_rows}
+use Rattle.rinex_read.specs.Fields.{◌>>=◌, field_of, field_at, read_row, read_rows}
 use Rattle.rinex_read.specs.Judging.{first_of, is_kind, sat_of, satellite_of, same_sat, date_of, ephemeris_said, ionosphere_said, judged}
 use Rattle.rinex_read.specs.Kept.{padded}
 use Rattle.rinex_read.proofs.ColumnLemmas.{IsAlike, columns_alike, stands_alike, length-columns, padded_alike, alike_itself}
@@ -50,7 +48,7 @@ fits a (r ∷ rs) = nat_le (a + 19 * length r) 80 && fits 4 rs
 row_alike : (cs : List Column) (a : ℕ) (l m : List ℕ) → IsAlike l m → a + 19 * length cs ≤ 80 → read_row cs a l ≡ read_row cs a m
 row_alike [] a l m h k = refl
 row_alike (c ∷ cs) a l m h k =
-    ap (λ t. taken c.rule (seen (size_of c.scale) t) >>= λ z. read_row cs (a + 19) l >>= λ zs. Ok (z ∷ zs)) (columns_alike 19 a l m h (omega arith))
+    ap (λ t. field_of c t >>= λ z. read_row cs (a + 19) l >>= λ zs. Ok (z ∷ zs)) (columns_alike 19 a l m h (omega arith))
     ∙ ap (λ r. field_at c a m >>= λ z. r >>= λ zs. Ok (z ∷ zs)) (row_alike cs (a + 19) l m h (omega arith))
 
 rows_alike : (rows : List (List Column)) (n a : ℕ) (ls ms : List (List ℕ)) → length rows ≤ n → AreAlike n ls ms → fits a rows ≡ true → read_rows rows a ls ≡ read_rows rows a ms
@@ -168,3 +166,17 @@ are_itself (suc n) (l ∷ ls) = (alike_itself l, are_itself n ls)
 -- of a title what is kept matters
 pub judged_title : (title : List ℕ) (ls : List (List ℕ)) → judged (padded title ∷ ls) ≡ judged (title ∷ ls)
 judged_title title ls = judged_alike (padded title ∷ ls) (title ∷ ls) (padded_alike title, are_itself 8 ls)
+
+-- ---- what is kept is kept again as it is
+
+padded_again : (l : List ℕ) → padded (padded l) ≡ padded l
+padded_again l = columns_alike 80 0 (padded l) l (padded_alike l) (omega arith)
+
+-- one line more
+pub kept_more : (n : ℕ) (xs : List (List ℕ)) (l : List ℕ) → n < length xs → map padded (take n xs) ≡ take n xs → map padded (take (suc n) (set xs n (padded l))) ≡ take (suc n) (set xs n (padded l))
+kept_more n [] l h kept = absurd (omega arith)
+kept_more zero (x ∷ xs) l h kept = ap (λ (k : List ℕ). k ∷ []) (padded_again l)
+kept_more (suc n) (x ∷ xs) l h kept =
+    let first : padded x ≡ x = cc in
+    let rest : map padded (take n xs) ≡ take n xs = cc in
+    ap (λ (k : List ℕ). k ∷ map padded (take (suc n) (set xs n (padded l)))) first ∙ ap (λ (ks : List (List ℕ)). x ∷ ks) (kept_more n xs l (omega arith) rest)

@@ -4,14 +4,13 @@ use Rattle.std.specs.Prelude.{Option, Result}
 use Rattle.std.proofs.lemmas.List.{map-append}
 use Rattle.nav_io.specs.Lines.{Line, lines_by}
 use Rattle.nav_io.proofs.Surface.{IsPrefixOf, reads_more}
-use Rattle.rinex_read.specs.declared.judged.ItemRead.{ItemRead}
 use Rattle.rinex_read.specs.declared.judged.HeaderState.{HeaderState}
 use Rattle.rinex_read.specs.declared.judged.HeaderState.TheVariants.{New, Open, Passed, NotRinexNav, OtherVersion}
 use Rattle.rinex_read.specs.declared.judged.HeaderFault.{HeaderFault}
 use Rattle.rinex_read.specs.declared.judged.HeaderFault.TheVariants as faults
 use Rattle.rinex_read.specs.Lines.{text_of_line}
 use Rattle.rinex_read.specs.Forms.{Form, LooksAtKept, begins, is_version}
-use Rattle.rinex_read.specs.Files.{BeginWith, Body, but_last, early_reads, ends_header, header_of, header_passed, is_navigation, read_at, reads, reads_behind, records_in, up_to_next, whole_behind}
+use Rattle.rinex_read.specs.Files.{BeginWith, Body, but_last, early_reads, ends_header, header_of, header_passed, is_navigation, reads, reads_behind, records_in, up_to_next, whole_behind}
 use Rattle.rinex_read.specs.States.{AreEarly, HeaderSteps, IsNew, IsOver, MayStand, PassesHeader, RecordsState, Steps, file_by, held_reads}
 use Rattle.rinex_read.proofs.FormLemmas.{ended_told}
 use Rattle.rinex_read.proofs.NearLemmas.{early_behind, early_prefix}
@@ -20,45 +19,45 @@ use Rattle.rinex_read.proofs.TakeLemmas.{none_whole}
 
 -- ---- the records that are whole in lines are so whatever lines follow
 
-pub begin_nil : (xs : List ItemRead) → BeginWith xs []
+pub begin_nil : {R : Type 0} (xs : List R) → BeginWith xs []
 begin_nil xs = (xs, refl)
 
-begin_same : (xs : List ItemRead) → BeginWith xs xs
+begin_same : {R : Type 0} (xs : List R) → BeginWith xs xs
 begin_same xs = ([], sym (append-nil xs))
 
 -- a record before others
-begin_cons : (x y : ItemRead) (p q : List ItemRead) → ((p ≡ [] → ⊥) → y ≡ x) → (q ≡ [] → p ≡ []) → BeginWith (but_last q) (but_last p) → BeginWith (but_last (y ∷ q)) (but_last (x ∷ p))
+begin_cons : {R : Type 0} (x y : R) (p q : List R) → ((p ≡ [] → ⊥) → y ≡ x) → (q ≡ [] → p ≡ []) → BeginWith (but_last q) (but_last p) → BeginWith (but_last (y ∷ q)) (but_last (x ∷ p))
 begin_cons x y [] q same none h = begin_nil (but_last (y ∷ q))
 begin_cons x y (r ∷ rs) [] same none h = absurd (let e : r ∷ rs ≡ [] = none refl in cc)
 begin_cons x y (r ∷ rs) (s ∷ ss) same none (rest, e) =
-    (rest, ap (λ (z : ItemRead). z ∷ but_last (s ∷ ss)) (same (λ e. absurd (cc))) ∙ ap (λ (l : List ItemRead). x ∷ l) e)
+    (rest, ap (λ (z : _). z ∷ but_last (s ∷ ss)) (same (λ e. absurd (cc))) ∙ ap (λ (l : List _). x ∷ l) e)
 
-none_more : (f : Form) (n : ℕ) (a b : List (List ℕ)) → reads f n (a ++ b) ≡ [] → reads f n a ≡ []
+none_more : {R : Type 0} (f : Form R) (n : ℕ) (a b : List (List ℕ)) → reads f n (a ++ b) ≡ [] → reads f n a ≡ []
 none_more f n [] b e = refl
 none_more f n (l ∷ ls) b e = go (begins f l) (none_more f (n + 1) ls b) e
   where
-    go : (x : Bool) → (reads f (n + 1) (ls ++ b) ≡ [] → reads f (n + 1) ls ≡ []) → (if x then read_at (n + 1) (f.judged (l ∷ up_to_next f (ls ++ b))) ∷ reads f (n + 1) (ls ++ b) else reads f (n + 1) (ls ++ b)) ≡ []
-        → (if x then read_at (n + 1) (f.judged (l ∷ up_to_next f ls)) ∷ reads f (n + 1) ls else reads f (n + 1) ls) ≡ []
+    go : (x : Bool) → (reads f (n + 1) (ls ++ b) ≡ [] → reads f (n + 1) ls ≡ []) → (if x then f.judged (n + 1) (l ∷ up_to_next f (ls ++ b)) ∷ reads f (n + 1) (ls ++ b) else reads f (n + 1) (ls ++ b)) ≡ []
+        → (if x then f.judged (n + 1) (l ∷ up_to_next f ls) ∷ reads f (n + 1) ls else reads f (n + 1) ls) ≡ []
     go true next e = absurd (cc)
     go false next e = next e
 
-next_same : (f : Form) (n : ℕ) (a b : List (List ℕ)) → (reads f n a ≡ [] → ⊥) → up_to_next f (a ++ b) ≡ up_to_next f a
+next_same : {R : Type 0} (f : Form R) (n : ℕ) (a b : List (List ℕ)) → (reads f n a ≡ [] → ⊥) → up_to_next f (a ++ b) ≡ up_to_next f a
 next_same f n [] b some = absurd (some refl)
 next_same f n (l ∷ ls) b some = go (begins f l) (next_same f (n + 1) ls b) some
   where
-    go : (x : Bool) → ((reads f (n + 1) ls ≡ [] → ⊥) → up_to_next f (ls ++ b) ≡ up_to_next f ls) → ((if x then read_at (n + 1) (f.judged (l ∷ up_to_next f ls)) ∷ reads f (n + 1) ls else reads f (n + 1) ls) ≡ [] → ⊥)
+    go : (x : Bool) → ((reads f (n + 1) ls ≡ [] → ⊥) → up_to_next f (ls ++ b) ≡ up_to_next f ls) → ((if x then f.judged (n + 1) (l ∷ up_to_next f ls) ∷ reads f (n + 1) ls else reads f (n + 1) ls) ≡ [] → ⊥)
         → (if x then [] else l ∷ up_to_next f (ls ++ b)) ≡ (if x then [] else l ∷ up_to_next f ls)
     go true next some = refl
     go false next some = ap (λ (t : List (List ℕ)). l ∷ t) (next some)
 
-reads_prefix : (f : Form) (n : ℕ) (a b : List (List ℕ)) → BeginWith (but_last (reads f n (a ++ b))) (but_last (reads f n a))
+reads_prefix : {R : Type 0} (f : Form R) (n : ℕ) (a b : List (List ℕ)) → BeginWith (but_last (reads f n (a ++ b))) (but_last (reads f n a))
 reads_prefix f n [] b = begin_nil (but_last (reads f n b))
 reads_prefix f n (l ∷ ls) b = go (begins f l) (reads_prefix f (n + 1) ls b)
   where
-    go : (x : Bool) → BeginWith (but_last (reads f (n + 1) (ls ++ b))) (but_last (reads f (n + 1) ls)) → BeginWith (but_last (if x then read_at (n + 1) (f.judged (l ∷ up_to_next f (ls ++ b))) ∷ reads f (n + 1) (ls ++ b) else reads f (n + 1) (ls ++ b)))
-        (but_last (if x then read_at (n + 1) (f.judged (l ∷ up_to_next f ls)) ∷ reads f (n + 1) ls else reads f (n + 1) ls))
-    go true rest = begin_cons (read_at (n + 1) (f.judged (l ∷ up_to_next f ls))) (read_at (n + 1) (f.judged (l ∷ up_to_next f (ls ++ b)))) (reads f (n + 1) ls) (reads f (n + 1) (ls ++ b))
-        (λ some. ap (λ (t : List (List ℕ)). read_at (n + 1) (f.judged (l ∷ t))) (next_same f (n + 1) ls b some)) (none_more f (n + 1) ls b) rest
+    go : (x : Bool) → BeginWith (but_last (reads f (n + 1) (ls ++ b))) (but_last (reads f (n + 1) ls)) → BeginWith (but_last (if x then f.judged (n + 1) (l ∷ up_to_next f (ls ++ b)) ∷ reads f (n + 1) (ls ++ b) else reads f (n + 1) (ls ++ b)))
+        (but_last (if x then f.judged (n + 1) (l ∷ up_to_next f ls) ∷ reads f (n + 1) ls else reads f (n + 1) ls))
+    go true rest = begin_cons (f.judged (n + 1) (l ∷ up_to_next f ls)) (f.judged (n + 1) (l ∷ up_to_next f (ls ++ b))) (reads f (n + 1) ls) (reads f (n + 1) (ls ++ b))
+        (λ some. ap (λ (t : List (List ℕ)). f.judged (n + 1) (l ∷ t)) (next_same f (n + 1) ls b some)) (none_more f (n + 1) ls b) rest
     go false rest = rest
 
 -- what stands behind a header, with lines more
@@ -74,7 +73,7 @@ passed_more n (l ∷ ls) b = go (ends_header l) (passed_more (n + 1) ls b)
     go true rest = refl
     go false rest = rest
 
-file_more : (f : Form) (n : ℕ) (a b : List (List ℕ)) → More (header_of f n a) (header_of f n (a ++ b)) b
+file_more : {R : Type 0} (f : Form R) (n : ℕ) (a b : List (List ℕ)) → More (header_of f n a) (header_of f n (a ++ b)) b
 file_more f n [] b = tt
 file_more f n (l ∷ ls) b = go (is_navigation l) (is_version f l)
   where
@@ -85,10 +84,10 @@ file_more f n (l ∷ ls) b = go (is_navigation l) (is_version f l)
     go false y = tt
 
 -- what is read of the records that are whole in the lines of a file
-abbrev whole_of : Form → List (List ℕ) → List ItemRead
+abbrev whole_of : {R : Type 0} → Form R → List (List ℕ) → List R
 whole_of f ls = records_in (whole_behind (reads_behind f (header_of f 0 ls)))
 
-whole_prefix : (f : Form) (a b : List (List ℕ)) → BeginWith (whole_of f (a ++ b)) (whole_of f a)
+whole_prefix : {R : Type 0} (f : Form R) (a b : List (List ℕ)) → BeginWith (whole_of f (a ++ b)) (whole_of f a)
 whole_prefix f a b = go (header_of f 0 a) (file_more f 0 a b)
   where
     go : (r : Result Body HeaderFault) → More r (header_of f 0 (a ++ b)) b → BeginWith (whole_of f (a ++ b)) (records_in (whole_behind (reads_behind f r)))
@@ -99,17 +98,17 @@ whole_prefix f a b = go (header_of f 0 a) (file_more f 0 a b)
 -- ---- of the lines that were given
 
 -- what is early is whole in the lines
-early_whole : (f : Form) → LooksAtKept f → (t : List ℕ) (lines : List Line) → IsPrefixOf (lines_by true (take (length t - 4096) t)) lines
+early_whole : {R : Type 0} (f : Form R) → LooksAtKept f → (t : List ℕ) (lines : List Line) → IsPrefixOf (lines_by true (take (length t - 4096) t)) lines
     → BeginWith (whole_of f (map text_of_line lines)) (early_reads f t)
 early_whole f law t lines (rest, e) =
     let a = lines_by true (take (length t - 4096) t) in
     let texts : map text_of_line lines ≡ map text_of_line a ++ map text_of_line rest = ap (map text_of_line) e ∙ map-append text_of_line a rest in
-    let is : whole_of f (map text_of_line a) ≡ early_reads f t = ap (λ (r : Result (List ItemRead) HeaderFault). records_in (whole_behind r)) (ended_told f law 0 (take (length t - 4096) t)) in
+    let is : whole_of f (map text_of_line a) ≡ early_reads f t = ap (λ (r : Result (List _) HeaderFault). records_in (whole_behind r)) (ended_told f law 0 (take (length t - 4096) t)) in
     subst (BeginWith (whole_of f (map text_of_line lines))) is
     (subst (λ (ls : List (List ℕ)). BeginWith (whole_of f ls) (whole_of f (map text_of_line a))) (sym texts) (whole_prefix f (map text_of_line a) (map text_of_line rest)))
 
 -- from the first line on
-from_lines : (f : Form) (old : RecordsState) (ls : List (List ℕ)) → IsNew old → reads_behind f (header_of f 0 ls) ≡ file_by f old.header old ls
+from_lines : {R : Type 0} (f : Form R) (old : RecordsState) (ls : List (List ℕ)) → IsNew old → reads_behind f (header_of f 0 ls) ≡ file_by f old.header old ls
 from_lines f old ls first =
     ap (λ (n : ℕ). reads_behind f (header_of f n ls)) (sym first.number) ∙ ap (λ (h : HeaderState). file_by f h old ls) (sym first.header)
 
@@ -124,13 +123,13 @@ over_or s = go s.kept s.lines.rest s.lines.ended refl refl refl
     go (x ∷ xs) r b k l e = inr (λ over. absurd (let none : s.kept ≡ [] = over.kept in cc))
 
 -- all lines but those of a record that is held
-last_prefix : (xs : List ItemRead) → BeginWith xs (but_last xs)
+last_prefix : {R : Type 0} (xs : List R) → BeginWith xs (but_last xs)
 last_prefix [] = begin_nil []
 last_prefix (x ∷ []) = begin_nil (x ∷ [])
-last_prefix (x ∷ y ∷ ys) = let more = last_prefix (y ∷ ys) in (more.0, ap (λ (l : List ItemRead). x ∷ l) more.1)
+last_prefix (x ∷ y ∷ ys) = let more = last_prefix (y ∷ ys) in (more.0, ap (λ (l : List _). x ∷ l) more.1)
 
 -- the records behind a header that are whole in the lines that were given
-whole_given : (f : Form) (p q : Option (List ℕ)) (now new : RecordsState) (given : List ItemRead) (steps : Steps f p q now new given)
+whole_given : {R : Type 0} (f : Form R) (p q : Option (List ℕ)) (now new : RecordsState) (given : List R) (steps : Steps f p q now new given)
     → BeginWith given (but_last (held_reads f now.kept now.first now.lines.number (map text_of_line steps.lines)))
 whole_given f p q now new given steps = by (over_or new)
   where
@@ -141,7 +140,7 @@ whole_given f p q now new given steps = by (over_or new)
     by (inr more) =
         let is : but_last (held_reads f now.kept now.first now.lines.number (map text_of_line steps.lines)) ≡ given =
         ap (λ (ls : List (List ℕ)). but_last (held_reads f now.kept now.first now.lines.number ls)) (sym (append-nil (map text_of_line steps.lines)))
-        ∙ steps.whole more [] ∙ ap (λ (l : List ItemRead). given ++ l) (none_whole f new.kept new.first new.lines.number) ∙ append-nil given in
+        ∙ steps.whole more [] ∙ ap (λ (l : List _). given ++ l) (none_whole f new.kept new.first new.lines.number) ∙ append-nil given in
         subst (BeginWith given) (sym is) (begin_same given)
     by (inl over) =
         let lines : lines_by false (now.lines.rest ++ (steps.reads.taken ++ [])) ≡ steps.lines =
@@ -149,14 +148,14 @@ whole_given f p q now new given steps = by (over_or new)
         let is : held_reads f now.kept now.first now.lines.number (map text_of_line steps.lines) ≡ given =
         ap (λ (l : List Line). held_reads f now.kept now.first now.lines.number (map text_of_line l)) (sym lines) ∙ steps.stream [] (λ ended. refl)
         ∙ ap (λ (l : List ℕ). given ++ held_reads f new.kept new.first new.lines.number (map text_of_line (lines_by false l))) (append-nil new.lines.rest)
-        ∙ ap (λ (l : List ItemRead). given ++ l) (nothing over) ∙ append-nil given in
-        subst (λ (l : List ItemRead). BeginWith given (but_last l)) (sym is) (last_prefix given)
+        ∙ ap (λ (l : List _). given ++ l) (nothing over) ∙ append-nil given in
+        subst (λ (l : List _). BeginWith given (but_last l)) (sym is) (last_prefix given)
 
-begin_trans : (xs ys zs : List ItemRead) → BeginWith xs ys → BeginWith ys zs → BeginWith xs zs
-begin_trans xs ys zs (a, e) (b, d) = (b ++ a, e ∙ ap (λ (l : List ItemRead). l ++ a) d ∙ append_assoc zs b a)
+begin_trans : {R : Type 0} (xs ys zs : List R) → BeginWith xs ys → BeginWith ys zs → BeginWith xs zs
+begin_trans xs ys zs (a, e) (b, d) = (b ++ a, e ∙ ap (λ (l : List _). l ++ a) d ∙ append_assoc zs b a)
 
 -- behind the header
-pub records_early : (f : Form) → LooksAtKept f → (left middle left_new : Option (List ℕ)) (old now new : RecordsState) (given : List ItemRead) → IsNew old
+pub records_early : {R : Type 0} (f : Form R) → LooksAtKept f → (left middle left_new : Option (List ℕ)) (old now new : RecordsState) (given : List R) → IsNew old
     → (header : PassesHeader f left middle old now) → (steps : Steps f middle left_new now new given) → AreEarly now.lines steps.reads.taken steps.lines
     → BeginWith given (early_reads f (header.steps.reads.taken ++ steps.reads.taken))
 records_early f law left middle left_new old now new given first header steps early =
@@ -166,7 +165,7 @@ records_early f law left middle left_new old now new given first header steps ea
     let all = reads_more left middle left_new old.lines now.lines new.lines some more header.steps.reads steps.reads in
     let may : MayStand now texts = λ ended rest. ap (map text_of_line) (none_behind middle left_new now.lines new.lines more steps.reads ended rest).0 in
     let whole : whole_of f (map text_of_line (some ++ more)) ≡ but_last (held_reads f now.kept now.first now.lines.number texts) =
-    ap (λ (r : Result (List ItemRead) HeaderFault). records_in (whole_behind r)) (
+    ap (λ (r : Result (List _) HeaderFault). records_in (whole_behind r)) (
     from_lines f old (map text_of_line (some ++ more)) first
     ∙ ap (file_by f old.header old) (map-append text_of_line some more)
     ∙ header.steps.told texts may
@@ -175,13 +174,13 @@ records_early f law left middle left_new old now new given first header steps ea
     (early_behind left middle old.lines now.lines some more steps.reads.taken header.steps.reads header.near early) in
     begin_trans given (but_last (held_reads f now.kept now.first now.lines.number texts)) (early_reads f (header.steps.reads.taken ++ steps.reads.taken))
     (whole_given f middle left_new now new given steps)
-    (subst (λ (l : List ItemRead). BeginWith l (early_reads f (header.steps.reads.taken ++ steps.reads.taken))) whole (early_whole f law (header.steps.reads.taken ++ steps.reads.taken) (some ++ more) prefix))
+    (subst (λ (l : List _). BeginWith l (early_reads f (header.steps.reads.taken ++ steps.reads.taken))) whole (early_whole f law (header.steps.reads.taken ++ steps.reads.taken) (some ++ more) prefix))
 
 -- before its end
-pub header_early : (f : Form) → LooksAtKept f → (left left_new : Option (List ℕ)) (old new : RecordsState) → IsNew old
+pub header_early : {R : Type 0} (f : Form R) → LooksAtKept f → (left left_new : Option (List ℕ)) (old new : RecordsState) → IsNew old
     → (steps : HeaderSteps f left left_new old new) → AreEarly old.lines steps.reads.taken steps.lines → (new.header ≡ Passed → ⊥) → early_reads f steps.reads.taken ≡ []
 header_early f law left left_new old new first steps early still =
-    none_before (early_reads f steps.reads.taken) (subst (λ (l : List ItemRead). BeginWith l (early_reads f steps.reads.taken)) whole
+    none_before (early_reads f steps.reads.taken) (subst (λ (l : List _). BeginWith l (early_reads f steps.reads.taken)) whole
     (early_whole f law steps.reads.taken steps.lines (early_prefix left left_new old.lines new.lines steps.lines steps.reads first.rest first.taken early)))
   where
     none : (h : HeaderState) → (h ≡ Passed → ⊥) → records_in (whole_behind (file_by f h new [])) ≡ []
@@ -193,12 +192,12 @@ header_early f law left left_new old new first steps early still =
 
     whole : whole_of f (map text_of_line steps.lines) ≡ []
     whole =
-        ap (λ (r : Result (List ItemRead) HeaderFault). records_in (whole_behind r)) (
+        ap (λ (r : Result (List _) HeaderFault). records_in (whole_behind r)) (
         from_lines f old (map text_of_line steps.lines) first
         ∙ ap (file_by f old.header old) (sym (append-nil (map text_of_line steps.lines)))
         ∙ steps.told [] (λ ended rest. refl))
         ∙ none new.header still
 
-    none_before : (xs : List ItemRead) → BeginWith [] xs → xs ≡ []
+    none_before : {X : Type 0} (xs : List X) → BeginWith [] xs → xs ≡ []
     none_before [] h = refl
     none_before (x ∷ xs) (rest, e) = absurd (cc)

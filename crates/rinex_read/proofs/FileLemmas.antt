@@ -12,8 +12,8 @@ use Rattle.rinex_write.proofs.Surface.{lines_more, header_shown, length-header}
 use Rattle.rinex_read.specs.declared.judged.ItemRead.{ItemRead}
 use Rattle.rinex_read.specs.declared.judged.ItemRead.TheVariants.{Item}
 use Rattle.rinex_read.specs.Lines.{lines_of}
-use Rattle.rinex_read.specs.Forms.{Form, rinex4}
-use Rattle.rinex_read.specs.Files.{header_of, up_to_next, read_at, reads, reads_behind, file_reads, items_of, items_read, rinex_list}
+use Rattle.rinex_read.specs.Forms.{Form, read_at, rinex4}
+use Rattle.rinex_read.specs.Files.{header_of, up_to_next, reads, reads_behind, file_reads, items_of, items_read, rinex_list}
 use Rattle.rinex_read.specs.RoundTrip.{AreItems, NoneBegins, StandFor, AllStand, AreHeaderLines, numbered_by, numbered}
 use Rattle.rinex_read.proofs.RecordLemmas.{item_again}
 use Rattle.rinex_read.proofs.WrittenLemmas.{record_lines_are, header_begins, header_again}
@@ -37,30 +37,30 @@ lines_again (l ∷ ls) rest h =
     ∙ ap (λ t. l ∷ t) (lines_again ls rest h.1)
 
 -- lines that begin no record are skipped
-passed : (f : Form) (n : ℕ) (ls rest : List (List ℕ)) → NoneBegins f ls → reads f n (ls ++ rest) ≡ reads f (n + length ls) rest
+passed : {R : Type 0} (f : Form R) (n : ℕ) (ls rest : List (List ℕ)) → NoneBegins f ls → reads f n (ls ++ rest) ≡ reads f (n + length ls) rest
 passed f n [] rest h = ap (λ m. reads f m rest) (omega arith)
 passed f n (l ∷ ls) rest h =
-    ap (λ b. if b then read_at (n + 1) (f.judged (l ∷ up_to_next f (ls ++ rest))) ∷ reads f (n + 1) (ls ++ rest) else reads f (n + 1) (ls ++ rest)) h.0
+    ap (λ b. if b then f.judged (n + 1) (l ∷ up_to_next f (ls ++ rest)) ∷ reads f (n + 1) (ls ++ rest) else reads f (n + 1) (ls ++ rest)) h.0
     ∙ passed f (n + 1) ls rest h.1 ∙ ap (λ m. reads f m rest) (omega arith)
 
-up_to_more : (f : Form) (ls rest : List (List ℕ)) → NoneBegins f ls → up_to_next f (ls ++ rest) ≡ ls ++ up_to_next f rest
+up_to_more : {R : Type 0} (f : Form R) (ls rest : List (List ℕ)) → NoneBegins f ls → up_to_next f (ls ++ rest) ≡ ls ++ up_to_next f rest
 up_to_more f [] rest h = refl
 up_to_more f (l ∷ ls) rest h =
     ap (λ b. if b then [] else l ∷ up_to_next f (ls ++ rest)) h.0 ∙ ap (λ t. l ∷ t) (up_to_more f ls rest h.1)
 
 -- a record that gives an item is read, whatever lines follow
-item_read : (f : Form) (n : ℕ) (lines : List (List ℕ)) (i : NavItem) (rest : List (List ℕ)) → StandFor f lines i → reads f n (lines ++ rest) ≡ Item (n + 1) i ∷ reads f (n + length lines) rest
+item_read : (f : Form ItemRead) (n : ℕ) (lines : List (List ℕ)) (i : NavItem) (rest : List (List ℕ)) → StandFor f lines i → reads f n (lines ++ rest) ≡ Item (n + 1) i ∷ reads f (n + length lines) rest
 item_read f n lines i rest is =
     let h = is.are in
     let count : n + 1 + length h.others ≡ n + length lines = omega (arith, ap length h.lines_are) in
     ap (λ ls. reads f n (ls ++ rest)) h.lines_are
-    ∙ ap (λ b. if b then read_at (n + 1) (f.judged (h.title ∷ up_to_next f (h.others ++ rest))) ∷ reads f (n + 1) (h.others ++ rest) else reads f (n + 1) (h.others ++ rest)) h.first
-    ∙ ap (λ ls. read_at (n + 1) (f.judged (h.title ∷ ls)) ∷ reads f (n + 1) (h.others ++ rest)) (up_to_more f h.others rest h.rest)
-    ∙ ap (λ ls. read_at (n + 1) (f.judged (ls ++ up_to_next f rest)) ∷ reads f (n + 1) (h.others ++ rest)) (sym h.lines_are)
-    ∙ ap (λ j. read_at (n + 1) j ∷ reads f (n + 1) (h.others ++ rest)) (is.judged (up_to_next f rest))
+    ∙ ap (λ b. if b then f.judged (n + 1) (h.title ∷ up_to_next f (h.others ++ rest)) ∷ reads f (n + 1) (h.others ++ rest) else reads f (n + 1) (h.others ++ rest)) h.first
+    ∙ ap (λ ls. f.judged (n + 1) (h.title ∷ ls) ∷ reads f (n + 1) (h.others ++ rest)) (up_to_more f h.others rest h.rest)
+    ∙ ap (λ ls. f.judged (n + 1) (ls ++ up_to_next f rest) ∷ reads f (n + 1) (h.others ++ rest)) (sym h.lines_are)
+    ∙ ap (λ j. j ∷ reads f (n + 1) (h.others ++ rest)) (is.judged (n + 1) (up_to_next f rest))
     ∙ ap (λ rs. Item (n + 1) i ∷ rs) (passed f (n + 1) h.others rest h.rest ∙ ap (λ m. reads f m rest) count)
 
-items_again : (f : Form) (write : NavItem → List (List ℕ)) (n : ℕ) (is : List NavItem) (rest : List (List ℕ)) → AllStand f write is
+items_again : (f : Form ItemRead) (write : NavItem → List (List ℕ)) (n : ℕ) (is : List NavItem) (rest : List (List ℕ)) → AllStand f write is
     → reads f n (flat_map write is ++ rest) ≡ numbered_by write n is ++ reads f (n + length (flat_map write is)) rest
 items_again f write n [] rest h = ap (λ m. reads f m rest) (omega arith)
 items_again f write n (i ∷ is) rest h =
@@ -70,17 +70,17 @@ items_again f write n (i ∷ is) rest h =
     ∙ item_read f n (write i) i (flat_map write is ++ rest) h.0
     ∙ ap (λ rs. Item (n + 1) i ∷ rs) (items_again f write (n + first) is rest h.1 ∙ ap (λ m. numbered_by write (n + first) is ++ reads f m rest) count)
 
-all_shown : (f : Form) (write : NavItem → List (List ℕ)) (is : List NavItem) → AllStand f write is → AreLines (flat_map write is)
+all_shown : (f : Form ItemRead) (write : NavItem → List (List ℕ)) (is : List NavItem) → AllStand f write is → AreLines (flat_map write is)
 all_shown f write [] h = tt
 all_shown f write (i ∷ is) h = lines_more (write i) (flat_map write is) h.0.are.shown (all_shown f write is h.1)
 
-file_lines : (f : Form) (header : List (List ℕ)) (write : NavItem → List (List ℕ)) (is : List NavItem) (rest : List ℕ) → AreLines header → AllStand f write is
+file_lines : (f : Form ItemRead) (header : List (List ℕ)) (write : NavItem → List (List ℕ)) (is : List NavItem) (rest : List ℕ) → AreLines header → AllStand f write is
     → lines_of (text_of (header ++ flat_map write is) ++ rest) ≡ header ++ (flat_map write is ++ lines_of rest)
 file_lines f header write is rest h all =
     lines_again (header ++ flat_map write is) rest (lines_more header (flat_map write is) h (all_shown f write is all)) ∙ append_assoc header (flat_map write is) (lines_of rest)
 
 -- the records of a file and of what follows it
-file_and : (f : Form) (header : List (List ℕ)) (write : NavItem → List (List ℕ)) (is : List NavItem) (rest : List ℕ) → AreHeaderLines f header → AllStand f write is
+file_and : (f : Form ItemRead) (header : List (List ℕ)) (write : NavItem → List (List ℕ)) (is : List NavItem) (rest : List ℕ) → AreHeaderLines f header → AllStand f write is
     → file_reads f (text_of (header ++ flat_map write is) ++ rest) ≡ Ok (numbered_by write (length header) is ++ reads f (length header + length (flat_map write is)) (lines_of rest))
 file_and f header write is rest h all =
     ap (λ ls. reads_behind f (header_of f 0 ls)) (file_lines f header write is rest h.shown all)
@@ -96,14 +96,14 @@ pub items_are : (write : NavItem → List (List ℕ)) (n : ℕ) (is : List NavIt
 items_are write n is = ap items_of (sym (append-nil (numbered_by write n is))) ∙ items_numbered write n is [] ∙ append-nil is
 
 -- what is read of a file that was written
-pub written_again : (f : Form) (header : List (List ℕ)) (write : NavItem → List (List ℕ)) (is : List NavItem) → AreHeaderLines f header → AllStand f write is
+pub written_again : (f : Form ItemRead) (header : List (List ℕ)) (write : NavItem → List (List ℕ)) (is : List NavItem) → AreHeaderLines f header → AllStand f write is
     → file_reads f (text_of (header ++ flat_map write is)) ≡ Ok (numbered_by write (length header) is)
 written_again f header write is h all =
     ap (file_reads f) (sym (append-nil (text_of (header ++ flat_map write is)))) ∙ file_and f header write is [] h all ∙ ap Ok (append-nil (numbered_by write (length header) is))
 
 -- records and headers of version 4 as they are written
 pub item_stands : (i : NavItem) → IsItem i → StandFor rinex4 (item_lines i) i
-item_stands i is = record { are = record_lines_are i; judged = λ more. item_again i more is }
+item_stands i is = record { are = record_lines_are i; judged = λ number more. ap (read_at number) (item_again i more is) }
 
 all_stand : (is : List NavItem) → AreItems is → AllStand rinex4 item_lines is
 all_stand [] h = tt

@@ -8,7 +8,7 @@ use Rattle.rinex_read.specs.declared.judged.HeaderFault.TheVariants.{NotRinexNav
 use Rattle.rinex_read.specs.Lines.{ended_lines, lines_of, text_of_line, told_lines}
 use Rattle.rinex_read.specs.Kept.{padded, kept_with}
 use Rattle.rinex_read.specs.Forms.{Form, LooksAtKept, is_version, begins}
-use Rattle.rinex_read.specs.Files.{is_navigation, ends_header, header_passed, header_of, up_to_next, read_at, reads, reads_behind}
+use Rattle.rinex_read.specs.Files.{is_navigation, ends_header, header_passed, header_of, up_to_next, reads, reads_behind}
 use Rattle.rinex_read.proofs.ColumnLemmas.{IsAlike, columns_alike, stands_alike, padded_alike, alike_itself}
 use Rattle.rinex_read.proofs.AlikeLemmas.{AreAlike, are_itself}
 
@@ -34,19 +34,19 @@ same_kept (suc n) (l ∷ ls) (m ∷ ms) a =
     ap (λ t. t ∷ map padded (take n ls)) (columns_alike 80 0 l m a.0 (omega arith)) ∙ ap (λ t. padded m ∷ t) (same_kept n ls ms a.1)
 
 -- and judged alike
-form_alike : (f : Form) → LooksAtKept f → (ls ms : List (List ℕ)) → AreAlike 9 ls ms → f.judged ls ≡ f.judged ms
-form_alike f law ls ms a = sym (law ls) ∙ ap f.judged (same_kept 9 ls ms a) ∙ law ms
+form_alike : {R : Type 0} (f : Form R) → LooksAtKept f → (n : ℕ) (ls ms : List (List ℕ)) → AreAlike 9 ls ms → f.judged n ls ≡ f.judged n ms
+form_alike f law n ls ms a = sym (law n ls) ∙ ap (f.judged n) (same_kept 9 ls ms a) ∙ law n ms
 
 -- kept lines are judged as the lines are, whatever lines follow
-pub form_kept : (f : Form) → LooksAtKept f → (ks : List (List ℕ)) (l : List ℕ) (more : List (List ℕ)) → f.judged (kept_with ks l ++ more) ≡ f.judged (ks ++ l ∷ more)
-form_kept f law ks l more = ⊎_elim
+pub form_kept : {R : Type 0} (f : Form R) → LooksAtKept f → (n : ℕ) (ks : List (List ℕ)) (l : List ℕ) (more : List (List ℕ)) → f.judged n (kept_with ks l ++ more) ≡ f.judged n (ks ++ l ∷ more)
+form_kept f law n ks l more = ⊎_elim
     (λ (room : length ks < 9).
-    ap (λ b. f.judged ((if b then ks ++ padded l ∷ [] else ks) ++ more)) (lt-ltb (length ks) 9 room)
-    ∙ ap f.judged (append_assoc ks (padded l ∷ []) more)
-    ∙ form_alike f law (ks ++ padded l ∷ more) (ks ++ l ∷ more) (replaced_alike 9 ks (padded l) l more (padded_alike l)))
+    ap (λ b. f.judged n ((if b then ks ++ padded l ∷ [] else ks) ++ more)) (lt-ltb (length ks) 9 room)
+    ∙ ap (f.judged n) (append_assoc ks (padded l ∷ []) more)
+    ∙ form_alike f law n (ks ++ padded l ∷ more) (ks ++ l ∷ more) (replaced_alike 9 ks (padded l) l more (padded_alike l)))
     (λ (full : 9 ≤ length ks).
-    ap (λ b. f.judged ((if b then ks ++ padded l ∷ [] else ks) ++ more)) (le-ltb (length ks) 9 full)
-    ∙ form_alike f law (ks ++ more) (ks ++ l ∷ more) (behind_alike 9 ks more (l ∷ more) full))
+    ap (λ b. f.judged n ((if b then ks ++ padded l ∷ [] else ks) ++ more)) (le-ltb (length ks) 9 full)
+    ∙ form_alike f law n (ks ++ more) (ks ++ l ∷ more) (behind_alike 9 ks more (l ∷ more) full))
     (cases_lt (length ks) 9)
 
 -- long lines are cut
@@ -61,10 +61,10 @@ cuts_alike zero ls = tt
 cuts_alike (suc n) [] = tt
 cuts_alike (suc n) (l ∷ ls) = (cut_alike l, cuts_alike n ls)
 
-begins_cut : (f : Form) (l : List ℕ) → begins f (cut l) ≡ begins f l
+begins_cut : {R : Type 0} (f : Form R) (l : List ℕ) → begins f (cut l) ≡ begins f l
 begins_cut f l = ap f.starts ((cut_alike l).same 0 (omega arith))
 
-up_to_cut : (f : Form) (ls : List (List ℕ)) → up_to_next f (map cut ls) ≡ map cut (up_to_next f ls)
+up_to_cut : {R : Type 0} (f : Form R) (ls : List (List ℕ)) → up_to_next f (map cut ls) ≡ map cut (up_to_next f ls)
 up_to_cut f [] = refl
 up_to_cut f (l ∷ ls) =
     ap (λ b. if b then [] else cut l ∷ up_to_next f (map cut ls)) (begins_cut f l)
@@ -74,15 +74,15 @@ up_to_cut f (l ∷ ls) =
     by true = refl
     by false = refl
 
-reads_cut : (f : Form) → LooksAtKept f → (n : ℕ) (ls : List (List ℕ)) → reads f n (map cut ls) ≡ reads f n ls
+reads_cut : {R : Type 0} (f : Form R) → LooksAtKept f → (n : ℕ) (ls : List (List ℕ)) → reads f n (map cut ls) ≡ reads f n ls
 reads_cut f law n [] = refl
 reads_cut f law n (l ∷ ls) =
     let next = reads_cut f law (n + 1) ls in
-    ap (λ b. if b then read_at (n + 1) (f.judged (cut l ∷ up_to_next f (map cut ls))) ∷ reads f (n + 1) (map cut ls) else reads f (n + 1) (map cut ls)) (begins_cut f l)
-    ∙ ap (λ t. if begins f l then read_at (n + 1) (f.judged (cut l ∷ t)) ∷ reads f (n + 1) (map cut ls) else reads f (n + 1) (map cut ls)) (up_to_cut f ls)
-    ∙ ap (λ j. if begins f l then read_at (n + 1) j ∷ reads f (n + 1) (map cut ls) else reads f (n + 1) (map cut ls))
-    (form_alike f law (cut l ∷ map cut (up_to_next f ls)) (l ∷ up_to_next f ls) (cuts_alike 9 (l ∷ up_to_next f ls)))
-    ∙ ap (λ rs. if begins f l then read_at (n + 1) (f.judged (l ∷ up_to_next f ls)) ∷ rs else rs) next
+    ap (λ b. if b then f.judged (n + 1) (cut l ∷ up_to_next f (map cut ls)) ∷ reads f (n + 1) (map cut ls) else reads f (n + 1) (map cut ls)) (begins_cut f l)
+    ∙ ap (λ t. if begins f l then f.judged (n + 1) (cut l ∷ t) ∷ reads f (n + 1) (map cut ls) else reads f (n + 1) (map cut ls)) (up_to_cut f ls)
+    ∙ ap (λ j. if begins f l then j ∷ reads f (n + 1) (map cut ls) else reads f (n + 1) (map cut ls))
+    (form_alike f law (n + 1) (cut l ∷ map cut (up_to_next f ls)) (l ∷ up_to_next f ls) (cuts_alike 9 (l ∷ up_to_next f ls)))
+    ∙ ap (λ rs. if begins f l then f.judged (n + 1) (l ∷ up_to_next f ls) ∷ rs else rs) next
 
 pub ends_alike : (l m : List ℕ) → IsAlike l m → ends_header l ≡ ends_header m
 unfolding ends_header
@@ -95,11 +95,11 @@ navigation_alike l m h =
     let kind = stands_alike (codes "N") 20 l m h (omega arith) in
     rw (label, kind) refl
 
-pub version_alike : (f : Form) (l m : List ℕ) → IsAlike l m → is_version f l ≡ is_version f m
+pub version_alike : {R : Type 0} (f : Form R) (l m : List ℕ) → IsAlike l m → is_version f l ≡ is_version f m
 unfolding is_version
 version_alike f l m h = ap (λ t. f.names (trim_end (trim_start t))) (columns_alike 9 0 l m h (omega arith))
 
-passed_cut : (f : Form) → LooksAtKept f → (n : ℕ) (ls : List (List ℕ)) → reads_behind f (header_passed n (map cut ls)) ≡ reads_behind f (header_passed n ls)
+passed_cut : {R : Type 0} (f : Form R) → LooksAtKept f → (n : ℕ) (ls : List (List ℕ)) → reads_behind f (header_passed n (map cut ls)) ≡ reads_behind f (header_passed n ls)
 passed_cut f law n [] = refl
 passed_cut f law n (l ∷ ls) =
     ap (λ b. reads_behind f (if b then Ok (record { number = n + 1; lines = map cut ls }) else header_passed (n + 1) (map cut ls))) (ends_alike (cut l) l (cut_alike l))
@@ -111,7 +111,7 @@ passed_cut f law n (l ∷ ls) =
     by true e = ap Ok (reads_cut f law (n + 1) ls)
     by false e = e
 
-header_cut : (f : Form) → LooksAtKept f → (n : ℕ) (ls : List (List ℕ)) → reads_behind f (header_of f n (map cut ls)) ≡ reads_behind f (header_of f n ls)
+header_cut : {R : Type 0} (f : Form R) → LooksAtKept f → (n : ℕ) (ls : List (List ℕ)) → reads_behind f (header_of f n (map cut ls)) ≡ reads_behind f (header_of f n ls)
 header_cut f law n [] = refl
 header_cut f law n (l ∷ ls) =
     let next = passed_cut f law (n + 1) ls in
@@ -132,9 +132,9 @@ told_cut [] = refl
 told_cut (p ∷ ps) = ap (λ t. cut (without_cr p) ∷ t) (told_cut ps)
 
 -- the lines of a reader of lines give what the file gives
-pub file_told : (f : Form) → LooksAtKept f → (n : ℕ) (bytes : List ℕ) → reads_behind f (header_of f n (told_lines bytes)) ≡ reads_behind f (header_of f n (lines_of bytes))
+pub file_told : {R : Type 0} (f : Form R) → LooksAtKept f → (n : ℕ) (bytes : List ℕ) → reads_behind f (header_of f n (told_lines bytes)) ≡ reads_behind f (header_of f n (lines_of bytes))
 file_told f law n bytes = ap (λ ls. reads_behind f (header_of f n ls)) (told_cut (pieces false bytes)) ∙ header_cut f law n (lines_of bytes)
 
 -- the same of the complete lines
-pub ended_told : (f : Form) → LooksAtKept f → (n : ℕ) (bytes : List ℕ) → reads_behind f (header_of f n (map text_of_line (lines_by true bytes))) ≡ reads_behind f (header_of f n (ended_lines bytes))
+pub ended_told : {R : Type 0} (f : Form R) → LooksAtKept f → (n : ℕ) (bytes : List ℕ) → reads_behind f (header_of f n (map text_of_line (lines_by true bytes))) ≡ reads_behind f (header_of f n (ended_lines bytes))
 ended_told f law n bytes = ap (λ ls. reads_behind f (header_of f n ls)) (told_cut (pieces true bytes)) ∙ header_cut f law n (ended_lines bytes)

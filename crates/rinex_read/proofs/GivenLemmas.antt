@@ -5,7 +5,6 @@ use Rattle.std.proofs.lemmas.List.{map-append}
 use Rattle.nav_io.specs.Lines.{Line, ends, lines_by, pieces, with_prefix, line_of}
 use Rattle.nav_io.specs.LinesState.{Reads}
 use Rattle.nav_io.proofs.Surface.{reads_more}
-use Rattle.rinex_read.specs.declared.judged.ItemRead.{ItemRead}
 use Rattle.rinex_read.specs.declared.judged.HeaderState.{HeaderState}
 use Rattle.rinex_read.specs.declared.judged.HeaderState.TheVariants.{New, Open, Passed, NotRinexNav, OtherVersion}
 use Rattle.rinex_read.specs.declared.judged.HeaderFault.TheVariants as faults
@@ -42,7 +41,7 @@ lines_are left left_new old new lines r first paused =
     ∙ append-nil lines
 
 -- what is whole in these bytes, by the lines
-by_lines : (f : Form) → LooksAtKept f → (old : RecordsState) (taken : List ℕ) (lines : List Line) → IsNew old → lines_by true taken ≡ lines
+by_lines : {R : Type 0} (f : Form R) → LooksAtKept f → (old : RecordsState) (taken : List ℕ) (lines : List Line) → IsNew old → lines_by true taken ≡ lines
     → whole_reads f taken ≡ whole_behind (file_by f old.header old (map text_of_line lines))
 by_lines f law old taken lines first are =
     sym (ap whole_behind (ended_told f law 0 taken))
@@ -51,7 +50,7 @@ by_lines f law old taken lines first are =
     ∙ ap (λ (h : HeaderState). whole_behind (file_by f h old (map text_of_line lines))) (sym first.header)
 
 -- after the header
-pub records_whole : (f : Form) → LooksAtKept f → (left middle left_new : Option (List ℕ)) (old now new : RecordsState) (given : List ItemRead) → IsNew old
+pub records_whole : {R : Type 0} (f : Form R) → LooksAtKept f → (left middle left_new : Option (List ℕ)) (old now new : RecordsState) (given : List R) → IsNew old
     → (header : PassesHeader f left middle old now) → (steps : Steps f middle left_new now new given) → IsPaused new
     → whole_reads f (header.steps.reads.taken ++ steps.reads.taken) ≡ Ok given
 records_whole f law left middle left_new old now new given first header steps paused =
@@ -66,11 +65,11 @@ records_whole f law left middle left_new old now new given first header steps pa
     ∙ ap (λ (h : HeaderState). whole_behind (file_by f h now texts)) header.header
     ∙ ap (λ (ls : List (List ℕ)). Ok (but_last (held_reads f now.kept now.first now.lines.number ls))) (sym (append-nil texts))
     ∙ ap Ok (steps.whole (λ over. no_end new paused.more over.ended) [])
-    ∙ ap (λ (l : List ItemRead). Ok (given ++ l)) (none_whole f new.kept new.first new.lines.number)
+    ∙ ap (λ (l : List _). Ok (given ++ l)) (none_whole f new.kept new.first new.lines.number)
     ∙ ap Ok (append-nil given)
 
 -- in the header
-pub header_open : (f : Form) → LooksAtKept f → (left left_new : Option (List ℕ)) (old new : RecordsState) → IsNew old
+pub header_open : {R : Type 0} (f : Form R) → LooksAtKept f → (left left_new : Option (List ℕ)) (old new : RecordsState) → IsNew old
     → (steps : HeaderSteps f left left_new old new) → is_waiting new.header ≡ true → IsPaused new → whole_reads f steps.reads.taken ≡ Err faults.NotRinexNav
 header_open f law left left_new old new first steps waits paused =
     by_lines f law old steps.reads.taken steps.lines first (lines_are left left_new old new steps.lines steps.reads first paused)

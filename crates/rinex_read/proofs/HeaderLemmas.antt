@@ -7,7 +7,6 @@ use Rattle.nav_io.proofs.Surface.{reads_none}
 use Rattle.nav_io.specs.LineAnswers.{Breaks}
 use Rattle.nav_io.specs.declared.lines.LineFault.{LineFault}
 use Rattle.nav_io.specs.declared.lines.LineFault.TheVariants.{ReadFault, TooLong}
-use Rattle.rinex_read.specs.declared.judged.ItemRead.{ItemRead}
 use Rattle.rinex_read.specs.declared.judged.HeaderState.{HeaderState}
 use Rattle.rinex_read.specs.declared.judged.HeaderState.TheVariants.{New, Open, Passed, NotRinexNav, OtherVersion}
 use Rattle.rinex_read.specs.declared.judged.HeaderFault.{HeaderFault}
@@ -23,24 +22,24 @@ use Rattle.rinex_read.specs.Mirrors.{state_of, header_after, HeaderRefused}
 use Rattle.rinex_read.proofs.RecordSteps.{HasLine}
 
 -- the result of a header from its lines
-abbrev pub answers_by : Form → HeaderState → ℕ → List (List ℕ) → Result (List ItemRead) HeaderFault
+abbrev pub answers_by : {R : Type 0} → Form R → HeaderState → ℕ → List (List ℕ) → Result (List R) HeaderFault
 answers_by f New n ls = reads_behind f (header_of f n ls)
 answers_by f Open n ls = reads_behind f (header_passed n ls)
 answers_by f Passed n ls = Ok (reads f n ls)
 answers_by f NotRinexNav n ls = Err faults.NotRinexNav
 answers_by f OtherVersion n ls = Err faults.Version
 
-pub by_lines : (f : Form) (header : HeaderState) (first : ℕ) (s : LinesState) (ls : List (List ℕ)) → file_by f header (state_of header [] first s) ls ≡ answers_by f header s.number ls
+pub by_lines : {R : Type 0} (f : Form R) (header : HeaderState) (first : ℕ) (s : LinesState) (ls : List (List ℕ)) → file_by f header (state_of header [] first s) ls ≡ answers_by f header s.number ls
 by_lines f New first s ls = refl
 by_lines f Open first s ls = refl
 by_lines f Passed first s ls = refl
 by_lines f NotRinexNav first s ls = refl
 by_lines f OtherVersion first s ls = refl
 
-pub by_is : (f : Form) (header : HeaderState) (first : ℕ) (s : LinesState) (following : List ℕ) → file_to_come f (state_of header [] first s) following ≡ answers_by f header s.number (told_lines (s.rest ++ following))
+pub by_is : {R : Type 0} (f : Form R) (header : HeaderState) (first : ℕ) (s : LinesState) (following : List ℕ) → file_to_come f (state_of header [] first s) following ≡ answers_by f header s.number (told_lines (s.rest ++ following))
 by_is f header first s following = by_lines f header first s (told_lines (s.rest ++ following))
 
-pub one_more : (f : Form) (header : HeaderState) (n : ℕ) (l : List ℕ) (ls : List (List ℕ)) → is_waiting header ≡ true → answers_by f header n (l ∷ ls) ≡ answers_by f (header_after f header l) (n + 1) ls
+pub one_more : {R : Type 0} (f : Form R) (header : HeaderState) (n : ℕ) (l : List ℕ) (ls : List (List ℕ)) → is_waiting header ≡ true → answers_by f header n (l ∷ ls) ≡ answers_by f (header_after f header l) (n + 1) ls
 one_more f New n l ls h = go (is_navigation l) (is_version f l)
   where
     go : (a b : Bool) → reads_behind f (if a then (if b then header_passed (n + 1) ls else Err faults.Version) else Err faults.NotRinexNav)
@@ -57,7 +56,7 @@ one_more f Passed n l ls h = absurd (cc)
 one_more f NotRinexNav n l ls h = absurd (cc)
 one_more f OtherVersion n l ls h = absurd (cc)
 
-pub no_more : (f : Form) (header : HeaderState) (n : ℕ) → is_waiting header ≡ true → answers_by f header n [] ≡ Err faults.NotRinexNav
+pub no_more : {R : Type 0} (f : Form R) (header : HeaderState) (n : ℕ) → is_waiting header ≡ true → answers_by f header n [] ≡ Err faults.NotRinexNav
 no_more f New n h = refl
 no_more f Open n h = refl
 no_more f Passed n h = absurd (cc)
@@ -65,7 +64,7 @@ no_more f NotRinexNav n h = absurd (cc)
 no_more f OtherVersion n h = absurd (cc)
 
 -- a line of the header
-abbrev pub header_line : (f : Form) (p q : Option (List ℕ)) (header : HeaderState) (first : ℕ) (s t : LinesState) → HasLine p q s t → is_waiting header ≡ true
+abbrev pub header_line : {R : Type 0} (f : Form R) (p q : Option (List ℕ)) (header : HeaderState) (first : ℕ) (s t : LinesState) → HasLine p q s t → is_waiting header ≡ true
     → HeaderSteps f p q (state_of header [] first s) (state_of (header_after f header t.text) [] first t)
 header_line f p q header first s t h waits = record {
   lines = record { text = t.text; long = h.long } ∷ [];
@@ -84,7 +83,7 @@ header_line f p q header first s t h waits = record {
 }
 
 -- the end of the bytes in the header
-abbrev pub header_end : (f : Form) (p q : Option (List ℕ)) (header : HeaderState) (first : ℕ) (s t : LinesState) → GivesEnd p q s t → is_waiting header ≡ true
+abbrev pub header_end : {R : Type 0} (f : Form R) (p q : Option (List ℕ)) (header : HeaderState) (first : ℕ) (s t : LinesState) → GivesEnd p q s t → is_waiting header ≡ true
     → HeaderSteps f p q (state_of header [] first s) (state_of NotRinexNav [] first t)
 header_end f p q header first s t g waits = record {
   lines = [];
@@ -99,12 +98,12 @@ header_end f p q header first s t g waits = record {
       by_lines f header first s next ∙ ap (answers_by f header s.number) (may g.ended g.rest) ∙ no_more f header s.number waits;
 }
 
-pub header_over : (f : Form) (p q : Option (List ℕ)) (header : HeaderState) (first : ℕ) (s t : LinesState) → GivesEnd p q s t → is_waiting header ≡ true
+pub header_over : {R : Type 0} (f : Form R) (p q : Option (List ℕ)) (header : HeaderState) (first : ℕ) (s t : LinesState) → GivesEnd p q s t → is_waiting header ≡ true
     → NearHeader f p q (state_of header [] first s) (state_of NotRinexNav [] first t)
 header_over f p q header first s t g waits = record { steps = header_end f p q header first s t g waits; near = near_end p q s t g }
 
 -- a read in the header that gave no line
-abbrev header_read : (f : Form) (p q : Option (List ℕ)) (header : HeaderState) (first : ℕ) (s t : LinesState) → Reads p q s t [] → t.number ≡ s.number
+abbrev header_read : {R : Type 0} (f : Form R) (p q : Option (List ℕ)) (header : HeaderState) (first : ℕ) (s t : LinesState) → Reads p q s t [] → t.number ≡ s.number
     → HeaderSteps f p q (state_of header [] first s) (state_of header [] first t)
 header_read f p q header first s t r number = record {
   lines = [];
@@ -119,7 +118,7 @@ header_read f p q header first s t r number = record {
 }
 
 -- what is kept does not matter while lines of the header are to come
-abbrev pub header_start : (f : Form) (o : Option (List ℕ)) (header : HeaderState) (kept : List (List ℕ)) (first : ℕ) (s : LinesState) → is_waiting header ≡ true
+abbrev pub header_start : {R : Type 0} (f : Form R) (o : Option (List ℕ)) (header : HeaderState) (kept : List (List ℕ)) (first : ℕ) (s : LinesState) → is_waiting header ≡ true
     → HeaderSteps f o o (state_of header kept first s) (state_of header [] first s)
 header_start f o New kept first s h = record { lines = []; reads = reads_none o s; stream = λ following may. refl; told = λ next may. refl }
 header_start f o Open kept first s h = record { lines = []; reads = reads_none o s; stream = λ following may. refl; told = λ next may. refl }
@@ -128,7 +127,7 @@ header_start f o NotRinexNav kept first s h = absurd (cc)
 header_start f o OtherVersion kept first s h = absurd (cc)
 
 -- a fault in the header
-pub header_breaks : (f : Form) (fault : LineFault) (p q : Option (List ℕ)) (header : HeaderState) (first : ℕ) (s t : LinesState) → Breaks fault p q s t
+pub header_breaks : {R : Type 0} (f : Form R) (fault : LineFault) (p q : Option (List ℕ)) (header : HeaderState) (first : ℕ) (s t : LinesState) → Breaks fault p q s t
     → EarlyHeader f p q (state_of header [] first s) (state_of header [] first t)
 header_breaks f ReadFault p q header first s t b = record { steps = header_read f p q header first s t b.reads b.number; early = early_read p q s t b }
 header_breaks f TooLong p q header first s t b = record { steps = header_read f p q header first s t b.reads b.number; early = early_long p q s t b }
@@ -137,7 +136,7 @@ header_breaks f TooLong p q header first s t b = record { steps = header_read f 
 none_low : (s t : RecordsState) (header : HeaderState) → s.header ≡ header → is_waiting header ≡ false → ReadLow s t
 none_low s t header e done = λ waits. let other : is_waiting s.header ≡ false = ap is_waiting e ∙ done in absurd (cc)
 
-pub passed_now : (f : Form) (r : Result (Unit {0}) HeaderFault) (o : Option (List ℕ)) (s : RecordsState) (header : HeaderState) → s.header ≡ header → is_waiting header ≡ false
+pub passed_now : {R : Type 0} (f : Form R) (r : Result (Unit {0}) HeaderFault) (o : Option (List ℕ)) (s : RecordsState) (header : HeaderState) → s.header ≡ header → is_waiting header ≡ false
     → MatchResult r (λ x. header ≡ Passed) (λ fault. HeaderRefused header fault) → OnOk r (PassesHeader f o o s s)
 passed_now f (Ok x) o s header e done h = record { steps = header_steps_none f o s; near = near_none s.lines; header = e ∙ h; low = none_low s s header e done }
 passed_now f (Err fault) o s header e done h = tt
@@ -147,13 +146,13 @@ refused_so faults.NotRinexNav s header e done h = (e ∙ h, none_low s s header 
 refused_so faults.Version s header e done h = (e ∙ h, none_low s s header e done)
 refused_so (faults.Line fault) s header e done h = absurd h
 
-pub refused_now : (f : Form) (r : Result (Unit {0}) HeaderFault) (o : Option (List ℕ)) (s : RecordsState) (header : HeaderState) → s.header ≡ header → is_waiting header ≡ false
+pub refused_now : {R : Type 0} (f : Form R) (r : Result (Unit {0}) HeaderFault) (o : Option (List ℕ)) (s : RecordsState) (header : HeaderState) → s.header ≡ header → is_waiting header ≡ false
     → MatchResult r (λ x. header ≡ Passed) (λ fault. HeaderRefused header fault) → IfErr r (λ fault. BreaksHeader f o o s s fault)
 refused_now f (Ok x) o s header e done h = tt
 refused_now f (Err fault) o s header e done h = record { steps = header_steps_none f o s; early = early_none s.lines; by = refused_so fault s header e done h }
 
 -- what was kept before does not matter, and nothing is kept behind
-start_near : (f : Form) (o : Option (List ℕ)) (header : HeaderState) (kept : List (List ℕ)) (first : ℕ) (s : LinesState) → is_waiting header ≡ true
+start_near : {R : Type 0} (f : Form R) (o : Option (List ℕ)) (header : HeaderState) (kept : List (List ℕ)) (first : ℕ) (s : LinesState) → is_waiting header ≡ true
     → NearHeader f o o (state_of header kept first s) (state_of header [] first s)
 start_near f o New kept first s h = record { steps = header_start f o New kept first s h; near = near_none s }
 start_near f o Open kept first s h = record { steps = header_start f o Open kept first s h; near = near_none s }
@@ -162,11 +161,11 @@ start_near f o NotRinexNav kept first s h = absurd (cc)
 start_near f o OtherVersion kept first s h = absurd (cc)
 
 -- how the lines of a header were read, by the answer
-abbrev pub Header : Form → Result (Unit {0}) HeaderFault → Option (List ℕ) → Option (List ℕ) → RecordsState → RecordsState → Type 0
+abbrev pub Header : {R : Type 0} → Form R → Result (Unit {0}) HeaderFault → Option (List ℕ) → Option (List ℕ) → RecordsState → RecordsState → Type 0
 Header f r p q s t = MatchResult r (λ x. NearHeader f p q s t) (λ fault. EarlyHeader f p q s t)
 
 -- the lines of a header, whatever is kept before, with nothing kept after
-pub header_all : (f : Form) (r : Result (Unit {0}) HeaderFault) (p q : Option (List ℕ)) (s : RecordsState) (header new : HeaderState) (kept none : List (List ℕ)) (first : ℕ) (lines lines_new : LinesState) → state_of header kept first lines ≡ s → none ≡ []
+pub header_all : {R : Type 0} (f : Form R) (r : Result (Unit {0}) HeaderFault) (p q : Option (List ℕ)) (s : RecordsState) (header new : HeaderState) (kept none : List (List ℕ)) (first : ℕ) (lines lines_new : LinesState) → state_of header kept first lines ≡ s → none ≡ []
     → is_waiting header ≡ true → Header f r p q (state_of header [] first lines) (state_of new [] first lines_new) → Header f r p q s (state_of new none first lines_new)
 header_all f r p q s header new kept none first lines lines_new e empty waits steps =
     subst (λ x. Header f r p q x (state_of new none first lines_new)) e
@@ -179,11 +178,11 @@ header_all f r p q s header new kept none first lines lines_new e empty waits st
         early_header_more f p p q (state_of header kept first lines) (state_of header [] first lines) (state_of new [] first lines_new) (start_near f p header kept first lines waits) steps
 
 -- where the end of the bytes is held, whatever the answer
-pub header_by : (f : Form) (r : Result (Unit {0}) HeaderFault) (p q : Option (List ℕ)) (s t : RecordsState) → NearHeader f p q s t → Header f r p q s t
+pub header_by : {R : Type 0} (f : Form R) (r : Result (Unit {0}) HeaderFault) (p q : Option (List ℕ)) (s t : RecordsState) → NearHeader f p q s t → Header f r p q s t
 header_by f (Ok x) p q s t steps = steps
 header_by f (Err fault) p q s t steps = early_header f p q s t steps
 
-pub passed_by : (f : Form) (r : Result (Unit {0}) HeaderFault) (p q : Option (List ℕ)) (s t : RecordsState) (header : HeaderState) (lines : LinesState) → Header f r p q s t
+pub passed_by : {R : Type 0} (f : Form R) (r : Result (Unit {0}) HeaderFault) (p q : Option (List ℕ)) (s t : RecordsState) (header : HeaderState) (lines : LinesState) → Header f r p q s t
     → MatchResult r (λ x. (t.header ≡ Passed) × (t.lines.taken < 2 ^ 32)) (λ fault. RefusedBy fault (state_of header [] 0 lines) (state_of t.header [] 0 t.lines)) → OnOk r (PassesHeader f p q s t)
 passed_by f (Ok x) p q s t header lines steps h = record { steps = steps.steps; near = steps.near; header = h.0; low = λ waits. h.1 }
 passed_by f (Err fault) p q s t header lines steps h = tt
@@ -194,7 +193,7 @@ refused_same faults.Version s t header lines waits h = (h.0, λ w. h.1 waits)
 refused_same (faults.Line ReadFault) s t header lines waits h = h
 refused_same (faults.Line TooLong) s t header lines waits h = h
 
-pub refused_by : (f : Form) (r : Result (Unit {0}) HeaderFault) (p q : Option (List ℕ)) (s t : RecordsState) (header : HeaderState) (lines : LinesState) → is_waiting header ≡ true → Header f r p q s t
+pub refused_by : {R : Type 0} (f : Form R) (r : Result (Unit {0}) HeaderFault) (p q : Option (List ℕ)) (s t : RecordsState) (header : HeaderState) (lines : LinesState) → is_waiting header ≡ true → Header f r p q s t
     → MatchResult r (λ x. (t.header ≡ Passed) × (t.lines.taken < 2 ^ 32)) (λ fault. RefusedBy fault (state_of header [] 0 lines) (state_of t.header [] 0 t.lines)) → IfErr r (λ fault. BreaksHeader f p q s t fault)
 refused_by f (Ok x) p q s t header lines waits steps h = tt
 refused_by f (Err fault) p q s t header lines waits steps h = record { steps = steps.steps; early = steps.early; by = refused_same fault s t header lines waits h }
@@ -208,7 +207,7 @@ answer_low (Err faults.Version) old new s t low h = (h, λ waits. low)
 answer_low (Err (faults.Line fault)) old new s t low h = absurd h
 
 -- a line of the header after others
-pub header_more : (f : Form) (o p q : Option (List ℕ)) (old header after : HeaderState) (first : ℕ) (s t u : LinesState) (text : List ℕ) → NearHeader f o p (state_of old [] first s) (state_of header [] first t) → HasLine p q t u → is_waiting header ≡ true
+pub header_more : {R : Type 0} (f : Form R) (o p q : Option (List ℕ)) (old header after : HeaderState) (first : ℕ) (s t u : LinesState) (text : List ℕ) → NearHeader f o p (state_of old [] first s) (state_of header [] first t) → HasLine p q t u → is_waiting header ≡ true
     → text ≡ u.text → after ≡ header_after f header text → NearHeader f o q (state_of old [] first s) (state_of after [] first u)
 header_more f o p q old header after first s t u text steps h waits e same =
     subst (λ x. NearHeader f o q (state_of old [] first s) (state_of x [] first u)) (sym (same ∙ ap (header_after f header) e))

@@ -7,7 +7,9 @@ use Rattle.nav_eph.specs.Ranges.{IsItem}
 use Rattle.rinex_read.specs.declared.judged.Judged.TheVariants as judgments
 use Rattle.rinex_read.specs.Lines.{columns}
 use Rattle.rinex_read.specs.Judging.{judged}
-use Rattle.rinex_read.specs.Forms.{LooksAtKept, GivesItems}
+use Rattle.rinex_read.specs.Forms.{LooksAtKept, GivesWhole, read_at}
+use Rattle.rinex_read.specs.RoundTrip.{IsWholeRead}
+use Rattle.rinex_read.proofs.ListedLemmas.{whole_at}
 use Rattle.rinex_read.proofs.Surface.{IsAlike, columns_alike, alike_itself, AreAlike, all_alike, judged_alike, looked_alike, judged_whole}
 use Rattle.rinex_read.specs.Form3.{is_inav, says_inav, whole, titled, judged3, rinex3}
 
@@ -56,7 +58,7 @@ judged3_alike (l ∷ ls) (m ∷ ms) a =
     ∙ ap (λ j. if get_or m 0 32 == 71 then judged (titled (codes "LNAV") m ∷ m ∷ ms) else if get_or m 0 32 == 69 && is_inav (m ∷ ms) then j else judgments.PassedOver) (titled_judged (codes "INAV") l m ls ms a)
 
 pub looks_at_kept3 : LooksAtKept rinex3
-looks_at_kept3 = λ lines. judged3_alike _ lines (looked_alike 9 lines)
+looks_at_kept3 = λ number lines. ap (read_at number) (judged3_alike _ lines (looked_alike 9 lines))
 
 whole_items : (lines : List (List ℕ)) (item : NavItem) → judged3 lines ≡ judgments.Item item → IsItem item
 unfolding judged3
@@ -68,5 +70,5 @@ whole_items (l ∷ ls) item h = go (get_or l 0 32 == 71) (get_or l 0 32 == 69 &&
     go false true e = judged_whole (titled (codes "INAV") l ∷ l ∷ ls) item e
     go false false e = absurd (cc)
 
-pub gives_items3 : GivesItems rinex3
-gives_items3 = whole_items
+pub gives_whole3 : GivesWhole rinex3 IsWholeRead
+gives_whole3 = λ number lines. whole_at number (judged3 lines) (whole_items lines)

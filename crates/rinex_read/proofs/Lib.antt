@@ -3,6 +3,7 @@ pub mod Record3Lemmas
 pub mod Header3Lemmas
 pub mod AccuracyLemmas
 pub mod AlikeLemmas
+pub mod BeyondLemmas
 pub mod ColumnLemmas
 pub mod DateLemmas
 pub mod FieldLemmas

@@ -27,6 +27,7 @@ use Rattle.rinex_read.specs.Judging.{judged}
 use Rattle.rinex_read.specs.RoundTrip.{AreItems, NoneBegins, AreRecordLines, AllStand}
 use Rattle.rinex_read.proofs.Surface.{columns_at, item_again}
 use Rattle.rinex_read.specs.Form3.{is_inav, says_inav, whole, titled, judged3, rinex3}
+use Rattle.rinex_read.specs.Forms.{read_at}
 use Rattle.rinex_write.specs.Texts3.{item3_lines, ephemerides}
 
 -- lines that begin with blanks begin no record
@@ -145,8 +146,8 @@ galileo_judged e more h =
 
 pub all_stand : (items : List NavItem) → AreItems items → AllStand rinex3 item3_lines (ephemerides items)
 all_stand [] h = tt
-all_stand (GpsItem e ∷ is) h = (record { are = gps_record e; judged = λ more. gps_judged e more h.0 }, all_stand is h.1)
-all_stand (GalItem e ∷ is) h = (record { are = galileo_record e; judged = λ more. galileo_judged e more h.0 }, all_stand is h.1)
+all_stand (GpsItem e ∷ is) h = (record { are = gps_record e; judged = λ number more. ap (read_at number) (gps_judged e more h.0) }, all_stand is h.1)
+all_stand (GalItem e ∷ is) h = (record { are = galileo_record e; judged = λ number more. ap (read_at number) (galileo_judged e more h.0) }, all_stand is h.1)
 all_stand (IonItem e ∷ is) h = all_stand is h.1
 
 -- ionospheres have no lines

@@ -1,6 +1,6 @@
 -- How far the next record was read, and the result.
 use Rattle.std.proofs.Common.{◌≡◌, ℕ, ◌≤◌, Bool, true, false, List, [], ◌∷◌, ◌++◌, map, refl, sym, ap, ◌∙◌, subst, arith, append-nil}
-use Rattle.std.specs.Prelude.{Option}
+use Rattle.std.specs.Prelude.{Option, Some, None}
 use Rattle.nav_io.specs.Lines.{Line}
 use Rattle.nav_io.specs.LinesState.{LinesState, Reads, GivesLine, GivesEnd}
 use Rattle.nav_io.specs.LineAnswers.{Answers, Breaks}
@@ -8,18 +8,14 @@ use Rattle.nav_io.specs.declared.lines.LineKind.{LineKind}
 use Rattle.nav_io.specs.declared.lines.LineKind.TheVariants.{Text, Long, End}
 use Rattle.nav_io.specs.declared.lines.LineFault.{LineFault}
 use Rattle.nav_io.specs.declared.lines.LineFault.TheVariants.{ReadFault, TooLong}
-use Rattle.rinex_read.specs.declared.judged.ItemRead.{ItemRead}
-use Rattle.rinex_read.specs.declared.judged.ItemRead.TheVariants as items
-use Rattle.rinex_read.specs.declared.judged.Judged.{Judged}
-use Rattle.rinex_read.specs.declared.judged.Judged.TheVariants as judgments
 use Rattle.rinex_read.specs.Lines.{text_of_line, told_lines}
 use Rattle.rinex_read.specs.Forms.{Form}
-use Rattle.rinex_read.specs.Files.{but_last, read_at}
+use Rattle.rinex_read.specs.Files.{but_last}
 use Rattle.rinex_read.specs.States.{RecordsState, held_reads, NearSteps, Steps, held_count, lines_left, GivesRecord, GivesRead, BreaksRecord}
 use Rattle.rinex_read.proofs.NearLemmas.{early_long, early_read, near_end, near_line}
 use Rattle.rinex_read.proofs.NearSteps.{early_steps_more, near_steps_more}
 use Rattle.rinex_read.proofs.TakeLemmas.{line_whole}
-use Rattle.rinex_read.specs.Mirrors.{TakesLine, TakesEnd, EndsWith, IsRecord}
+use Rattle.rinex_read.specs.Mirrors.{TakesLine, TakesEnd, EndsWith}
 
 -- a line of any kind
 pub record HasLine (p q : Option (List ℕ)) (s t : LinesState) : Type 0 where
@@ -34,7 +30,7 @@ line_given End p q s t other g = absurd (other refl)
 pub end_given : (kind : LineKind) (p q : Option (List ℕ)) (s t : LinesState) → kind ≡ End → Answers kind p q s t → GivesEnd p q s t
 end_given kind p q s t e g = subst (λ k. Answers k p q s t) e g
 
-abbrev line_step : (f : Form) (p q : Option (List ℕ)) (s t : RecordsState) (given : List ItemRead) (h : HasLine p q s.lines t.lines) → TakesLine f s.kept s.first t.kept t.first t.lines.text t.lines.number given
+abbrev line_step : {R : Type 0} (f : Form R) (p q : Option (List ℕ)) (s t : RecordsState) (given : List R) (h : HasLine p q s.lines t.lines) → TakesLine f s.kept s.first t.kept t.first t.lines.text t.lines.number given
     → t.header ≡ s.header → Steps f p q s t given
 line_step f p q s t given h takes header = record {
   lines = record { text = t.lines.text; long = h.long } ∷ [];
@@ -46,7 +42,7 @@ line_step f p q s t given h takes header = record {
   whole = λ over next. line_whole f s.kept s.first t.kept t.first t.lines.text t.lines.number given takes s.lines.number next h.gives.number;
 }
 
-abbrev end_step : (f : Form) (p q : Option (List ℕ)) (s t : RecordsState) (given : List ItemRead) (g : GivesEnd p q s.lines t.lines) → TakesEnd f s.kept s.first given → t.kept ≡ [] → t.header ≡ s.header → Steps f p q s t given
+abbrev end_step : {R : Type 0} (f : Form R) (p q : Option (List ℕ)) (s t : RecordsState) (given : List R) (g : GivesEnd p q s.lines t.lines) → TakesEnd f s.kept s.first given → t.kept ≡ [] → t.header ≡ s.header → Steps f p q s t given
 end_step f p q s t given g takes none header = record {
   lines = [];
   reads = g.reads;
@@ -62,7 +58,7 @@ end_step f p q s t given g takes none header = record {
   whole = λ over next. absurd (over (record { kept = none; rest = g.rest; ended = g.ended }));
 }
 
-abbrev read_step : (f : Form) (p q : Option (List ℕ)) (s t : RecordsState) → Reads p q s.lines t.lines [] → t.kept ≡ s.kept → t.first ≡ s.first → t.lines.number ≡ s.lines.number → t.header ≡ s.header → Steps f p q s t []
+abbrev read_step : {R : Type 0} (f : Form R) (p q : Option (List ℕ)) (s t : RecordsState) → Reads p q s.lines t.lines [] → t.kept ≡ s.kept → t.first ≡ s.first → t.lines.number ≡ s.lines.number → t.header ≡ s.header → Steps f p q s t []
 read_step f p q s t r kept first number header = record {
   lines = [];
   reads = r;
@@ -78,11 +74,11 @@ read_step f p q s t r kept first number header = record {
       ∙ ap (λ (n : ℕ). but_last (held_reads f t.kept t.first n next)) (sym number);
 }
 
-line_near : (f : Form) (p q : Option (List ℕ)) (s t : RecordsState) (given : List ItemRead) (h : HasLine p q s.lines t.lines) → TakesLine f s.kept s.first t.kept t.first t.lines.text t.lines.number given
+line_near : {R : Type 0} (f : Form R) (p q : Option (List ℕ)) (s t : RecordsState) (given : List R) (h : HasLine p q s.lines t.lines) → TakesLine f s.kept s.first t.kept t.first t.lines.text t.lines.number given
     → t.header ≡ s.header → NearSteps f p q s t given
 line_near f p q s t given h takes header = record { steps = line_step f p q s t given h takes header; near = near_line p q s.lines t.lines _ h.gives }
 
-end_near : (f : Form) (p q : Option (List ℕ)) (s t : RecordsState) (given : List ItemRead) (g : GivesEnd p q s.lines t.lines) → TakesEnd f s.kept s.first given → t.kept ≡ [] → t.header ≡ s.header → NearSteps f p q s t given
+end_near : {R : Type 0} (f : Form R) (p q : Option (List ℕ)) (s t : RecordsState) (given : List R) (g : GivesEnd p q s.lines t.lines) → TakesEnd f s.kept s.first given → t.kept ≡ [] → t.header ≡ s.header → NearSteps f p q s t given
 end_near f p q s t given g takes none header = record { steps = end_step f p q s t given g takes none header; near = near_end p q s.lines t.lines g }
 
 held_few : (ks : List (List ℕ)) → held_count ks ≤ 1
@@ -93,37 +89,26 @@ held_none : (ks : List (List ℕ)) → ks ≡ [] → held_count ks ≡ 0
 held_none [] e = refl
 held_none (k ∷ ks) e = absurd (cc)
 
-gives_record : (f : Form) (read : ItemRead) (o q : Option (List ℕ)) (s t : RecordsState) → IsRecord read → GivesRecord f o q s t read → GivesRead f read o q s t
-gives_record f (items.Item line item) o q s t is g = g
-gives_record f (items.Refused line reason) o q s t is g = g
-gives_record f (items.PassedOver line) o q s t is g = g
-gives_record f items.End o q s t is g = absurd is
-
-read_is_record : (n : ℕ) (j : Judged) → IsRecord (read_at n j)
-read_is_record n (judgments.Item item) = tt
-read_is_record n (judgments.Refused reason) = tt
-read_is_record n judgments.PassedOver = tt
-
 -- a line that ended a record
-pub line_gives : (f : Form) (o p q : Option (List ℕ)) (old now new : RecordsState) (read : ItemRead) → NearSteps f o p old now [] → lines_left now ≤ lines_left old → HasLine p q now.lines new.lines
-    → TakesLine f now.kept now.first new.kept new.first new.lines.text new.lines.number (read ∷ []) → IsRecord read → new.header ≡ now.header → GivesRead f read o q old new
-line_gives f o p q old now new read steps near h takes is header =
+pub line_gives : {R : Type 0} (f : Form R) (o p q : Option (List ℕ)) (old now new : RecordsState) (read : R) → NearSteps f o p old now [] → lines_left now ≤ lines_left old → HasLine p q now.lines new.lines
+    → TakesLine f now.kept now.first new.kept new.first new.lines.text new.lines.number (read ∷ []) → new.header ≡ now.header → GivesRead f (Some read) o q old new
+line_gives f o p q old now new read steps near h takes header =
     let all = near_steps_more f o p q old now new [] (read ∷ []) steps (line_near f p q now new (read ∷ []) h takes header) in
-    gives_record f read o q old new is (record {
+    record {
       steps = all.steps;
       near = all.near;
       low = h.gives.low;
       nearer = omega (arith, held_few new.kept, h.gives.number, h.gives.numbered, h.gives.low, near);
-    })
+    }
 
 -- a line that ended none
-pub line_keeps : (f : Form) (o p q : Option (List ℕ)) (old now new : RecordsState) → NearSteps f o p old now [] → lines_left now ≤ lines_left old → HasLine p q now.lines new.lines
+pub line_keeps : {R : Type 0} (f : Form R) (o p q : Option (List ℕ)) (old now new : RecordsState) → NearSteps f o p old now [] → lines_left now ≤ lines_left old → HasLine p q now.lines new.lines
     → TakesLine f now.kept now.first new.kept new.first new.lines.text new.lines.number [] → new.header ≡ now.header → NearSteps f o q old new [] × (lines_left new ≤ lines_left old)
 line_keeps f o p q old now new steps near h takes header =
     (near_steps_more f o p q old now new [] [] steps (line_near f p q now new [] h takes header), omega (arith, held_few new.kept, h.gives.number, h.gives.numbered, h.gives.low, near))
 
 -- the end
-pub end_gives : (f : Form) (o p q : Option (List ℕ)) (old now new : RecordsState) (read : ItemRead) → NearSteps f o p old now [] → lines_left now ≤ lines_left old → GivesEnd p q now.lines new.lines
+pub end_gives : {R : Type 0} (f : Form R) (o p q : Option (List ℕ)) (old now new : RecordsState) (read : Option R) → NearSteps f o p old now [] → lines_left now ≤ lines_left old → GivesEnd p q now.lines new.lines
     → EndsWith f now.kept now.first read → new.kept ≡ [] → new.header ≡ now.header → GivesRead f read o q old new
 end_gives f o p q old now new read steps near g ends none header = go now.kept refl ends
   where
@@ -140,13 +125,14 @@ end_gives f o p q old now new read steps near g ends none header = go now.kept r
           low = g.low;
         })
     go (k ∷ ks) e same =
-        let takes : TakesEnd f now.kept now.first (read ∷ []) = record {
+        let last = f.judged now.first (k ∷ ks) in
+        let takes : TakesEnd f now.kept now.first (last ∷ []) = record {
           answers = λ n. ap (λ (xs : List (List ℕ)). held_reads f xs now.first n []) e
-              ∙ ap (λ (xs : List (List ℕ)). read_at now.first (f.judged xs) ∷ []) (append-nil (k ∷ ks)) ∙ ap (λ r. r ∷ []) (sym same);
+              ∙ ap (λ (xs : List (List ℕ)). f.judged now.first xs ∷ []) (append-nil (k ∷ ks));
         } in
         let held : held_count now.kept ≡ 1 = ap held_count e in
-        let all = near_steps_more f o p q old now new [] (read ∷ []) steps (end_near f p q now new (read ∷ []) g takes none header) in
-        gives_record f read o q old new (subst IsRecord (sym same) (read_is_record now.first (f.judged (k ∷ ks)))) (record {
+        let all = near_steps_more f o p q old now new [] (last ∷ []) steps (end_near f p q now new (last ∷ []) g takes none header) in
+        subst (λ r. GivesRead f r o q old new) (sym same) (record {
           steps = all.steps;
           near = all.near;
           low = g.low;
@@ -154,7 +140,7 @@ end_gives f o p q old now new read steps near g ends none header = go now.kept r
         })
 
 -- a fault
-pub breaks : (f : Form) (fault : LineFault) (o p q : Option (List ℕ)) (old now new : RecordsState) → NearSteps f o p old now [] → Breaks fault p q now.lines new.lines
+pub breaks : {R : Type 0} (f : Form R) (fault : LineFault) (o p q : Option (List ℕ)) (old now new : RecordsState) → NearSteps f o p old now [] → Breaks fault p q now.lines new.lines
     → new.kept ≡ now.kept → new.first ≡ now.first → new.header ≡ now.header → BreaksRecord f o q old new fault
 breaks f ReadFault o p q old now new steps b kept first header =
     let all = early_steps_more f o p q old now new [] [] steps (record {

@@ -107,14 +107,14 @@ pub good_take : (n : ℕ) (cs : List Column) → are_good cs ≡ true → are_go
 good_take zero cs h = refl
 good_take (suc n) [] h = refl
 good_take (suc n) (c ∷ cs) h =
-    let parts = and_parts (is_good_scale c.scale && is_good_rule c.rule) (are_good cs) h in
+    let parts = and_parts (is_good_scale c.scale && is_good_rule c.scale c.rule) (are_good cs) h in
     ap (λ b. b && are_good (take n cs)) parts.0 ∙ good_take n cs parts.1
 
 pub good_drop : (n : ℕ) (cs : List Column) → are_good cs ≡ true → are_good (drop n cs) ≡ true
 good_drop zero cs h = h
 good_drop (suc n) [] h = refl
 good_drop (suc n) (c ∷ cs) h =
-    let parts = and_parts (is_good_scale c.scale && is_good_rule c.rule) (are_good cs) h in
+    let parts = and_parts (is_good_scale c.scale && is_good_rule c.scale c.rule) (are_good cs) h in
     good_drop n cs parts.1
 
 -- the next line of columns fits, and those after it

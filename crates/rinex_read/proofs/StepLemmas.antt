@@ -5,14 +5,13 @@ use Rattle.std.proofs.lemmas.List.{map-append}
 use Rattle.nav_io.specs.Lines.{Line, line_of, lines_by, pieces, with_prefix}
 use Rattle.nav_io.specs.LinesState.{LinesState, Reads}
 use Rattle.nav_io.proofs.Surface.{reads_none, reads_more}
-use Rattle.rinex_read.specs.declared.judged.ItemRead.{ItemRead}
 use Rattle.rinex_read.specs.Forms.{Form}
 use Rattle.rinex_read.specs.Lines.{text_of_line, told_lines}
 use Rattle.rinex_read.specs.Files.{but_last, reads}
 use Rattle.rinex_read.specs.States.{IsOver, MayStand, RecordsState, held_reads, records_to_come, file_by, file_to_come, Steps, HeaderSteps}
 use Rattle.rinex_read.proofs.TakeLemmas.{held_nil}
 
-abbrev pub steps_none : (f : Form) (o : Option (List ℕ)) (s : RecordsState) → Steps f o o s s []
+abbrev pub steps_none : {R : Type 0} (f : Form R) (o : Option (List ℕ)) (s : RecordsState) → Steps f o o s s []
 steps_none f o s = record { lines = []; reads = reads_none o s.lines; header = refl; stream = λ following may. refl; whole = λ over next. refl }
 
 none_after : (a b : List ℕ) → a ≡ [] → b ≡ [] → a ++ b ≡ []
@@ -53,14 +52,14 @@ may_stand p q s t lines r next may ended rest =
     let none = none_behind p q s.lines t.lines lines r ended rest in
     ap (λ (ls : List Line). map text_of_line ls ++ next) none.0 ∙ may none.2 none.1
 
-pub nothing_to_come : (f : Form) (s : RecordsState) (taken : List ℕ) → s.kept ≡ [] → s.lines.rest ≡ [] → taken ≡ [] → records_to_come f s (taken ++ []) ≡ []
+pub nothing_to_come : {R : Type 0} (f : Form R) (s : RecordsState) (taken : List ℕ) → s.kept ≡ [] → s.lines.rest ≡ [] → taken ≡ [] → records_to_come f s (taken ++ []) ≡ []
 nothing_to_come f s taken kept rest none =
     ap (λ (ks : List (List ℕ)). held_reads f ks s.first s.lines.number (told_lines (s.lines.rest ++ (taken ++ [])))) kept
     ∙ ap (λ (r : List ℕ). reads f s.lines.number (told_lines (r ++ (taken ++ [])))) rest
     ∙ ap (λ (t : List ℕ). reads f s.lines.number (told_lines (t ++ []))) none
 
 -- the end stays
-pub over_stays : (f : Form) (p q : Option (List ℕ)) (s t : RecordsState) (given : List ItemRead) → Steps f p q s t given → IsOver s → IsOver t
+pub over_stays : {R : Type 0} (f : Form R) (p q : Option (List ℕ)) (s t : RecordsState) (given : List R) → Steps f p q s t given → IsOver s → IsOver t
 over_stays f p q s t given steps over =
     let none = none_behind p q s.lines t.lines steps.lines steps.reads over.ended over.rest in
     let nothing = both_none given (records_to_come f t [])
@@ -74,7 +73,7 @@ pub lines_behind : (some more : List Line) (next : List (List ℕ)) → map text
 lines_behind some more next =
     ap (λ (ls : List (List ℕ)). ls ++ next) (map-append text_of_line some more) ∙ append_assoc (map text_of_line some) (map text_of_line more) next
 
-abbrev pub steps_more : (f : Form) (o p q : Option (List ℕ)) (s t u : RecordsState) (g h : List ItemRead) → Steps f o p s t g → Steps f p q t u h → Steps f o q s u (g ++ h)
+abbrev pub steps_more : {R : Type 0} (f : Form R) (o p q : Option (List ℕ)) (s t u : RecordsState) (g h : List R) → Steps f o p s t g → Steps f p q t u h → Steps f o q s u (g ++ h)
 steps_more f o p q s t u g h a b = record {
   lines = a.lines ++ b.lines;
   reads = reads_more o p q s.lines t.lines u.lines a.lines b.lines a.reads b.reads;
@@ -82,19 +81,19 @@ steps_more f o p q s t u g h a b = record {
   stream = λ following may.
       ap (records_to_come f s) (append_assoc a.reads.taken b.reads.taken following)
       ∙ a.stream (b.reads.taken ++ following) (may_before p q t.lines u.lines b.lines b.reads following may)
-      ∙ ap (λ (l : List ItemRead). g ++ l) (b.stream following may)
+      ∙ ap (λ (l : List _). g ++ l) (b.stream following may)
       ∙ sym (append_assoc g h (records_to_come f u following));
   whole = λ over next.
       ap (λ (ls : List (List ℕ)). but_last (held_reads f s.kept s.first s.lines.number ls)) (lines_behind a.lines b.lines next)
       ∙ a.whole (λ now. over (over_stays f p q t u h b now)) (map text_of_line b.lines ++ next)
-      ∙ ap (λ (l : List ItemRead). g ++ l) (b.whole over next)
+      ∙ ap (λ (l : List _). g ++ l) (b.whole over next)
       ∙ sym (append_assoc g h (but_last (held_reads f u.kept u.first u.lines.number next)));
 }
 
-abbrev pub header_steps_none : (f : Form) (o : Option (List ℕ)) (s : RecordsState) → HeaderSteps f o o s s
+abbrev pub header_steps_none : {R : Type 0} (f : Form R) (o : Option (List ℕ)) (s : RecordsState) → HeaderSteps f o o s s
 header_steps_none f o s = record { lines = []; reads = reads_none o s.lines; stream = λ following may. refl; told = λ next may. refl }
 
-abbrev pub header_steps_more : (f : Form) (o p q : Option (List ℕ)) (s t u : RecordsState) → HeaderSteps f o p s t → HeaderSteps f p q t u → HeaderSteps f o q s u
+abbrev pub header_steps_more : {R : Type 0} (f : Form R) (o p q : Option (List ℕ)) (s t u : RecordsState) → HeaderSteps f o p s t → HeaderSteps f p q t u → HeaderSteps f o q s u
 header_steps_more f o p q s t u a b = record {
   lines = a.lines ++ b.lines;
   reads = reads_more o p q s.lines t.lines u.lines a.lines b.lines a.reads b.reads;

@@ -5,15 +5,15 @@ use Rattle.std.proofs.lemmas.Int.{ints}
 use Rattle.scaled_decimal.specs.ScaleValue.{size_of}
 use Rattle.scaled_decimal.specs.NumberReading.{NumberSeen, blank, unread, number, seen}
 use Rattle.rinex_write.specs.declared.columns.Rule.{Rule}
-use Rattle.rinex_write.specs.declared.columns.Rule.TheVariants.{Plain, OrZero, OrLeast, Ura, Sisa, Fit, Sent, Unread}
+use Rattle.rinex_write.specs.declared.columns.Rule.TheVariants.{Plain, OrZero, OrLeast, OrUnknown, Ura, Sisa, Fit, Sent, Unread}
 use Rattle.rinex_write.specs.declared.columns.Column.{Column}
 use Rattle.rinex_write.specs.Accuracies.{first_from, ura_greatest, ura_of, sisa_value, sisa_from, sisa_of}
-use Rattle.rinex_write.specs.Columns.{IsField, AreFields, joined_rows}
+use Rattle.rinex_write.specs.Columns.{IsField, AreFields, joined_rows, not_known}
 use Rattle.rinex_write.specs.Layouts.{gps_rows, galileo_rows, gps_ionosphere_rows, galileo_ionosphere_rows, gps_kind, galileo_kind, gps_ionosphere_kind, galileo_ionosphere_kind}
 use Rattle.rinex_read.specs.declared.reason.Reason.{Reason}
 use Rattle.rinex_read.specs.declared.reason.Reason.TheVariants as reasons
 use Rattle.rinex_read.specs.Lines.{columns}
-use Rattle.rinex_read.specs.Fields.{◌>>=◌, in_range, flag_of, sent_or_unknown, taken, field_at, read_row, read_rows}
+use Rattle.rinex_read.specs.Fields.{◌>>=◌, in_range, flag_of, sent_or_unknown, taken, whole, is_beyond, or_unknown, field_of, field_at, read_row, read_rows}
 use Rattle.rinex_read.specs.declared.title.RecordKind.{RecordKind}
 use Rattle.rinex_read.specs.declared.title.RecordKind.TheVariants.{GpsEphemeris, GalileoEphemeris, GpsIonosphere, GalileoIonosphere}
 use Rattle.rinex_read.specs.Mirrors.{Gives, IsLayout, kind_by}
@@ -91,6 +91,7 @@ abbrev pub has_zero : Rule → Bool
 has_zero (Plain low high) = true
 has_zero (OrZero low high) = int_le low (pos 0) && int_le (pos 0) high
 has_zero (OrLeast low high) = int_le low high
+has_zero (OrUnknown low high) = true
 has_zero Ura = true
 has_zero Sisa = true
 has_zero Fit = true
@@ -117,6 +118,9 @@ taken_is (OrLeast low high) blank z good h =
     subst (λ x. (low ≤ℤ x) × (x ≤ℤ high)) is (omega (arith, ints), le_from low high good)
 taken_is (OrLeast low high) unread z good h = absurd (cc)
 taken_is (OrLeast low high) (number w) z good h = (in_range_is low high w z h).1
+taken_is (OrUnknown low high) blank z good h = inr (cc)
+taken_is (OrUnknown low high) unread z good h = absurd (cc)
+taken_is (OrUnknown low high) (number w) z good h = inl (in_range_is low high w z h).1
 taken_is Ura blank z good h = let is : pos 15 ≡ z = cc in subst (IsField Ura) is (omega (arith, ints), omega (arith, ints))
 taken_is Ura unread z good h = absurd (cc)
 taken_is Ura (number w) z good h =
@@ -141,6 +145,20 @@ taken_is (Unread n) blank z good h = cc
 taken_is (Unread n) unread z good h = cc
 taken_is (Unread n) (number w) z good h = cc
 
+unknown_or : (r : Rule) (units : NumberSeen) (t : Result ℤ Reason) (z : ℤ) → has_zero r ≡ true → ((y : ℤ) → t ≡ Ok y → IsField r y) → or_unknown r units t ≡ Ok z
+    → IsField r z
+unknown_or r units (Ok y) z good is h = let same : y ≡ z = cc in subst (IsField r) same (is y refl)
+unknown_or (OrUnknown low high) units (Err reasons.OutOfRange) z good is h = go (is_beyond units) h
+  where
+    go : (b : Bool) → (if b then Ok not_known else Err reasons.OutOfRange) ≡ Ok z → IsField (OrUnknown low high) z
+    go true e = inr (cc)
+    go false e = absurd (cc)
+unknown_or r units (Err e) z good is h = absurd (cc)
+
+field_is : (c : Column) (text : List ℕ) (z : ℤ) → has_zero c.rule ≡ true → field_of c text ≡ Ok z → IsField c.rule z
+field_is c text z good h =
+    unknown_or c.rule (seen (size_of whole) text) (taken c.rule (seen (size_of c.scale) text)) z good (λ y e. taken_is c.rule (seen (size_of c.scale) text) y good e) h
+
 row_is : (cs : List Column) (a : ℕ) (line : List ℕ) (zs : List ℤ) → have_zero cs ≡ true → read_row cs a line ≡ Ok zs → AreFields cs zs
 row_is [] a line [] good h = tt
 row_is [] a line (z ∷ zs) good h = absurd (cc)
@@ -150,7 +168,7 @@ row_is (c ∷ cs) a line zs good h =
     let next = bound (read_row cs (a + 19) line) (λ ws. Ok (first.value ∷ ws)) zs first.rest in
     let is : first.value ∷ next.value ≡ zs = cc in
     subst (AreFields (c ∷ cs)) is (
-      taken_is c.rule (seen (size_of c.scale) (columns a 19 line)) first.value both.0 first.is,
+      field_is c (columns a 19 line) first.value both.0 first.is,
       row_is cs (a + 19) line next.value both.1 next.is,
     )
 

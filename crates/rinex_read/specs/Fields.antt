@@ -1,11 +1,13 @@
 -- The fields of the numbers of a record, and why a number gives none.
-use Rattle.std.specs.Prelude.{ℕ, ◌+◌, ◌==◌, ◌&&◌, ◌||◌, if◌then◌else◌, List, [], ◌∷◌, ◌++◌, Result, Ok, Err, ℤ, pos, negsuc, int_le, unsigned_abs}
+use Rattle.std.specs.Prelude.{ℕ, Bool, false, ◌+◌, ◌==◌, ◌&&◌, ◌||◌, if◌then◌else◌, List, [], ◌∷◌, ◌++◌, Result, Ok, Err, ℤ, pos, negsuc, int_le, unsigned_abs}
+use Rattle.scaled_decimal.specs.declared.scales.Scale.{Scale}
 use Rattle.scaled_decimal.specs.ScaleValue.{size_of}
 use Rattle.scaled_decimal.specs.NumberReading.{NumberSeen, blank, unread, number, seen}
 use Rattle.rinex_write.specs.declared.columns.Rule.{Rule}
-use Rattle.rinex_write.specs.declared.columns.Rule.TheVariants.{Plain, OrZero, OrLeast, Ura, Sisa, Fit, Sent, Unread}
+use Rattle.rinex_write.specs.declared.columns.Rule.TheVariants.{Plain, OrZero, OrLeast, OrUnknown, Ura, Sisa, Fit, Sent, Unread}
 use Rattle.rinex_write.specs.declared.columns.Column.{Column}
 use Rattle.rinex_write.specs.Accuracies.{ura_of, sisa_of}
+use Rattle.rinex_write.specs.Columns.{not_known}
 use Rattle.rinex_read.specs.declared.reason.Reason.{Reason}
 use Rattle.rinex_read.specs.declared.reason.Reason.TheVariants as reasons
 use Rattle.rinex_read.specs.Lines.{columns}
@@ -40,6 +42,9 @@ taken (OrZero low high) (number z) = in_range low high z
 taken (OrLeast low high) blank = Ok low
 taken (OrLeast low high) unread = Err reasons.NotANumber
 taken (OrLeast low high) (number z) = in_range low high z
+taken (OrUnknown low high) blank = Ok not_known
+taken (OrUnknown low high) unread = Err reasons.NotANumber
+taken (OrUnknown low high) (number z) = in_range low high z
 taken Ura blank = Ok (pos 15)
 taken Ura unread = Err reasons.NotANumber
 taken Ura (number z) = in_range (negsuc 99999999) (pos 100000000) z >>= λ w. Ok (ura_of w)
@@ -56,9 +61,30 @@ taken (Unread n) blank = Ok n
 taken (Unread n) unread = Ok n
 taken (Unread n) (number z) = Ok n
 
+-- the scale of integers
+abbrev pub whole : Scale
+whole = record { pi = false; factor = 1; two = pos 0; ten = pos 0 }
+
+-- a number from 999,999,999 on
+abbrev pub is_beyond : NumberSeen → Bool
+is_beyond blank = false
+is_beyond unread = false
+is_beyond (number z) = int_le not_known z
+
+-- the field, or not known where a number that can be so is out of range and, in units of 1, from
+-- 999,999,999 on
+abbrev pub or_unknown : Rule → NumberSeen → Result ℤ Reason → Result ℤ Reason
+or_unknown rule units (Ok z) = Ok z
+or_unknown (OrUnknown low high) units (Err reasons.OutOfRange) = if is_beyond units then Ok not_known else Err reasons.OutOfRange
+or_unknown rule units (Err e) = Err e
+
+-- the field of the text of a column
+abbrev pub field_of : Column → List ℕ → Result ℤ Reason
+field_of c text = or_unknown c.rule (seen (size_of whole) text) (taken c.rule (seen (size_of c.scale) text))
+
 -- the field of the 19 characters of a line from offset a on
 abbrev pub field_at : Column → ℕ → List ℕ → Result ℤ Reason
-field_at c a line = taken c.rule (seen (size_of c.scale) (columns a 19 line))
+field_at c a line = field_of c (columns a 19 line)
 
 -- the fields of a line whose numbers begin at offset a, or the first reason
 abbrev pub read_row : List Column → ℕ → List ℕ → Result (List ℤ) Reason

@@ -1,15 +1,16 @@
 -- The format of RINEX 3 navigation files: its versions, and how its records are judged (RINEX 3.05,
 -- navigation message files; GPS LNAV and Galileo I/NAV).
 use Rattle.std.specs.Prelude.{ℕ, ◌/◌, ◌%◌, ◌==◌, ◌&&◌, ◌||◌, nat_le, not, Bool, false, if◌then◌else◌, List, [], ◌∷◌, ◌++◌, length, get_or, codes, Result, Ok, Err, ℤ, pos, unsigned_abs}
-use Rattle.scaled_decimal.specs.declared.scales.Scale.{Scale}
 use Rattle.scaled_decimal.specs.declared.reading.DecimalFault.{DecimalFault}
 use Rattle.scaled_decimal.specs.ScaleValue.{size_of}
 use Rattle.scaled_decimal.specs.NumberReading.{seen, read_of}
 use Rattle.rinex_read.specs.declared.judged.Judged.{Judged}
 use Rattle.rinex_read.specs.declared.judged.Judged.TheVariants as judgments
 use Rattle.rinex_read.specs.Lines.{columns}
+pub use Rattle.rinex_read.specs.Fields.{whole}
 use Rattle.rinex_read.specs.Judging.{judged}
-use Rattle.rinex_read.specs.Forms.{Form}
+use Rattle.rinex_read.specs.declared.judged.ItemRead.{ItemRead}
+use Rattle.rinex_read.specs.Forms.{Form, read_at}
 use Rattle.rinex_read.specs.Files.{list_by}
 use Rattle.nav_eph.specs.declared.items.NavItem.{NavItem}
 
@@ -26,10 +27,6 @@ is_inav_number n = n / 2 % 2 == 0 && (n % 2 == 1 || n / 4 % 2 == 1)
 abbrev pub says_inav : Result ℤ DecimalFault → Bool
 says_inav (Ok z) = is_inav_number (unsigned_abs z)
 says_inav (Err fault) = false
-
--- the scale of integers
-abbrev pub whole : Scale
-whole = record { pi = false; factor = 1; two = pos 0; ten = pos 0 }
 
 -- the sixth line of a record says I/NAV in its data sources, columns 24-42
 unfoldable pub is_inav : List (List ℕ) → Bool
@@ -50,8 +47,8 @@ judged3 (l ∷ ls) =
     else judgments.PassedOver
 
 -- a record begins at each line whose first column is not blank
-abbrev pub rinex3 : Form
-rinex3 = record { names = is_three; starts = λ c. not (c == 32); judged = judged3 }
+abbrev pub rinex3 : Form ItemRead
+rinex3 = record { names = is_three; starts = λ c. not (c == 32); judged = λ number lines. read_at number (judged3 lines) }
 
 -- the list of the items of a file
 abbrev pub rinex3_list : List ℕ → List NavItem

@@ -1,5 +1,5 @@
 -- Invariants and helper definitions of private functions; no public clause cites them.
-use Rattle.std.specs.Prelude.{◌≡◌, ℕ, ◌+◌, ◌-◌, ◌*◌, ◌/◌, ◌^◌, ◌<◌, ◌≤◌, nat_lt, nat_le, ◌&&◌, Bool, true, if◌then◌else◌, List, [], ◌∷◌, ◌++◌, length, take, drop, sum, Result, Ok, Err, ℤ, pos, negsuc, ◌≤ℤ◌}
+use Rattle.std.specs.Prelude.{◌≡◌, ℕ, ◌+◌, ◌-◌, ◌*◌, ◌/◌, ◌^◌, ◌<◌, ◌≤◌, nat_lt, nat_le, ◌==◌, ◌&&◌, Bool, true, false, if◌then◌else◌, List, [], ◌∷◌, ◌++◌, length, take, drop, sum, Option, Some, None, Result, Ok, Err, ℤ, pos, negsuc, ◌≤ℤ◌}
 use Rattle.nav_eph.specs.Steps.{IsSisa}
 use Rattle.nav_bits.specs.Signed.{IsSigned}
 use Rattle.rinex_write.specs.declared.columns.Column.{Column}
@@ -10,12 +10,10 @@ use Rattle.rinex_read.specs.declared.reason.Reason.TheVariants as reasons
 use Rattle.rinex_read.specs.declared.title.RecordKind.{RecordKind}
 use Rattle.rinex_read.specs.declared.title.RecordKind.TheVariants.{GpsEphemeris, GalileoEphemeris, GpsIonosphere, GalileoIonosphere}
 use Rattle.rinex_read.specs.Fields.{◌>>=◌, read_row}
-use Rattle.rinex_read.specs.declared.judged.ItemRead.{ItemRead}
-use Rattle.rinex_read.specs.declared.judged.ItemRead.TheVariants.{Item, Refused, PassedOver, End}
 use Rattle.rinex_read.specs.declared.judged.HeaderState.{HeaderState}
 use Rattle.rinex_read.specs.declared.judged.HeaderState.TheVariants.{New, Open, Passed, NotRinexNav, OtherVersion}
 use Rattle.rinex_read.specs.Judging.{field, natural, Said}
-use Rattle.rinex_read.specs.Files.{is_navigation, ends_header, read_at}
+use Rattle.rinex_read.specs.Files.{is_navigation, ends_header}
 use Rattle.rinex_read.specs.Forms.{Form, is_version}
 use Rattle.nav_io.specs.LinesState.{LinesState}
 use Rattle.rinex_read.specs.declared.judged.HeaderFault.{HeaderFault}
@@ -34,6 +32,11 @@ kind_by GalileoIonosphere = galileo_ionosphere_kind
 abbrev pub Gives : {X Y : Type 0} → (X → Y) → Result X Reason → Result Y Reason → Type 0
 Gives view (Ok x) read = read ≡ Ok (view x)
 Gives view (Err e) read = read ≡ Err e
+
+-- the text begins with a minus
+abbrev pub is_minus : List ℕ → Bool
+is_minus [] = false
+is_minus (c ∷ cs) = c == 45
 
 -- fields before those that are read
 abbrev pub with_prefix : List ℤ → Result (List ℤ) Reason → Result (List ℤ) Reason
@@ -185,28 +188,21 @@ pub record AreGalileoIonosphereFields (zs : List ℤ) : Type 0 where
 
 -- A line was processed: the old state with it and any further lines gives these records, then those of the new state. No
 -- record is given unless another is in progress.
-pub record TakesLine (f : Form) (kept : List (List ℕ)) (first : ℕ) (kept_new : List (List ℕ)) (first_new : ℕ) (line : List ℕ) (number : ℕ) (given : List ItemRead) : Type 0 where
+pub record TakesLine {R : Type 0} (f : Form R) (kept : List (List ℕ)) (first : ℕ) (kept_new : List (List ℕ)) (first_new : ℕ) (line : List ℕ) (number : ℕ) (given : List R) : Type 0 where
   pub answers : (n : ℕ) (more : List (List ℕ)) → number ≡ n + 1 → held_reads f kept first n (line ∷ more) ≡ given ++ held_reads f kept_new first_new number more
   pub begun : kept_new ≡ [] → given ≡ []
 
 -- No line is left: the record in progress gives these records.
-pub record TakesEnd (f : Form) (kept : List (List ℕ)) (first : ℕ) (given : List ItemRead) : Type 0 where
+pub record TakesEnd {R : Type 0} (f : Form R) (kept : List (List ℕ)) (first : ℕ) (given : List R) : Type 0 where
   pub answers : (n : ℕ) → held_reads f kept first n [] ≡ given
 
--- what was read is a record, not the end
-abbrev pub IsRecord : ItemRead → Type 0
-IsRecord (Item line item) = Unit {0}
-IsRecord (Refused line reason) = Unit {0}
-IsRecord (PassedOver line) = Unit {0}
-IsRecord End = ⊥
-
--- the record in progress, or the end if there was none
-abbrev pub EndsWith : Form → List (List ℕ) → ℕ → ItemRead → Type 0
-EndsWith f [] first read = read ≡ End
-EndsWith f (k ∷ ks) first read = read ≡ read_at first (f.judged (k ∷ ks))
+-- the record in progress, if there was one
+abbrev pub EndsWith : {R : Type 0} → Form R → List (List ℕ) → ℕ → Option R → Type 0
+EndsWith f [] first read = read ≡ None
+EndsWith f (k ∷ ks) first read = read ≡ Some (f.judged first (k ∷ ks))
 
 -- the state of the header after one more line
-abbrev pub header_after : Form → HeaderState → List ℕ → HeaderState
+abbrev pub header_after : {R : Type 0} → Form R → HeaderState → List ℕ → HeaderState
 header_after f New line = if is_navigation line then (if is_version f line then Open else OtherVersion) else NotRinexNav
 header_after f Open line = if ends_header line then Passed else Open
 header_after f Passed line = Passed

@@ -3,9 +3,8 @@ use Rattle.std.specs.Prelude.{◌≡◌, ℕ, ◌+◌, true, false, List, [], �
 use Rattle.nav_eph.specs.declared.items.NavItem.{NavItem}
 use Rattle.nav_eph.specs.Ranges.{IsItem}
 use Rattle.rinex_write.specs.Texts.{AreLines, item_lines}
-use Rattle.rinex_read.specs.declared.judged.Judged.TheVariants as judgments
 use Rattle.rinex_read.specs.declared.judged.ItemRead.{ItemRead}
-use Rattle.rinex_read.specs.declared.judged.ItemRead.TheVariants.{Item, Refused, PassedOver, End}
+use Rattle.rinex_read.specs.declared.judged.ItemRead.TheVariants.{Item, Refused, PassedOver}
 use Rattle.rinex_read.specs.Forms.{Form, begins}
 use Rattle.rinex_read.specs.Files.{header_of}
 
@@ -15,12 +14,12 @@ AreItems [] = Unit {0}
 AreItems (i ∷ is) = IsItem i × AreItems is
 
 -- no line begins a record of the format
-abbrev pub NoneBegins : Form → List (List ℕ) → Type 0
+abbrev pub NoneBegins : {R : Type 0} → Form R → List (List ℕ) → Type 0
 NoneBegins f [] = Unit {0}
 NoneBegins f (l ∷ ls) = (begins f l ≡ false) × NoneBegins f ls
 
 -- lines of one record: only the first begins one, and each byte is at least 32
-pub record AreRecordLines (f : Form) (lines : List (List ℕ)) : Type 0 where
+pub record AreRecordLines {R : Type 0} (f : Form R) (lines : List (List ℕ)) : Type 0 where
   pub title : List ℕ
   pub others : List (List ℕ)
   pub lines_are : lines ≡ title ∷ others
@@ -29,17 +28,17 @@ pub record AreRecordLines (f : Form) (lines : List (List ℕ)) : Type 0 where
   pub shown : AreLines lines
 
 -- lines of a record that gives the item, whatever lines follow
-pub record StandFor (f : Form) (lines : List (List ℕ)) (item : NavItem) : Type 0 where
+pub record StandFor (f : Form ItemRead) (lines : List (List ℕ)) (item : NavItem) : Type 0 where
   pub are : AreRecordLines f lines
-  pub judged : (more : List (List ℕ)) → f.judged (lines ++ more) ≡ judgments.Item item
+  pub judged : (number : ℕ) (more : List (List ℕ)) → f.judged number (lines ++ more) ≡ Item number item
 
 -- the lines written for each item give it
-abbrev pub AllStand : Form → (NavItem → List (List ℕ)) → List NavItem → Type 0
+abbrev pub AllStand : Form ItemRead → (NavItem → List (List ℕ)) → List NavItem → Type 0
 AllStand f write [] = Unit {0}
 AllStand f write (i ∷ is) = StandFor f (write i) i × AllStand f write is
 
 -- lines of a header: each byte is at least 32, and what follows is read after the header
-pub record AreHeaderLines (f : Form) (lines : List (List ℕ)) : Type 0 where
+pub record AreHeaderLines {R : Type 0} (f : Form R) (lines : List (List ℕ)) : Type 0 where
   pub shown : AreLines lines
   pub passed : (more : List (List ℕ)) → header_of f 0 (lines ++ more) ≡ Ok (record { number = length lines; lines = more })
 
@@ -57,4 +56,3 @@ abbrev pub IsWholeRead : ItemRead → Type 0
 IsWholeRead (Item line item) = IsItem item
 IsWholeRead (Refused line reason) = Unit {0}
 IsWholeRead (PassedOver line) = Unit {0}
-IsWholeRead End = Unit {0}

@@ -1,18 +1,16 @@
 -- What contracts see of a reader of records, and what its calls do.
-use Rattle.std.specs.Prelude.{◌≡◌, ◌+◌, ◌-◌, ◌*◌, ◌^◌, ◌<◌, ◌≤◌, ◌++◌, ℕ, Bool, true, false, List, [], ◌∷◌, Option, Result, Ok, Err, length, map, take}
+use Rattle.std.specs.Prelude.{◌≡◌, ◌+◌, ◌-◌, ◌*◌, ◌^◌, ◌<◌, ◌≤◌, ◌++◌, ℕ, Bool, true, false, List, [], ◌∷◌, Option, Some, None, Result, Ok, Err, length, map, take}
 use Rattle.nav_io.specs.Lines.{Line, ends, lines_by}
 use Rattle.nav_io.specs.LinesState.{LinesState, Reads}
 use Rattle.nav_io.specs.declared.lines.LineFault.{LineFault}
 use Rattle.nav_io.specs.declared.lines.LineFault.TheVariants.{ReadFault, TooLong}
-use Rattle.rinex_read.specs.declared.judged.ItemRead.{ItemRead}
-use Rattle.rinex_read.specs.declared.judged.ItemRead.TheVariants.{Item, Refused, PassedOver, End}
 use Rattle.rinex_read.specs.declared.judged.HeaderFault.{HeaderFault}
 use Rattle.rinex_read.specs.declared.judged.HeaderFault.TheVariants as faults
 use Rattle.rinex_read.specs.declared.judged.HeaderState.{HeaderState}
 use Rattle.rinex_read.specs.declared.judged.HeaderState.TheVariants.{New, Open, Passed, NotRinexNav, OtherVersion}
 use Rattle.rinex_read.specs.Lines.{text_of_line, told_lines}
 use Rattle.rinex_read.specs.Forms.{Form}
-use Rattle.rinex_read.specs.Files.{but_last, header_of, header_passed, up_to_next, read_at, reads, reads_behind}
+use Rattle.rinex_read.specs.Files.{but_last, header_of, header_passed, up_to_next, reads, reads_behind}
 
 -- a reader of records
 pub record RecordsState : Type 0 where
@@ -26,16 +24,16 @@ pub record RecordsState : Type 0 where
   pub lines : LinesState
 
 -- the records still to be read from lines ls, n lines being before them and kept being of the record in progress
-abbrev pub held_reads : Form → List (List ℕ) → ℕ → ℕ → List (List ℕ) → List ItemRead
+abbrev pub held_reads : {R : Type 0} → Form R → List (List ℕ) → ℕ → ℕ → List (List ℕ) → List R
 held_reads f [] first n ls = reads f n ls
-held_reads f (k ∷ ks) first n ls = read_at first (f.judged ((k ∷ ks) ++ up_to_next f ls)) ∷ reads f n ls
+held_reads f (k ∷ ks) first n ls = f.judged first ((k ∷ ks) ++ up_to_next f ls) ∷ reads f n ls
 
 -- the records still to be read after the header, if these bytes follow
-abbrev pub records_to_come : Form → RecordsState → List ℕ → List ItemRead
+abbrev pub records_to_come : {R : Type 0} → Form R → RecordsState → List ℕ → List R
 records_to_come f s following = held_reads f s.kept s.first s.lines.number (told_lines (s.lines.rest ++ following))
 
 -- the records still to be read of the file, if these lines follow
-abbrev pub file_by : Form → HeaderState → RecordsState → List (List ℕ) → Result (List ItemRead) HeaderFault
+abbrev pub file_by : {R : Type 0} → Form R → HeaderState → RecordsState → List (List ℕ) → Result (List R) HeaderFault
 file_by f New s ls = reads_behind f (header_of f s.lines.number ls)
 file_by f Open s ls = reads_behind f (header_passed s.lines.number ls)
 file_by f Passed s ls = Ok (held_reads f s.kept s.first s.lines.number ls)
@@ -43,7 +41,7 @@ file_by f NotRinexNav s ls = Err faults.NotRinexNav
 file_by f OtherVersion s ls = Err faults.Version
 
 -- the same if these bytes follow
-abbrev pub file_to_come : Form → RecordsState → List ℕ → Result (List ItemRead) HeaderFault
+abbrev pub file_to_come : {R : Type 0} → Form R → RecordsState → List ℕ → Result (List R) HeaderFault
 file_to_come f s following = file_by f s.header s (told_lines (s.lines.rest ++ following))
 
 -- after a read that gave no byte nothing follows
@@ -85,7 +83,7 @@ pub record IsPaused (s : RecordsState) : Type 0 where
 -- Lines were read and these records given: they come before those of the new state, whatever bytes
 -- follow. Unless the file is over, they also come before in the list of the records that are
 -- complete.
-pub record Steps (f : Form) (left left_new : Option (List ℕ)) (old new : RecordsState) (given : List ItemRead) : Type 0 where
+pub record Steps {R : Type 0} (f : Form R) (left left_new : Option (List ℕ)) (old new : RecordsState) (given : List R) : Type 0 where
   pub lines : List Line
   pub reads : Reads left left_new old.lines new.lines lines
   pub header : new.header ≡ old.header
@@ -109,12 +107,12 @@ AreEarly old taken lines = length old.rest ≤ 4096 → old.taken < 2 ^ 32
     → length (lines_by true (take (length (old.rest ++ taken) - 4096) (old.rest ++ taken))) ≤ length lines
 
 -- Steps after which what is held is the end of the bytes.
-pub record NearSteps (f : Form) (left left_new : Option (List ℕ)) (old new : RecordsState) (given : List ItemRead) : Type 0 where
+pub record NearSteps {R : Type 0} (f : Form R) (left left_new : Option (List ℕ)) (old new : RecordsState) (given : List R) : Type 0 where
   pub steps : Steps f left left_new old new given
   pub near : HoldsEnd old.lines new.lines steps.reads.taken
 
 -- Steps in which all lines were given that have ended before the last 4,096 bytes.
-pub record EarlySteps (f : Form) (left left_new : Option (List ℕ)) (old new : RecordsState) (given : List ItemRead) : Type 0 where
+pub record EarlySteps {R : Type 0} (f : Form R) (left left_new : Option (List ℕ)) (old new : RecordsState) (given : List R) : Type 0 where
   pub steps : Steps f left left_new old new given
   pub early : AreEarly old.lines steps.reads.taken steps.lines
 
@@ -127,14 +125,14 @@ abbrev pub lines_left : RecordsState → ℕ
 lines_left s = 2 * (2 ^ 32 - s.lines.number) + held_count s.kept
 
 -- A record was read.
-pub record GivesRecord (f : Form) (left left_new : Option (List ℕ)) (old new : RecordsState) (read : ItemRead) : Type 0 where
+pub record GivesRecord {R : Type 0} (f : Form R) (left left_new : Option (List ℕ)) (old new : RecordsState) (read : R) : Type 0 where
   pub steps : Steps f left left_new old new (read ∷ [])
   pub near : HoldsEnd old.lines new.lines steps.reads.taken
   pub low : new.lines.taken < 2 ^ 32
   pub nearer : lines_left new < lines_left old
 
 -- No record is left, and a read gave no byte.
-pub record GivesNone (f : Form) (left left_new : Option (List ℕ)) (old new : RecordsState) : Type 0 where
+pub record GivesNone {R : Type 0} (f : Form R) (left left_new : Option (List ℕ)) (old new : RecordsState) : Type 0 where
   pub steps : Steps f left left_new old new []
   pub near : HoldsEnd old.lines new.lines steps.reads.taken
   pub kept : new.kept ≡ []
@@ -142,12 +140,10 @@ pub record GivesNone (f : Form) (left left_new : Option (List ℕ)) (old new : R
   pub ended : new.lines.ended ≡ true
   pub low : new.lines.taken < 2 ^ 32
 
--- a record, or the end
-abbrev pub GivesRead : Form → ItemRead → Option (List ℕ) → Option (List ℕ) → RecordsState → RecordsState → Type 0
-GivesRead f (Item line item) left left_new old new = GivesRecord f left left_new old new (Item line item)
-GivesRead f (Refused line reason) left left_new old new = GivesRecord f left left_new old new (Refused line reason)
-GivesRead f (PassedOver line) left left_new old new = GivesRecord f left left_new old new (PassedOver line)
-GivesRead f End left left_new old new = GivesNone f left left_new old new
+-- a record, or none after the last
+abbrev pub GivesRead : {R : Type 0} → Form R → Option R → Option (List ℕ) → Option (List ℕ) → RecordsState → RecordsState → Type 0
+GivesRead f (Some read) left left_new old new = GivesRecord f left left_new old new read
+GivesRead f None left left_new old new = GivesNone f left left_new old new
 
 -- A read failed before the end, with no complete line left; or too many bytes were read.
 abbrev pub BrokeBy : LineFault → RecordsState → Type 0
@@ -155,13 +151,13 @@ BrokeBy ReadFault new = (new.lines.ended ≡ false) × (new.lines.taken < 2 ^ 32
 BrokeBy TooLong new = new.lines.taken ≡ 2 ^ 32
 
 -- No record was read, and nothing is lost.
-pub record BreaksRecord (f : Form) (left left_new : Option (List ℕ)) (old new : RecordsState) (fault : LineFault) : Type 0 where
+pub record BreaksRecord {R : Type 0} (f : Form R) (left left_new : Option (List ℕ)) (old new : RecordsState) (fault : LineFault) : Type 0 where
   pub steps : Steps f left left_new old new []
   pub early : AreEarly old.lines steps.reads.taken steps.lines
   pub by : BrokeBy fault new
 
 -- Lines of the header were read; the rest gives the same file, whatever bytes or lines follow.
-pub record HeaderSteps (f : Form) (left left_new : Option (List ℕ)) (old new : RecordsState) : Type 0 where
+pub record HeaderSteps {R : Type 0} (f : Form R) (left left_new : Option (List ℕ)) (old new : RecordsState) : Type 0 where
   pub lines : List Line
   pub reads : Reads left left_new old.lines new.lines lines
   pub stream : (following : List ℕ) → MayCome new following
@@ -170,12 +166,12 @@ pub record HeaderSteps (f : Form) (left left_new : Option (List ℕ)) (old new :
       → file_by f old.header old (map text_of_line lines ++ next) ≡ file_by f new.header new next
 
 -- Header steps after which what is held is the end of the bytes.
-pub record NearHeader (f : Form) (left left_new : Option (List ℕ)) (old new : RecordsState) : Type 0 where
+pub record NearHeader {R : Type 0} (f : Form R) (left left_new : Option (List ℕ)) (old new : RecordsState) : Type 0 where
   pub steps : HeaderSteps f left left_new old new
   pub near : HoldsEnd old.lines new.lines steps.reads.taken
 
 -- Header steps in which all lines were given that have ended before the last 4,096 bytes.
-pub record EarlyHeader (f : Form) (left left_new : Option (List ℕ)) (old new : RecordsState) : Type 0 where
+pub record EarlyHeader {R : Type 0} (f : Form R) (left left_new : Option (List ℕ)) (old new : RecordsState) : Type 0 where
   pub steps : HeaderSteps f left left_new old new
   pub early : AreEarly old.lines steps.reads.taken steps.lines
 
@@ -184,7 +180,7 @@ abbrev pub ReadLow : RecordsState → RecordsState → Type 0
 ReadLow old new = is_waiting old.header ≡ true → new.lines.taken < 2 ^ 32
 
 -- The header was read: the rest of the file is its records.
-pub record PassesHeader (f : Form) (left left_new : Option (List ℕ)) (old new : RecordsState) : Type 0 where
+pub record PassesHeader {R : Type 0} (f : Form R) (left left_new : Option (List ℕ)) (old new : RecordsState) : Type 0 where
   pub steps : HeaderSteps f left left_new old new
   pub near : HoldsEnd old.lines new.lines steps.reads.taken
   pub header : new.header ≡ Passed
@@ -197,7 +193,7 @@ RefusedBy faults.Version old new = (new.header ≡ OtherVersion) × ReadLow old 
 RefusedBy (faults.Line fault) old new = (is_waiting new.header ≡ true) × BrokeBy fault new
 
 -- The header is rejected, or can be read on.
-pub record BreaksHeader (f : Form) (left left_new : Option (List ℕ)) (old new : RecordsState) (fault : HeaderFault) : Type 0 where
+pub record BreaksHeader {R : Type 0} (f : Form R) (left left_new : Option (List ℕ)) (old new : RecordsState) (fault : HeaderFault) : Type 0 where
   pub steps : HeaderSteps f left left_new old new
   pub early : AreEarly old.lines steps.reads.taken steps.lines
   pub by : RefusedBy fault old new

@@ -4,23 +4,32 @@ ghost use Rattle.std.specs.Prelude.{◌≡◌, ◌+◌, ◌*◌, ◌≤◌, ◌�
 ghost use Rattle.std.specs.Prelude.{true, length, unsigned_abs, OnOk};
 ghost use Rattle.arrayvec.specs.ArrayVec.{array_vec_len};
 ghost use Rattle.scaled_decimal.specs.ScaleValue.{size_of};
-ghost use Rattle.scaled_decimal.specs.NumberReading.{seen};
+ghost use Rattle.scaled_decimal.specs.NumberReading.{seen, trim_end, trim_start};
 ghost use Rattle.rinex_write.specs.Columns.{are_good, is_good_rule, is_good_scale};
-ghost use Rattle.rinex_read.specs.Fields.{flag_of, read_row, taken};
-ghost use Rattle.rinex_read.specs.Mirrors.{Gives, IsLayout, ReadsTo, flat_rows, with_prefix};
+ghost use Rattle.rinex_read.specs.Fields.{field_of, flag_of, is_beyond, read_row, whole};
+ghost use Rattle.rinex_read.specs.Mirrors.{Gives, IsLayout, ReadsTo, flat_rows, is_minus};
+ghost use Rattle.rinex_read.specs.Mirrors.{with_prefix};
 
 use crate::accuracy::{sisa_of, ura_of};
 use crate::line::{PaddedLine, columns};
 use crate::reason::Reason;
 use arrayvec::ArrayVec;
-use rinex_write::{Column, RecordLayout, Rule};
-use scaled_decimal::{DecimalFault, read};
+use rinex_write::{Column, NOT_KNOWN, RecordLayout, Rule};
+use scaled_decimal::{DecimalFault, Scale, read, trimmed};
 
 /// The fields of a record, of which there are at most 29.
 pub(crate) type Fields = ArrayVec<i64, 29>;
 
 // The transmission time that means unknown.
 const UNKNOWN: i64 = 999_900_000;
+
+/// The scale of integers.
+pub(crate) const WHOLE: Scale = Scale {
+    pi: false,
+    factor: 1,
+    two: 0,
+    ten: 0,
+};
 
 // The bound of the accuracy values that are read, in centimetres.
 const GREATEST: i64 = 100_000_000;
@@ -37,12 +46,37 @@ fn flag_of(hours: i64) -> Result<i64, Reason>
     }
 }
 
+// Whether a text begins with a minus.
+fn is_minus(text: &[u8]) -> bool
+    ensures { result ≡ is_minus text.now }
+{
+    match text {
+        [first, ..] => *first == b'-',
+        [] => false,
+    }
+}
+
+// Whether a text is a number from 999,999,999 on.
+#[cold]
+#[inline(never)]
+fn is_beyond(text: &[u8]) -> bool
+    requires { length text.now ≤ 19 }
+    ensures { result ≡ is_beyond (seen (size_of whole) text.now) }
+{
+    match read(text, &WHOLE, -4_294_967_295, NOT_KNOWN - 1) {
+        Ok(_) => false,
+        Err(DecimalFault::Blank) => false,
+        Err(DecimalFault::NotANumber) => false,
+        Err(DecimalFault::OutOfRange) => !is_minus(trimmed(text)),
+    }
+}
+
 // The field of the text in a column.
 fn field(column: &Column, text: &[u8]) -> Result<i64, Reason>
     requires text { length text.now ≤ 19 }
     requires scale { is_good_scale column.now.scale ≡ true }
-    requires rule { is_good_rule column.now.rule ≡ true }
-    ensures { result ≡ taken column.now.rule (seen (size_of column.now.scale) text.now) }
+    requires rule { is_good_rule column.now.scale column.now.rule ≡ true }
+    ensures { result ≡ field_of column.now text.now }
 {
     match column.rule {
         Rule::Plain { low, high } => match read(text, &column.scale, low, high) {
@@ -62,6 +96,18 @@ fn field(column: &Column, text: &[u8]) -> Result<i64, Reason>
             Err(DecimalFault::Blank) => Ok(low),
             Err(DecimalFault::NotANumber) => Err(Reason::NotANumber),
             Err(DecimalFault::OutOfRange) => Err(Reason::OutOfRange),
+        },
+        Rule::OrUnknown { low, high } => match read(text, &column.scale, low, high) {
+            Ok(number) => Ok(number),
+            Err(DecimalFault::Blank) => Ok(NOT_KNOWN),
+            Err(DecimalFault::NotANumber) => Err(Reason::NotANumber),
+            Err(DecimalFault::OutOfRange) => {
+                if is_beyond(text) {
+                    Ok(NOT_KNOWN)
+                } else {
+                    Err(Reason::OutOfRange)
+                }
+            }
         },
         Rule::Ura => match read(text, &column.scale, -GREATEST, GREATEST) {
             Ok(number) => Ok(ura_of(number)),

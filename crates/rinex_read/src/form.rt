@@ -3,42 +3,45 @@
 ghost use Rattle.std.specs.Prelude.{◌≡◌};
 ghost use Rattle.rinex_read.specs.Forms.{is_four};
 
-use crate::judged::Judged;
+use crate::judged::{ItemRead, read_at};
 use crate::record::RecordLines;
 use scaled_decimal::is_decimal;
 
-/// A format of navigation files, read by a [`RecordReader`](crate::RecordReader).
+/// A format of navigation files, read by a [`RecordReader`](crate::RecordReader), whose records give
+/// values of the type `R`.
 ///
-/// Contracts see the format as a ghost: its versions, the first characters of its records, and how
-/// the lines of a record are judged.
-pub trait FileForm {
+/// Contracts see the format as a ghost: its versions, the first characters of its records, and what
+/// the lines of a record give.
+pub trait FileForm<R> {
     ghost use Rattle.std.specs.Prelude.{◌≡◌};
-    ghost use Rattle.rinex_read.specs.Forms.{Form, GivesItems, LooksAtKept};
+    ghost use Rattle.rinex_read.specs.Forms.{Form, GivesWhole, LooksAtKept};
 
-    ghost form: { Form };
+    ghost form: { Self → Form R };
+
+    // What holds of each value that a record gives.
+    ghost whole: { R → Type 0 };
 
     /// Whether the text in columns 1-9 of the first line, without blanks around it, is a version of
     /// the format.
-    fn names(text: &[u8]) -> bool
-        ensures { result ≡ form.names text.now };
+    fn names(&self, text: &[u8]) -> bool
+        ensures { result ≡ (form self.now).names text.now };
 
     /// Whether a line with this first character begins a record; an empty line counts as a blank.
-    fn starts(first: u8) -> bool
-        ensures { result ≡ form.starts first };
+    fn starts(&self, first: u8) -> bool
+        ensures { result ≡ (form self.now).starts first };
 
-    /// The item of the lines of a record, its title included, or why there is none.
-    fn judge(lines: &RecordLines) -> Judged
-        ensures { result ≡ form.judged lines.now };
+    /// What the lines of a record give, its title included; `line` is the number of the first.
+    fn judge(&self, line: u32, lines: &RecordLines) -> R
+        ensures { result ≡ (form self.now).judged line lines.now };
 
     /// Only what [`RecordLines`] stores of a record matters. It does nothing; its contract is the
     /// theorem.
-    fn looks_at_kept()
-        ensures { LooksAtKept form };
+    fn looks_at_kept(&self)
+        ensures { LooksAtKept (form self.now) };
 
-    /// Each item that a record gives is consistent, each field within its width. It does nothing;
-    /// its contract is the theorem.
-    fn gives_items()
-        ensures { GivesItems form };
+    /// What holds of each value that a record gives. It does nothing; its contract is the theorem.
+    fn gives_whole(&self)
+        ensures { GivesWhole (form self.now) whole };
 }
 
 // `4.` and one digit or two.
@@ -56,24 +59,27 @@ fn is_four(text: &[u8]) -> bool
 /// section and navigation records).
 pub struct Rinex4;
 
-impl FileForm for Rinex4 {
+impl FileForm<ItemRead> for Rinex4 {
     ghost use Rattle.rinex_read.specs.Forms.{rinex4};
+    ghost use Rattle.rinex_read.specs.RoundTrip.{IsWholeRead};
 
-    ghost form = { rinex4 };
+    ghost form = { λ f. rinex4 };
 
-    fn names(text: &[u8]) -> bool {
+    ghost whole = { IsWholeRead };
+
+    fn names(&self, text: &[u8]) -> bool {
         is_four(text)
     }
 
-    fn starts(first: u8) -> bool {
+    fn starts(&self, first: u8) -> bool {
         first == b'>'
     }
 
-    fn judge(lines: &RecordLines) -> Judged {
-        lines.judge()
+    fn judge(&self, line: u32, lines: &RecordLines) -> ItemRead {
+        read_at(line, lines.judge())
     }
 
-    fn looks_at_kept() {}
+    fn looks_at_kept(&self) {}
 
-    fn gives_items() {}
+    fn gives_whole(&self) {}
 }

@@ -4,11 +4,12 @@ ghost use Rattle.std.specs.Prelude.{◌≡◌, List, ℕ, length, pos};
 ghost use Rattle.rinex_read.specs.Form3.{is_inav, is_inav_number, is_three};
 ghost use Rattle.rinex_read.specs.Form3.{judged3, says_inav, titled};
 
+use crate::fields::WHOLE;
 use crate::form::FileForm;
-use crate::judged::Judged;
+use crate::judged::{ItemRead, Judged, read_at};
 use crate::line::columns;
 use crate::record::RecordLines;
-use scaled_decimal::{DecimalFault, Scale, read};
+use scaled_decimal::{DecimalFault, read};
 
 // `3.02`, `3.03`, `3.04` or `3.05`.
 fn is_three(text: &[u8]) -> bool
@@ -19,14 +20,6 @@ fn is_three(text: &[u8]) -> bool
         _ => false,
     }
 }
-
-// The scale of integers.
-const WHOLE: Scale = Scale {
-    pi: false,
-    factor: 1,
-    two: 0,
-    ten: 0,
-};
 
 // The data sources mean I/NAV: bit 0 or bit 2 is set, and bit 1 (F/NAV) is not.
 fn is_inav_number(number: u64) -> bool
@@ -67,9 +60,9 @@ fn titled(message: &[u8; 4], line: &[u8; 80]) -> [u8; 14]
     ]
 }
 
-// The item of a record, or why there is none.
+/// The item of a record of RINEX 3, or why there is none.
 #[tactic(auto, unfolding(crate::specs::Form3::judged3))]
-fn judge(lines: &RecordLines) -> Judged
+pub fn judge3(lines: &RecordLines) -> Judged
     ensures { result ≡ judged3 lines.now }
 {
     let kept = lines.lines();
@@ -95,24 +88,27 @@ fn judge(lines: &RecordLines) -> Judged
 /// are skipped.
 pub struct Rinex3;
 
-impl FileForm for Rinex3 {
+impl FileForm<ItemRead> for Rinex3 {
     ghost use Rattle.rinex_read.specs.Form3.{rinex3};
+    ghost use Rattle.rinex_read.specs.RoundTrip.{IsWholeRead};
 
-    ghost form = { rinex3 };
+    ghost form = { λ f. rinex3 };
 
-    fn names(text: &[u8]) -> bool {
+    ghost whole = { IsWholeRead };
+
+    fn names(&self, text: &[u8]) -> bool {
         is_three(text)
     }
 
-    fn starts(first: u8) -> bool {
+    fn starts(&self, first: u8) -> bool {
         first != b' '
     }
 
-    fn judge(lines: &RecordLines) -> Judged {
-        judge(lines)
+    fn judge(&self, line: u32, lines: &RecordLines) -> ItemRead {
+        read_at(line, judge3(lines))
     }
 
-    fn looks_at_kept() {}
+    fn looks_at_kept(&self) {}
 
-    fn gives_items() {}
+    fn gives_whole(&self) {}
 }

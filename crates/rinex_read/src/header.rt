@@ -21,10 +21,10 @@ fn is_navigation(line: &PaddedLine) -> bool
 
 // Whether the version of the line is one of the form.
 #[tactic(auto, unfolding(crate::specs::Forms::is_version))]
-fn is_version<F: FileForm>(line: &PaddedLine) -> bool
-    ensures { result ≡ is_version F.form line.now }
+fn is_version<R, F: FileForm<R>>(form: &F, line: &PaddedLine) -> bool
+    ensures { result ≡ is_version (F.form form.now) line.now }
 {
-    F::names(trimmed(columns(line, 0, 9)))
+    form.names(trimmed(columns(line, 0, 9)))
 }
 
 // Whether the line ends a header.
@@ -36,14 +36,14 @@ fn ends_header(line: &PaddedLine) -> bool
 }
 
 // The same of a line cut to 80 characters.
-fn after_kept<F: FileForm>(state: HeaderState, line: &PaddedLine) -> HeaderState
-    ensures { result ≡ header_after F.form state line.now }
+fn after_kept<R, F: FileForm<R>>(form: &F, state: HeaderState, line: &PaddedLine) -> HeaderState
+    ensures { result ≡ header_after (F.form form.now) state line.now }
 {
     match state {
         HeaderState::New => {
             if !is_navigation(line) {
                 HeaderState::NotRinexNav
-            } else if is_version::<F>(line) {
+            } else if is_version::<R, F>(form, line) {
                 HeaderState::Open
             } else {
                 HeaderState::OtherVersion
@@ -63,8 +63,12 @@ fn after_kept<F: FileForm>(state: HeaderState, line: &PaddedLine) -> HeaderState
 }
 
 /// The state of reading a header after one more line.
-pub(crate) fn header_after<F: FileForm>(state: HeaderState, line: &[u8]) -> HeaderState
-    ensures { result ≡ header_after F.form state line.now }
+pub(crate) fn header_after<R, F: FileForm<R>>(
+    form: &F,
+    state: HeaderState,
+    line: &[u8],
+) -> HeaderState
+    ensures { result ≡ header_after (F.form form.now) state line.now }
 {
-    after_kept::<F>(state, &padded(line))
+    after_kept::<R, F>(form, state, &padded(line))
 }

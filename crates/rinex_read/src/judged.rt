@@ -1,3 +1,6 @@
+ghost use Rattle.std.specs.Prelude.{◌≡◌};
+ghost use Rattle.rinex_read.specs.Forms.{read_at};
+
 use crate::reason::Reason;
 use nav_eph::NavItem;
 use nav_io::LineFault;
@@ -13,7 +16,7 @@ pub enum Judged {
     PassedOver,
 }
 
-/// What `next_item` reads after the header.
+/// What a record of a navigation file gives.
 #[derive(Clone, Copy, PartialEq, Eq)]
 pub enum ItemRead {
     /// A record that gives an item.
@@ -35,8 +38,17 @@ pub enum ItemRead {
         /// The number of its first line, counted from 1.
         line: u32,
     },
-    /// There is no further record.
-    End,
+}
+
+// What is read of a record that begins at this line.
+pub(crate) fn read_at(line: u32, judged: Judged) -> ItemRead
+    ensures { result ≡ read_at line judged }
+{
+    match judged {
+        Judged::Item(item) => ItemRead::Item { line, item },
+        Judged::Refused(reason) => ItemRead::Refused { line, reason },
+        Judged::PassedOver => ItemRead::PassedOver { line },
+    }
 }
 
 /// Why a header is not read.

@@ -2,16 +2,15 @@
 //! the theorem.
 
 ghost use Rattle.std.specs.Prelude.{◌≡◌, ℕ, ◌+◌, ◌^◌, ◌<◌, ◌++◌, [], List};
-ghost use Rattle.std.specs.Prelude.{Option, Err, Ok, true, length, map, take};
+ghost use Rattle.std.specs.Prelude.{Option, None, Err, Ok, true, length, map, take};
 ghost use Rattle.nav_io.specs.declared.lines.LineFault.{LineFault};
 ghost use Rattle.nav_io.specs.declared.lines.LineFault.TheVariants.{ReadFault, TooLong};
-ghost use Rattle.rinex_read.specs.declared.judged.ItemRead.{ItemRead};
-ghost use Rattle.rinex_read.specs.declared.judged.ItemRead.TheVariants.{End};
 ghost use Rattle.rinex_read.specs.Kept.{padded};
 ghost use Rattle.rinex_read.specs.States.{AreEarly, BreaksHeader, BreaksRecord, EarlySteps};
 ghost use Rattle.rinex_read.specs.States.{GivesRead, NearSteps};
 ghost use Rattle.rinex_read.specs.States.{HeaderSteps, IsNew, IsPaused, PassesHeader, RecordsState};
-ghost use Rattle.rinex_read.specs.States.{Steps, file_to_come, is_waiting, records_to_come};
+ghost use Rattle.rinex_read.specs.States.{Steps, file_to_come, is_waiting};
+ghost use Rattle.rinex_read.specs.Form3.{rinex3_list};
 ghost use Rattle.rinex_read.specs.Forms.{rinex4};
 ghost use Rattle.rinex_read.specs.declared.judged.HeaderFault.{HeaderFault};
 ghost use Rattle.rinex_read.specs.declared.judged.HeaderFault.TheVariants as faults;
@@ -22,13 +21,15 @@ ghost use Rattle.rinex_write.specs.declared.words.HeaderWords.{HeaderWords};
 ghost use Rattle.rinex_write.specs.Texts.{IsHeader, header_lines, item_lines, rinex_text, text_of};
 ghost use Rattle.rinex_read.specs.declared.judged.Judged.TheVariants as judgments;
 ghost use Rattle.rinex_read.specs.Judging.{judged};
-ghost use Rattle.rinex_read.specs.Files.{BeginWith, early_reads, file_reads, items_of, list_by};
-ghost use Rattle.rinex_read.specs.Files.{reads, rinex_list, whole_reads};
+ghost use Rattle.rinex_read.specs.Files.{BeginWith, early_reads, file_reads, items_of};
+ghost use Rattle.rinex_read.specs.Files.{rinex_list, whole_reads};
 ghost use Rattle.rinex_read.specs.declared.judged.HeaderState.TheVariants.{Passed};
 ghost use Rattle.rinex_read.specs.RoundTrip.{AllStand, AreHeaderLines, AreItems};
 ghost use Rattle.rinex_read.specs.RoundTrip.{StandFor, numbered, numbered_by};
 
-use crate::form::FileForm;
+use crate::form::{FileForm, Rinex4};
+use crate::form3::Rinex3;
+use crate::judged::ItemRead;
 
 /// The record that is written for an item is one version 4 record and gives that item, whatever
 /// lines follow.
@@ -43,10 +44,10 @@ pub fn header_lines_are_read()
 
 /// A file that is written from a header and records that give items is read as these items, each
 /// with its first line's number; no record is rejected or skipped.
-pub fn written_files_are_read<F: FileForm>()
+pub fn written_files_are_read<F: FileForm<ItemRead>>(form: &F)
     ensures { (header : List (List ℕ)) (write : NavItem → List (List ℕ)) (items : List NavItem)
-        → AreHeaderLines F.form header → AllStand F.form write items
-        → (file_reads F.form (text_of (header ++ flat_map write items))
+        → AreHeaderLines (F.form form.now) header → AllStand (F.form form.now) write items
+        → (file_reads (F.form form.now) (text_of (header ++ flat_map write items))
         ≡ Ok (numbered_by write (length header) items))
         × (items_of (numbered_by write (length header) items) ≡ items) }
 {}
@@ -64,14 +65,12 @@ pub fn items_are_whole()
 {}
 
 /// Each item of a file is consistent, each field within its width.
-pub fn listed_items_are_whole<F: FileForm>()
-    ensures list { (bytes : List ℕ) → AreItems (list_by F.form bytes) }
-    ensures records { (number : ℕ) (lines : List (List ℕ))
-        → AreItems (items_of (reads F.form number lines)) }
-    ensures to_come { (state : RecordsState) (following : List ℕ)
-        → AreItems (items_of (records_to_come F.form state following)) }
+pub fn listed_items_are_whole()
+    ensures list { (bytes : List ℕ) → AreItems (rinex_list bytes) }
+    ensures list3 { (bytes : List ℕ) → AreItems (rinex3_list bytes) }
 {
-    F::gives_items();
+    Rinex4.gives_whole();
+    Rinex3.gives_whole();
 }
 
 /// Of a record only the first nine lines and the first 80 characters of each matter; a shorter line
@@ -101,92 +100,92 @@ pub fn joined_files_are_read()
 {}
 
 /// From the first call on, what is still to be read is what the file gives, whatever bytes it has.
-pub fn readers_begin_with_the_file<F: FileForm>()
-    ensures { (s : RecordsState) (bytes : List ℕ) → IsNew s → file_to_come F.form s bytes
-        ≡ file_reads F.form bytes }
+pub fn readers_begin_with_the_file<R, F: FileForm<R>>(form: &F)
+    ensures { (s : RecordsState) (bytes : List ℕ) → IsNew s → file_to_come (F.form form.now) s bytes
+        ≡ file_reads (F.form form.now) bytes }
 {
-    F::looks_at_kept();
+    form.looks_at_kept();
 }
 
 /// Consecutive steps of a reader are one step.
-pub fn steps_compose<F: FileForm>()
+pub fn steps_compose<R, F: FileForm<R>>(form: &F)
     ensures none { (left : Option (List ℕ)) (state : RecordsState)
-        → Steps F.form left left state state [] }
+        → Steps (F.form form.now) left left state state [] }
     ensures records { (left middle left_new : Option (List ℕ)) (old now new : RecordsState)
-        (some more : List ItemRead) → Steps F.form left middle old now some
-        → Steps F.form middle left_new now new more
-        → Steps F.form left left_new old new (some ++ more) }
+        (some more : List R) → Steps (F.form form.now) left middle old now some
+        → Steps (F.form form.now) middle left_new now new more
+        → Steps (F.form form.now) left left_new old new (some ++ more) }
     ensures near_none { (left : Option (List ℕ)) (state : RecordsState)
-        → NearSteps F.form left left state state [] }
+        → NearSteps (F.form form.now) left left state state [] }
     ensures near { (left middle left_new : Option (List ℕ)) (old now new : RecordsState)
-        (some more : List ItemRead) → NearSteps F.form left middle old now some
-        → NearSteps F.form middle left_new now new more
-        → NearSteps F.form left left_new old new (some ++ more) }
+        (some more : List R) → NearSteps (F.form form.now) left middle old now some
+        → NearSteps (F.form form.now) middle left_new now new more
+        → NearSteps (F.form form.now) left left_new old new (some ++ more) }
     ensures early { (left middle left_new : Option (List ℕ)) (old now new : RecordsState)
-        (some more : List ItemRead) → NearSteps F.form left middle old now some
-        → EarlySteps F.form middle left_new now new more
-        → EarlySteps F.form left left_new old new (some ++ more) }
+        (some more : List R) → NearSteps (F.form form.now) left middle old now some
+        → EarlySteps (F.form form.now) middle left_new now new more
+        → EarlySteps (F.form form.now) left left_new old new (some ++ more) }
     ensures early_near { (left left_new : Option (List ℕ)) (old new : RecordsState)
-        (given : List ItemRead) → NearSteps F.form left left_new old new given
-        → EarlySteps F.form left left_new old new given }
+        (given : List R) → NearSteps (F.form form.now) left left_new old new given
+        → EarlySteps (F.form form.now) left left_new old new given }
     ensures header_none { (left : Option (List ℕ)) (state : RecordsState)
-        → HeaderSteps F.form left left state state }
+        → HeaderSteps (F.form form.now) left left state state }
     ensures header { (left middle left_new : Option (List ℕ)) (old now new : RecordsState)
-        → HeaderSteps F.form left middle old now → HeaderSteps F.form middle left_new now new
-        → HeaderSteps F.form left left_new old new }
+        → HeaderSteps (F.form form.now) left middle old now → HeaderSteps (F.form form.now) middle left_new now new
+        → HeaderSteps (F.form form.now) left left_new old new }
 {}
 
 /// A reader that has paused, as after a failed read, has given exactly the records that are
 /// complete in the bytes read: those after which another one begins, in a complete line.
-pub fn whole_records_are_given<F: FileForm>()
+pub fn whole_records_are_given<R, F: FileForm<R>>(form: &F)
     ensures records { (left middle left_new : Option (List ℕ)) (old now new : RecordsState)
-        (given : List ItemRead) → IsNew old → (header : PassesHeader F.form left middle old now)
-        → (steps : Steps F.form middle left_new now new given) → IsPaused new
-        → whole_reads F.form (header.steps.reads.taken ++ steps.reads.taken) ≡ Ok given }
+        (given : List R) → IsNew old → (header : PassesHeader (F.form form.now) left middle old now)
+        → (steps : Steps (F.form form.now) middle left_new now new given) → IsPaused new
+        → whole_reads (F.form form.now) (header.steps.reads.taken ++ steps.reads.taken) ≡ Ok given }
     ensures header { (left left_new : Option (List ℕ)) (old new : RecordsState) → IsNew old
-        → (steps : HeaderSteps F.form left left_new old new) → is_waiting new.header ≡ true
-        → IsPaused new → whole_reads F.form steps.reads.taken ≡ Err faults.NotRinexNav }
+        → (steps : HeaderSteps (F.form form.now) left left_new old new) → is_waiting new.header ≡ true
+        → IsPaused new → whole_reads (F.form form.now) steps.reads.taken ≡ Err faults.NotRinexNav }
 {
-    F::looks_at_kept();
+    form.looks_at_kept();
 }
 
 /// The records that are complete in all bytes taken but the last 4,096 were given, also if the
 /// reader broke off; before the end of a header there are none.
-pub fn early_records_are_given<F: FileForm>()
+pub fn early_records_are_given<R, F: FileForm<R>>(form: &F)
     ensures records { (left middle left_new : Option (List ℕ)) (old now new : RecordsState)
-        (given : List ItemRead) → IsNew old → (header : PassesHeader F.form left middle old now)
-        → (steps : Steps F.form middle left_new now new given)
+        (given : List R) → IsNew old → (header : PassesHeader (F.form form.now) left middle old now)
+        → (steps : Steps (F.form form.now) middle left_new now new given)
         → AreEarly now.lines steps.reads.taken steps.lines
-        → BeginWith given (early_reads F.form (header.steps.reads.taken ++ steps.reads.taken)) }
+        → BeginWith given (early_reads (F.form form.now) (header.steps.reads.taken ++ steps.reads.taken)) }
     ensures header { (left left_new : Option (List ℕ)) (old new : RecordsState) → IsNew old
-        → (steps : HeaderSteps F.form left left_new old new)
+        → (steps : HeaderSteps (F.form form.now) left left_new old new)
         → AreEarly old.lines steps.reads.taken steps.lines → (new.header ≡ Passed → ⊥)
-        → early_reads F.form steps.reads.taken ≡ [] }
+        → early_reads (F.form form.now) steps.reads.taken ≡ [] }
 {
-    F::looks_at_kept();
+    form.looks_at_kept();
 }
 
 /// After the end each further call gives the end again.
-pub fn the_end_stays<F: FileForm>()
-    ensures read { (read : ItemRead) (left left_new : Option (List ℕ)) (old new : RecordsState)
+pub fn the_end_stays<R, F: FileForm<R>>(form: &F)
+    ensures read { (read : Option R) (left left_new : Option (List ℕ)) (old new : RecordsState)
         → old.kept ≡ [] → old.lines.rest ≡ [] → old.lines.ended ≡ true
-        → GivesRead F.form read left left_new old new → read ≡ End }
+        → GivesRead (F.form form.now) read left left_new old new → read ≡ None }
     ensures fault { (fault : LineFault) (left left_new : Option (List ℕ)) (old new : RecordsState)
         → old.lines.ended ≡ true → old.lines.taken < 2 ^ 32
-        → BreaksRecord F.form left left_new old new fault → ⊥ }
+        → BreaksRecord (F.form form.now) left left_new old new fault → ⊥ }
 {}
 
 /// Once there were too many bytes, each further call gives `TooLong`.
-pub fn too_many_bytes_stay_too_many<F: FileForm>()
-    ensures read { (read : ItemRead) (left left_new : Option (List ℕ)) (old new : RecordsState)
-        → old.lines.taken ≡ 2 ^ 32 → GivesRead F.form read left left_new old new → ⊥ }
+pub fn too_many_bytes_stay_too_many<R, F: FileForm<R>>(form: &F)
+    ensures read { (read : Option R) (left left_new : Option (List ℕ)) (old new : RecordsState)
+        → old.lines.taken ≡ 2 ^ 32 → GivesRead (F.form form.now) read left left_new old new → ⊥ }
     ensures fault { (left left_new : Option (List ℕ)) (old new : RecordsState)
-        → old.lines.taken ≡ 2 ^ 32 → BreaksRecord F.form left left_new old new ReadFault → ⊥ }
+        → old.lines.taken ≡ 2 ^ 32 → BreaksRecord (F.form form.now) left left_new old new ReadFault → ⊥ }
     ensures header { (left left_new : Option (List ℕ)) (old new : RecordsState)
         → old.lines.taken ≡ 2 ^ 32 → is_waiting old.header ≡ true
-        → PassesHeader F.form left left_new old new → ⊥ }
+        → PassesHeader (F.form form.now) left left_new old new → ⊥ }
     ensures refused { (fault : HeaderFault) (left left_new : Option (List ℕ))
         (old new : RecordsState)
         → old.lines.taken ≡ 2 ^ 32 → is_waiting old.header ≡ true
-        → BreaksHeader F.form left left_new old new fault → fault ≡ faults.Line TooLong }
+        → BreaksHeader (F.form form.now) left left_new old new fault → fault ≡ faults.Line TooLong }
 {}

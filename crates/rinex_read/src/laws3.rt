@@ -35,5 +35,5 @@ pub fn files3_are_read()
         → file_reads rinex3 (rinex3_text h items) ≡ Ok (numbered_by item3_lines 4
         (ephemerides items)) }
 {
-    crate::laws::written_files_are_read::<Rinex3>();
+    crate::laws::written_files_are_read(&Rinex3);
 }

@@ -47,11 +47,11 @@ pub(crate) fn stands_at(line: &PaddedLine, place: usize, text: &[u8]) -> bool
 }
 
 /// The line begins a record of the format.
-pub(crate) fn begins<F: FileForm>(line: &[u8]) -> bool
-    ensures { result ≡ begins F.form line.now }
+pub(crate) fn begins<R, F: FileForm<R>>(form: &F, line: &[u8]) -> bool
+    ensures { result ≡ begins (F.form form.now) line.now }
 {
     match line {
-        [first, ..] => F::starts(*first),
-        [] => F::starts(b' '),
+        [first, ..] => form.starts(*first),
+        [] => form.starts(b' '),
     }
 }

@@ -1,10 +1,10 @@
 //! The lines of a record, and how it is judged.
 
 ghost use Rattle.std.specs.Prelude.{◌≡◌, ◌↔◌, ◌∷◌};
-ghost use Rattle.std.specs.Prelude.{◌++◌, [], List, ℕ, IsTrue};
+ghost use Rattle.std.specs.Prelude.{◌++◌, [], List, ℕ, IsTrue, map, take};
 ghost use Rattle.rinex_read.specs.Judging.{galileo_ionosphere_read, galileo_read};
 ghost use Rattle.rinex_read.specs.Judging.{gps_ionosphere_read, gps_read, judged, outcome};
-ghost use Rattle.rinex_read.specs.Kept.{kept_with};
+ghost use Rattle.rinex_read.specs.Kept.{kept_with, padded};
 
 use crate::items::{galileo_ionosphere_item, galileo_item, gps_ionosphere_item, gps_item};
 use crate::judged::Judged;
@@ -26,13 +26,15 @@ pub struct RecordLines {
 }
 
 impl Model for RecordLines {
-    ghost use Rattle.std.specs.Prelude.{ℕ, ◌≤◌, List, take};
+    ghost use Rattle.std.specs.Prelude.{ℕ, ◌≡◌, ◌≤◌, List, map, take};
+    ghost use Rattle.rinex_read.specs.Kept.{padded};
 
     ghost Value = { List (List ℕ) };
 
     ghost view = { λ r. take r.count r.lines };
 
-    ghost invariant = { λ r. r.count ≤ 9 };
+    ghost invariant = { λ r. (r.count ≤ 9)
+        × (map padded (take r.count r.lines) ≡ take r.count r.lines) };
 }
 
 // The GPS ephemeris of a record.
@@ -151,6 +153,13 @@ impl RecordLines {
         ensures { result.now ≡ self.now }
     {
         &self.lines[..self.count]
+    }
+
+    /// The stored lines would be stored as they are. It does nothing; its contract is the theorem.
+    pub fn are_kept(&self)
+        ensures { map padded (take 9 self.now) ≡ self.now }
+    {
+        let _kept = &self.lines[..self.count];
     }
 
     /// Judges the lines after this title, as [`judge`](RecordLines::judge) does a record with that

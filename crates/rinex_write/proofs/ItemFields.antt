@@ -1,5 +1,5 @@
 -- The fields of items are in the ranges of their columns, and their texts can be written.
-use Rattle.std.proofs.Common.{◌≡◌, ℕ, ◌-◌, ◌^◌, ◌<◌, ◌≤◌, ◌&&◌, ◌||◌, not, ◌⊎◌, nat_le, int_le, Bool, true, List, [], ◌∷◌, refl, ◌∙◌, ap, inl, inr, arith, ℤ, pos, negsuc, neg_ℤ, ◌≤ℤ◌, FitsSigned, w64, to_z, of_z, rules, false, map, length, lit<, lit≤}
+use Rattle.std.proofs.Common.{◌≡◌, ℕ, ◌-◌, ◌^◌, ◌<◌, ◌≤◌, ◌&&◌, ◌||◌, not, ◌⊎◌, nat_le, int_le, Bool, true, List, [], ◌∷◌, refl, sym, subst, ◌∙◌, ap, inl, inr, arith, ℤ, pos, negsuc, neg_ℤ, ◌≤ℤ◌, FitsSigned, w64, to_z, of_z, rules, false, map, length, lit<, lit≤}
 use lib.Signed.{mag}
 use Rattle.std.proofs.lemmas.Int.{ints, to_z-of_z}
 use Rattle.std.proofs.lemmas.Bool.Decides.{nat_tests}
@@ -19,10 +19,10 @@ use Rattle.nav_eph.specs.declared.galileo.GalHealth.{GalHealth}
 use Rattle.nav_eph.specs.Bodies.{IsGalHealth, IsGpsIon, IsGalIon}
 use Rattle.nav_eph.specs.Ranges.{HasGpsRanges, HasGalRanges, IsItem}
 use Rattle.rinex_write.specs.declared.columns.Rule.{Rule}
-use Rattle.rinex_write.specs.declared.columns.Rule.TheVariants.{Plain, OrZero, OrLeast, Ura, Sisa, Fit, Sent, Unread}
+use Rattle.rinex_write.specs.declared.columns.Rule.TheVariants.{Plain, OrZero, OrLeast, OrUnknown, Ura, Sisa, Fit, Sent, Unread}
 use Rattle.rinex_write.specs.declared.columns.Column.{Column}
 use Rattle.rinex_write.specs.Accuracies.{health_of}
-use Rattle.rinex_write.specs.Columns.{AreFields, IsField, joined_rows, is_good_scale, is_near_scale, is_far_scale, is_good_range, is_good_rule, are_good}
+use Rattle.rinex_write.specs.Columns.{AreFields, IsField, joined_rows, is_good_scale, is_near_scale, is_far_scale, is_good_range, is_below_unknown, is_good_rule, are_good}
 use Rattle.rinex_write.specs.Layouts.{gps_rows, galileo_rows, gps_ionosphere_rows, galileo_ionosphere_rows}
 use Rattle.rinex_write.specs.Fields.{sent_field, gps_fields, galileo_fields, gps_ionosphere_fields, galileo_ionosphere_fields}
 use Rattle.rinex_write.specs.Mirrors.{IsSmall, IsWritable, AreReady, IsKept, AreKept, IsTable}
@@ -189,25 +189,27 @@ small_within low high z e h k =
     let r = good_range low high e in
     small_between z (omega (arith, ints, r.0)) (omega (arith, ints, r.1))
 
-kept_writable : (r : Rule) (z : ℤ) → is_good_rule r ≡ true → IsKept IsSmall r z → IsWritable r z
-kept_writable (Plain low high) z e h = small_within low high z e h.0 h.1
-kept_writable (OrZero low high) z e h = small_within low high z e h.0 h.1
-kept_writable (OrLeast low high) z e h = small_within low high z e h.0 h.1
-kept_writable Ura z e h = h
-kept_writable Sisa z e (inl h) = (h.0, omega (arith, ints, h.1))
-kept_writable Sisa z e (inr h) = (omega (arith, ints), omega (arith, ints))
-kept_writable Fit z e h = h
-kept_writable Sent z e h = h
-kept_writable (Unread n) z e h = let r = good_range n n e in small_between n r.0 r.1
+kept_writable : (s : Scale) (r : Rule) (z : ℤ) → is_good_rule s r ≡ true → IsKept IsSmall r z → IsWritable r z
+kept_writable s (Plain low high) z e h = small_within low high z e h.0 h.1
+kept_writable s (OrZero low high) z e h = small_within low high z e h.0 h.1
+kept_writable s (OrLeast low high) z e h = small_within low high z e h.0 h.1
+kept_writable s (OrUnknown low high) z e (inl h) = small_within low high z (both (is_good_range low high) (is_below_unknown s high) e).0 h.0 h.1
+kept_writable s (OrUnknown low high) z e (inr h) = subst IsSmall (sym h) (lit≤ tt)
+kept_writable s Ura z e h = h
+kept_writable s Sisa z e (inl h) = (h.0, omega (arith, ints, h.1))
+kept_writable s Sisa z e (inr h) = (omega (arith, ints), omega (arith, ints))
+kept_writable s Fit z e h = h
+kept_writable s Sent z e h = h
+kept_writable s (Unread n) z e h = let r = good_range n n e in small_between n r.0 r.1
 
 -- a field in the range of a good column can be written
 pub kept_ready : (cs : List Column) (zs : List ℤ) → are_good cs ≡ true → AreKept IsSmall cs zs → AreReady cs zs
 kept_ready [] zs e h = tt
 kept_ready (c ∷ cs) [] e h = h
 kept_ready (c ∷ cs) (z ∷ zs) e h =
-    let good = both (is_good_scale c.scale && is_good_rule c.rule) (are_good cs) e in
-    let own = both (is_good_scale c.scale) (is_good_rule c.rule) good.0 in
-    (record { scale = good_scale c.scale own.0; field = kept_writable c.rule z own.1 h.0 }, kept_ready cs zs good.1 h.1)
+    let good = both (is_good_scale c.scale && is_good_rule c.scale c.rule) (are_good cs) e in
+    let own = both (is_good_scale c.scale) (is_good_rule c.scale c.rule) good.0 in
+    (record { scale = good_scale c.scale own.0; field = kept_writable c.scale c.rule z own.1 h.0 }, kept_ready cs zs good.1 h.1)
 
 pub good_gps : are_good (joined_rows gps_rows) ≡ true
 unfolding gps_rows

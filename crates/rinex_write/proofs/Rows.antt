@@ -5,16 +5,17 @@ use Rattle.scaled_decimal.specs.NumberText.{number_text}
 use Rattle.scaled_decimal.proofs.Surface.{length-number_text}
 use Rattle.rinex_write.specs.declared.columns.Column.{Column}
 use Rattle.rinex_write.specs.declared.columns.Rule.TheVariants.{Plain}
-use Rattle.rinex_write.specs.Columns.{blanks, column_text, is_blank, row_text, shown}
+use Rattle.rinex_write.specs.Columns.{blanks, column_text, is_blank, is_unknown, row_text, shown, unknown_text}
 use Rattle.rinex_write.specs.Mirrors.{IsReady, AreReady, RowSoFar}
 
-length_by : (b : Bool) (text : List ℕ) → length text ≡ 19 → length (if b then blanks else text) ≡ 19
-length_by true text e = refl
-length_by false text e = e
+length_by : (a b : Bool) (text : List ℕ) → length text ≡ 19 → length (if a then blanks else if b then unknown_text else text) ≡ 19
+length_by true b text e = refl
+length_by false true text e = refl
+length_by false false text e = e
 
 -- each column has 19 characters
 pub length-column_text : (c : Column) (z : ℤ) → length (column_text c z) ≡ 19
-length-column_text c z = length_by (is_blank c.rule z) (number_text (size_of c.scale) (shown c.rule z)) (length-number_text (size_of c.scale) (shown c.rule z))
+length-column_text c z = length_by (is_blank c.rule z) (is_unknown c.rule z) (number_text (size_of c.scale) (shown c.rule z)) (length-number_text (size_of c.scale) (shown c.rule z))
 
 -- there are at least as many fields as columns
 pub enough_fields : (cs : List Column) (zs : List ℤ) → AreReady cs zs → length cs ≤ length zs

@@ -14,7 +14,7 @@ use Rattle.nav_eph.specs.declared.items.NavItem.{NavItem}
 use Rattle.nav_eph.specs.declared.items.NavItem.TheVariants.{Gps as GpsItem, Gal as GalItem, Ion as IonItem}
 use Rattle.rinex_write.specs.declared.columns.Column.{Column}
 use Rattle.rinex_write.specs.declared.words.HeaderWords.{HeaderWords}
-use Rattle.rinex_write.specs.Columns.{blanks, column_text, is_blank, shown, row_text, row_lines}
+use Rattle.rinex_write.specs.Columns.{blanks, column_text, is_blank, is_unknown, shown, row_text, row_lines, unknown_text}
 use Rattle.rinex_write.specs.Layouts.{Kind, gps_kind, galileo_kind, gps_ionosphere_kind, galileo_ionosphere_kind}
 use Rattle.rinex_write.specs.Fields.{gps_fields, galileo_fields, gps_ionosphere_fields, galileo_ionosphere_fields, gps_epoch, galileo_epoch}
 use Rattle.rinex_write.specs.Texts.{text_of, letter_of, satellite_text, date_text, title_line, ionosphere_lines, ionosphere_title, ionosphere_body, item_lines, title_of, body_lines, leap_text, header_lines_by, IsHeader, AreLines, NoneTitled, begins_record}
@@ -31,12 +31,21 @@ spaces_shown : (n : ℕ) → AreShown (replicate n 32)
 spaces_shown zero = tt
 spaces_shown (suc n) = (omega arith, spaces_shown n)
 
-shown_or_blank : (b : Bool) (text : List ℕ) → AreShown text → AreShown (if b then blanks else text)
-shown_or_blank true text h = spaces_shown 19
-shown_or_blank false text h = h
+abbrev are_shown : List ℕ → Bool
+are_shown [] = true
+are_shown (c ∷ cs) = nat_le 32 c && are_shown cs
+
+shown_by : (l : List ℕ) → are_shown l ≡ true → AreShown l
+shown_by [] h = tt
+shown_by (c ∷ cs) h = let both = and_parts (nat_le 32 c) (are_shown cs) h in (leb-true 32 c both.0, shown_by cs both.1)
+
+shown_or_set : (a b : Bool) (text : List ℕ) → AreShown text → AreShown (if a then blanks else if b then unknown_text else text)
+shown_or_set true b text h = spaces_shown 19
+shown_or_set false true text h = shown_by unknown_text refl
+shown_or_set false false text h = h
 
 column_shown : (c : Column) (z : ℤ) → AreShown (column_text c z)
-column_shown c z = shown_or_blank (is_blank c.rule z) (number_text (size_of c.scale) (shown c.rule z)) (AreShown-number_text (size_of c.scale) (shown c.rule z))
+column_shown c z = shown_or_set (is_blank c.rule z) (is_unknown c.rule z) (number_text (size_of c.scale) (shown c.rule z)) (AreShown-number_text (size_of c.scale) (shown c.rule z))
 
 -- each byte of a row is at least 32
 row_shown : (cs : List Column) (zs : List ℤ) → AreShown (row_text cs zs)
@@ -254,14 +263,6 @@ record_cut i text e =
     (omega (arith, length-title_of i), ap (drop 15) whole ∙ drop_line 14 (title_of i) (text_of (body_lines i)) (length-title_of i))
 
 -- the header
-abbrev are_shown : List ℕ → Bool
-are_shown [] = true
-are_shown (c ∷ cs) = nat_le 32 c && are_shown cs
-
-shown_by : (l : List ℕ) → are_shown l ≡ true → AreShown l
-shown_by [] h = tt
-shown_by (c ∷ cs) h = let both = and_parts (nat_le 32 c) (are_shown cs) h in (leb-true 32 c both.0, shown_by cs both.1)
-
 leap_shown : (n : ℕ) → AreShown (leap_text n)
 leap_shown n = (tens (nat_lt n 10), (digit_shown _, tt))
   where

@@ -1,18 +1,23 @@
 -- Numbers in columns: which number is written for a field, and the lines of a table of columns.
-use Rattle.std.specs.Prelude.{◌≡◌, ℕ, ◌⊎◌, ◌&&◌, ◌||◌, not, nat_le, Bool, true, false, if◌then◌else◌, replicate, List, [], ◌∷◌, ◌++◌, length, drop, codes, ℤ, pos, negsuc, ◌≤ℤ◌, int_le, unsigned_abs, get_or}
+use Rattle.std.specs.Prelude.{◌≡◌, ℕ, ◌⊎◌, ◌&&◌, ◌||◌, not, nat_le, Bool, true, false, if◌then◌else◌, replicate, List, [], ◌∷◌, ◌++◌, length, drop, codes, ℤ, pos, negsuc, ◌≤ℤ◌, int_le, int_lt, unsigned_abs, get_or}
 use Rattle.scaled_decimal.specs.declared.scales.Scale.{Scale}
 use Rattle.scaled_decimal.specs.ScaleValue.{size_of}
 use Rattle.scaled_decimal.specs.NumberText.{number_text}
 use Rattle.rinex_write.specs.declared.columns.Rule.{Rule}
-use Rattle.rinex_write.specs.declared.columns.Rule.TheVariants.{Plain, OrZero, OrLeast, Ura, Sisa, Fit, Sent, Unread}
+use Rattle.rinex_write.specs.declared.columns.Rule.TheVariants.{Plain, OrZero, OrLeast, OrUnknown, Ura, Sisa, Fit, Sent, Unread}
 use Rattle.rinex_write.specs.declared.columns.Column.{Column}
 use Rattle.rinex_write.specs.Accuracies.{ura_nominal, sisa_nominal, fit_hours}
+
+-- a number that is not known, as an integer of its column
+abbrev pub not_known : ℤ
+not_known = pos 999999999
 
 -- the number that is written for a field
 abbrev pub shown : Rule → ℤ → ℤ
 shown (Plain low high) z = z
 shown (OrZero low high) z = z
 shown (OrLeast low high) z = z
+shown (OrUnknown low high) z = z
 shown Ura z = pos (get_or ura_nominal (unsigned_abs z) 0)
 shown Sisa z = sisa_nominal (unsigned_abs z)
 shown Fit z = pos (fit_hours (unsigned_abs z))
@@ -24,6 +29,7 @@ abbrev pub IsField : Rule → ℤ → Type 0
 IsField (Plain low high) z = (low ≤ℤ z) × (z ≤ℤ high)
 IsField (OrZero low high) z = (low ≤ℤ z) × (z ≤ℤ high)
 IsField (OrLeast low high) z = (low ≤ℤ z) × (z ≤ℤ high)
+IsField (OrUnknown low high) z = ((low ≤ℤ z) × (z ≤ℤ high)) ⊎ (z ≡ not_known)
 IsField Ura z = (pos 0 ≤ℤ z) × (z ≤ℤ pos 15)
 IsField Sisa z = ((pos 0 ≤ℤ z) × (z ≤ℤ pos 125)) ⊎ (z ≡ pos 255)
 IsField Fit z = (pos 0 ≤ℤ z) × (z ≤ℤ pos 1)
@@ -46,9 +52,21 @@ is_blank rule z = false
 abbrev pub blanks : List ℕ
 blanks = replicate 19 32
 
+-- whether a field is a number that is not known
+abbrev pub is_unknown : Rule → ℤ → Bool
+is_unknown (OrUnknown low high) z = int_le not_known z
+is_unknown rule z = false
+
+-- the text of a number that is not known
+abbrev pub unknown_text : List ℕ
+unknown_text = codes " 9.999999999990D+08"
+
 -- the text of a field
 abbrev pub column_text : Column → ℤ → List ℕ
-column_text c z = if is_blank c.rule z then blanks else number_text (size_of c.scale) (shown c.rule z)
+column_text c z =
+    if is_blank c.rule z then blanks
+    else if is_unknown c.rule z then unknown_text
+    else number_text (size_of c.scale) (shown c.rule z)
 
 -- the texts of a row of fields, concatenated
 abbrev pub row_text : List Column → List ℤ → List ℕ
@@ -85,17 +103,22 @@ is_good_scale s = is_near_scale s || is_far_scale s
 abbrev pub is_good_range : ℤ → ℤ → Bool
 is_good_range low high = int_le (negsuc 4294967294) low && int_le high (pos 4294967295)
 
-abbrev pub is_good_rule : Rule → Bool
-is_good_rule (Plain low high) = is_good_range low high
-is_good_rule (OrZero low high) = is_good_range low high
-is_good_rule (OrLeast low high) = is_good_range low high
-is_good_rule Ura = true
-is_good_rule Sisa = true
-is_good_rule Fit = true
-is_good_rule Sent = true
-is_good_rule (Unread n) = is_good_range n n
+-- the unit is at most 1, and the range ends before 999,999,999
+abbrev pub is_below_unknown : Scale → ℤ → Bool
+is_below_unknown s high = nat_le (size_of s).over (size_of s).under && int_lt high not_known
+
+abbrev pub is_good_rule : Scale → Rule → Bool
+is_good_rule s (Plain low high) = is_good_range low high
+is_good_rule s (OrZero low high) = is_good_range low high
+is_good_rule s (OrLeast low high) = is_good_range low high
+is_good_rule s (OrUnknown low high) = is_good_range low high && is_below_unknown s high
+is_good_rule s Ura = true
+is_good_rule s Sisa = true
+is_good_rule s Fit = true
+is_good_rule s Sent = true
+is_good_rule s (Unread n) = is_good_range n n
 
 -- each number of these columns can be written and read back
 abbrev pub are_good : List Column → Bool
 are_good [] = true
-are_good (c ∷ cs) = is_good_scale c.scale && is_good_rule c.rule && are_good cs
+are_good (c ∷ cs) = is_good_scale c.scale && is_good_rule c.scale c.rule && are_good cs

@@ -2,7 +2,7 @@
 use Rattle.std.specs.Prelude.{◌≡◌, ℕ, ◌+◌, ◌*◌, ◌<◌, ◌≤◌, ◌++◌, List, [], ◌∷◌, length, sum, take, drop, codes, ℤ, pos, ◌≤ℤ◌, unsigned_abs}
 use Rattle.scaled_decimal.specs.ScaleValue.{IsAccepted}
 use Rattle.rinex_write.specs.declared.columns.Rule.{Rule}
-use Rattle.rinex_write.specs.declared.columns.Rule.TheVariants.{Plain, OrZero, OrLeast, Ura, Sisa, Fit, Sent, Unread}
+use Rattle.rinex_write.specs.declared.columns.Rule.TheVariants.{Plain, OrZero, OrLeast, OrUnknown, Ura, Sisa, Fit, Sent, Unread}
 use Rattle.rinex_write.specs.declared.columns.Column.{Column}
 use Rattle.rinex_write.specs.Columns.{IsField, row_text}
 
@@ -15,6 +15,7 @@ abbrev pub IsWritable : Rule → ℤ → Type 0
 IsWritable (Plain low high) z = IsSmall z
 IsWritable (OrZero low high) z = IsSmall z
 IsWritable (OrLeast low high) z = IsSmall z
+IsWritable (OrUnknown low high) z = IsSmall z
 IsWritable Ura z = (pos 0 ≤ℤ z) × (z ≤ℤ pos 15)
 IsWritable Sisa z = (pos 0 ≤ℤ z) × (z ≤ℤ pos 255)
 IsWritable Fit z = (pos 0 ≤ℤ z) × (z ≤ℤ pos 1)
@@ -53,6 +54,7 @@ abbrev pub IsKept : (ℤ → Type 0) → Rule → ℤ → Type 0
 IsKept P (Plain low high) z = IsField (Plain low high) z
 IsKept P (OrZero low high) z = IsField (OrZero low high) z
 IsKept P (OrLeast low high) z = IsField (OrLeast low high) z
+IsKept P (OrUnknown low high) z = IsField (OrUnknown low high) z
 IsKept P Ura z = IsField Ura z
 IsKept P Sisa z = IsField Sisa z
 IsKept P Fit z = IsField Fit z

@@ -1,5 +1,8 @@
 use scaled_decimal::Scale;
 
+/// A number that is not known, as the field of a column of [`Rule::OrUnknown`].
+pub const NOT_KNOWN: i64 = 999_999_999;
+
 /// How a field and the number in its column correspond.
 ///
 /// A field is an integer: the raw value of a parameter as transmitted, an accuracy index, the fit
@@ -22,6 +25,14 @@ pub enum Rule {
     },
     /// As `Plain`, and the least is a blank column.
     OrLeast {
+        /// The least.
+        low: i64,
+        /// The greatest.
+        high: i64,
+    },
+    /// As `Plain`, or [`NOT_KNOWN`], which is read from a blank column and, in units of 1, from any
+    /// number from 999,999,999 on.
+    OrUnknown {
         /// The least.
         low: i64,
         /// The greatest.

@@ -68,6 +68,16 @@ macro_rules! least_signed {
     };
 }
 
+// The same where the number can be not known.
+macro_rules! or_unknown {
+    ($low:expr, $high:expr) => {
+        Rule::OrUnknown {
+            low: $low,
+            high: $high,
+        }
+    };
+}
+
 macro_rules! unread {
     ($number:literal) => {
         Rule::Unread { number: $number }
@@ -281,10 +291,10 @@ pub const FDMA: [Column; 19] = [
     power!(-20, range!(-8_388_607, 8_388_607)), // z_velocity
     power!(-30, range!(-15, 15)), // z_acceleration
     steps!(1, unsigned!(5)), // age
-    steps!(1, flags!(9)), // status_flags
-    power!(-30, or_zero!(-15, 15)), // delta_tau
-    steps!(1, flags!(4)), // urai
-    steps!(1, flags!(3)), // health_flags
+    steps!(1, or_unknown!(0, 511)), // status_flags
+    power!(-30, or_unknown!(-15, 15)), // delta_tau
+    steps!(1, or_unknown!(0, 15)), // urai
+    steps!(1, or_unknown!(0, 7)), // health_flags
 ];
 
 /// How many columns each of its lines has.

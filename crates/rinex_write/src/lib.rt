@@ -37,7 +37,7 @@ mod row;
 mod words;
 mod write3;
 
-pub use crate::columns::{Column, Rule};
+pub use crate::columns::{Column, NOT_KNOWN, Rule};
 pub use crate::header::{write_header, write_header_of};
 pub use crate::item::{epoch_of, write_body, write_item};
 pub use crate::laws::{

@@ -50,7 +50,8 @@ pub(crate) fn field_number(rule: &Rule, field: i64) -> i64
     ensures small { IsSmall result }
 {
     match rule {
-        Rule::Plain { .. } | Rule::OrZero { .. } | Rule::OrLeast { .. } | Rule::Sent => field,
+        Rule::Plain { .. } | Rule::OrZero { .. } => field,
+        Rule::OrLeast { .. } | Rule::OrUnknown { .. } | Rule::Sent => field,
         Rule::Ura => ura(field as usize),
         Rule::Sisa => sisa(field as u64),
         Rule::Fit => { if field == 0 { 4 } else { 6 } }

@@ -6,12 +6,13 @@ ghost use Rattle.std.specs.Prelude.{◌++◌, [], length, take, drop, codes, sum
 ghost use Rattle.arrayvec.specs.ArrayVec.{array_vec_len};
 ghost use Rattle.scaled_decimal.specs.NumberText.{digits};
 ghost use Rattle.rinex_write.specs.declared.columns.Column.{Column as TableColumn};
-ghost use Rattle.rinex_write.specs.Columns.{column_text, is_blank, joined_rows, row_lines};
+ghost use Rattle.rinex_write.specs.Columns.{column_text, is_blank, is_unknown, joined_rows};
+ghost use Rattle.rinex_write.specs.Columns.{row_lines};
 ghost use Rattle.rinex_write.specs.Columns.{row_text};
 ghost use Rattle.rinex_write.specs.Mirrors.{AreReady, IsReady, IsTable, rows_text};
 ghost use Rattle.rinex_write.specs.Texts.{date_text, letter_of, satellite_text, text_of};
 
-use crate::columns::{Column, Rule};
+use crate::columns::{Column, NOT_KNOWN, Rule};
 use crate::layouts::RecordLayout;
 use crate::numbers::field_number;
 use arrayvec::ArrayVec;
@@ -43,6 +44,16 @@ fn is_blank(rule: &Rule, field: i64) -> bool
     }
 }
 
+// Whether a field is a number that is not known.
+fn is_unknown(rule: &Rule, field: i64) -> bool
+    ensures { result ≡ is_unknown rule.now field }
+{
+    match rule {
+        Rule::OrUnknown { .. } => field >= NOT_KNOWN,
+        _ => false,
+    }
+}
+
 // The text of a field.
 fn column_text(column: &Column, field: i64) -> [u8; 19]
     requires { IsReady column.now field }
@@ -50,6 +61,9 @@ fn column_text(column: &Column, field: i64) -> [u8; 19]
 {
     if is_blank(&column.rule, field) {
         return [b' '; 19];
+    }
+    if is_unknown(&column.rule, field) {
+        return *b" 9.999999999990D+08";
     }
     print(field_number(&column.rule, field), &column.scale)
 }

@@ -1,5 +1,6 @@
 //! Tests of the runs, each over memory: what a capture's lines yield, captures, streams, navigation
-//! files, archives of them, generated captures, and the captures that are sent.
+//! files, archives of them, those of all systems, generated captures, and the captures that are
+//! sent.
 //!
 //! They see what those crates hand out to everyone.
 #![tactic(auto)]
@@ -20,5 +21,7 @@ mod page_send_tests;
 mod seed_runs_tests;
 #[cfg(test)]
 mod send_runs_tests;
+#[cfg(test)]
+mod system_file_tests;
 #[cfg(test)]
 mod times;

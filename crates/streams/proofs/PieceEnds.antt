@@ -15,8 +15,7 @@ use Rattle.streams.specs.Mirrors.{BeginsFlushed, GivenState, IsStreamFault, Stre
 use Rattle.streams.proofs.DecidedLemmas.{decided_behind, decided_waiting}
 use Rattle.streams.proofs.MoveLemmas.{moves_fed, moves_on, stops_on}
 use Rattle.streams.proofs.PieceLemmas.{PiecesSoFar}
-use Rattle.one_run.proofs.Surface.{whole_prefix}
-use Rattle.streams.proofs.StreamLemmas.{between_whole}
+use Rattle.one_run.proofs.Surface.{between_whole}
 
 -- frames that are taken whatever follows are taken where nothing follows
 pub moves_last : (r : ℕ) (prefix : List ℕ) (text : NavItem → List ℕ) (a b : List ℕ) (w w1 u u1 : Option (List ℕ)) (g g1 : GivenState) (c c1 : StreamCounts)
@@ -43,7 +42,7 @@ broke_whole : (r : ℕ) (prefix : List ℕ) (text : NavItem → List ℕ) (past 
     → StreamSoFar r prefix text past w w1 u u1 g c → StreamBroke r prefix text past past w w1 u u1
 broke_whole r prefix text past w w1 u u1 g c far = record {
   output = between_whole w w1 (readings_output prefix text (readings r past)) far.output;
-  report = whole_prefix u u1 (readings_report 1 (readings r past)) far.report;
+  report = between_whole u u1 (readings_report 1 (readings r past)) far.report;
 }
 
 stops_of_moves : (r : ℕ) (prefix : List ℕ) (text : NavItem → List ℕ) (more : Bool) (a b : List ℕ) (w w1 u u1 : Option (List ℕ)) (g g1 : GivenState) (c c1 : StreamCounts)

@@ -8,14 +8,13 @@ use Rattle.rtcm_frame.specs.Frames.{decided, frames, undecided}
 use Rattle.rtcm_frame.specs.State.{DeframerState, IsWaiting}
 use Rattle.outlets.specs.Targets.{prefix_text, item_text}
 use Rattle.one_run.specs.declared.fault.BridgeFault.{BridgeFault}
-use Rattle.one_run.proofs.Surface.{prefix_behind, prefix_longer, prefix_same, prefix_within, whole_prefix}
+use Rattle.one_run.proofs.Surface.{between_whole, between_within, prefix_behind, prefix_longer, prefix_of, prefix_same, prefix_within}
 use Rattle.streams.specs.declared.counts.StreamCounts.{StreamCounts}
 use Rattle.streams.specs.Streams.{Reading, counts_of_readings, flushed_output_by, readings, readings_output, readings_report, stream_counts, stream_counts_text, stream_output_by, stream_readings}
 use Rattle.streams.specs.Mirrors.{GivenState, StreamBroke, StreamMoves, StreamSoFar, StreamStops}
 use Rattle.streams.specs.Pushed.{IsBehind, IsCutShort, IsPushed, IsWhole, StreamRunState}
 use Rattle.streams.proofs.PieceEnds.{flushed_frames}
-use Rattle.streams.proofs.StreamEnds.{NoneGiven, begins, between_within, output_longer, readings_append, report_longer}
-use Rattle.streams.proofs.StreamLemmas.{between_whole}
+use Rattle.streams.proofs.StreamEnds.{NoneGiven, begins, output_longer, readings_append, report_longer}
 
 -- nothing is there that is none of all
 pub none_by : {T : Type 0} (o : Option T) → ((x : T) → o ≡ Some x → ⊥) → o ≡ None
@@ -101,7 +100,7 @@ cut s bytes whole first done some rest w w1 u u1 least most broke =
           broke.output;
       report = prefix_longer u u1 (readings_report 1 (stream_readings r whole)) (stream_counts_text (stream_counts r whole))
           (prefix_within u u1 (readings_report 1 (readings r some)) (readings_report 1 (stream_readings r whole))
-          (subst (λ (l : List Reading). IsPrefix (readings_report 1 (readings r some)) (readings_report 1 l)) (sym high) (report_longer 1 (readings r some) (readings r rest))) broke.report);
+          (subst (λ (l : List Reading). IsPrefix (readings_report 1 (readings r some)) (readings_report 1 l)) (sym high) (report_longer 1 (readings r some) (readings r rest))) (prefix_of u u1 _ _ broke.report));
     }
 
 -- nothing more was written
@@ -111,7 +110,7 @@ cut_before s bytes more w w1 u u1 stay old =
     cut s bytes (bytes ++ more) [] (decided bytes) (decided bytes) (frames (undecided bytes ++ more)) w w1 u u1 (sym (append-nil (decided bytes))) (stay bytes more)
     (record {
       output = between_whole w w1 (flushed_output_by (prefix_text s.to) (item_text s.to 0) s.week bytes) old.output;
-      report = whole_prefix u u1 (readings_report 1 (readings s.week (decided bytes))) old.report;
+      report = between_whole u u1 (readings_report 1 (readings s.week (decided bytes))) old.report;
     })
 
 -- a frame of the piece was not processed to its end

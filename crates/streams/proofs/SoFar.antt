@@ -13,7 +13,7 @@ use Rattle.one_run.specs.declared.fault.BridgeFault.TheVariants.{ReadFault, Writ
 use Rattle.one_run.specs.declared.fault.BridgeFault.{BridgeFault}
 use Rattle.one_run.specs.Causes.{HasItsCause}
 use Rattle.one_run.specs.Runs.{AppendsBetween, Broke, Done, IsAheadOf, Leaves, Says, World, faults_in}
-use Rattle.one_run.proofs.Surface.{ahead_at_end, ahead_by, no_prefix, none_failed, prefix_behind, prefix_of, prefix_trans, read_failed, whole_prefix, with_rest, write_failed}
+use Rattle.one_run.proofs.Surface.{ahead_at_end, ahead_by, between_whole, no_prefix, none_failed, prefix_behind, prefix_of, prefix_trans, read_failed, whole_prefix, with_rest, write_failed}
 use Rattle.streams.specs.declared.frame_run.FrameCounts.{FrameCounts}
 use Rattle.streams.specs.FrameLines.{frames_meaning, line_of}
 use Rattle.streams.specs.FrameRuns.{Goes, Breaks, least_of, output_of, flushed_of}
@@ -129,7 +129,7 @@ broke b a fault taken silent consumes text ahead cause says = record {
   taken = taken;
   consumes = consumes;
   text = text;
-  told = whole_prefix b.reported a.reported [] silent.told;
+  told = between_whole b.reported a.reported [] silent.told;
   ahead = ahead;
   no_counts = λ other. with_rest b.left a.left taken _ consumes (λ rest is. whole_prefix b.reported a.reported [] silent.told);
   cause = cause;

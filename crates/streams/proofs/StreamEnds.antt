@@ -14,11 +14,11 @@ use Rattle.one_run.specs.declared.fault.BridgeFault.TheVariants.{ReadFault, Writ
 use Rattle.one_run.specs.Causes.{HasItsCause, faults_of}
 use Rattle.one_run.specs.Runs.{AppendsBetween, Broke, Done, Leaves, Says, World, faults_in}
 use Rattle.streams.specs.declared.counts.StreamCounts.{StreamCounts}
-use Rattle.streams.specs.Streams.{Reading, counts_of_readings, has, items_of_readings, least_output_by, reading_report, readings, readings_output, readings_report, stream_counts, stream_counts_text, stream_meaning_by, stream_output_by, stream_readings, stream_report}
+use Rattle.streams.specs.Streams.{Reading, counts_of_readings, has, items_of_readings, least_output_by, least_report, reading_report, readings, readings_output, readings_report, stream_counts, stream_counts_text, stream_meaning_by, stream_output_by, stream_readings, stream_report}
 use Rattle.streams.specs.Mirrors.{BeginsFlushed, GivenState, NothingKept, StreamAll, StreamPart, StreamSoFar, StreamStops, is_given, once_text}
-use Rattle.one_run.proofs.Surface.{ahead_at_end, ahead_by, between, no_prefix, prefix_behind, prefix_longer, prefix_of, prefix_same, prefix_trans, prefix_within, report_failed, whole_prefix, with_rest, write_failed}
+use Rattle.one_run.proofs.Surface.{ahead_at_end, ahead_by, between, between_behind, between_whole, between_within, no_prefix, prefix_longer, prefix_of, prefix_same, prefix_trans, prefix_within, report_failed, whole_prefix, with_rest, write_failed}
 use Rattle.streams.proofs.KnownLemmas.{none_known}
-use Rattle.streams.proofs.StreamLemmas.{between_whole, output_fault, output_item}
+use Rattle.streams.proofs.StreamLemmas.{output_fault, output_item}
 
 -- ---- the readings of more frames begin with those of fewer
 
@@ -46,15 +46,6 @@ output_longer prefix text (y ∷ ys) xs =
     (prefix_trans (readings_output prefix text xs) (readings_output prefix text (xs ++ y ∷ [])) (readings_output prefix text ((xs ++ y ∷ []) ++ ys))
     (output_one prefix text xs y) (output_longer prefix text ys (xs ++ y ∷ [])))
 
--- what grew by a text between two others grew by one between a prefix of the first and any text that the second begins
-pub between_within : (w w1 : Option (List ℕ)) (least some more whole : List ℕ) → IsPrefix least some → IsPrefix more whole → AppendsBetween w w1 some more → AppendsBetween w w1 least whole
-between_within w w1 least some more whole low high grew = record {
-  prefix = grew.prefix;
-  within = prefix_trans grew.prefix more whole grew.within high;
-  no_less = prefix_trans least some grew.prefix low grew.no_less;
-  grew = grew.grew;
-}
-
 -- the least that is written is a prefix of what frames give that begin with those that were decided before the last piece
 least_prefix : (r : ℕ) (prefix : List ℕ) (text : NavItem → List ℕ) (taken : List ℕ) (them : List (List ℕ))
     → BeginsFlushed them taken → IsPrefix (least_output_by prefix text r taken) (readings_output prefix text (readings r them))
@@ -63,6 +54,17 @@ least_prefix r prefix text (b ∷ bs) them (rest, is) =
     let first = decided (take (length (b ∷ bs) - 16384) (b ∷ bs)) in
     subst (λ (l : List Reading). IsPrefix (readings_output prefix text (readings r first)) (readings_output prefix text l))
     (sym (ap (readings r) is ∙ readings_append r first rest)) (output_longer prefix text (readings r rest) (readings r first))
+
+-- and so is the least that is reported
+least_reported : (r : ℕ) (taken : List ℕ) (them : List (List ℕ)) → BeginsFlushed them taken → IsPrefix (least_report r taken) (readings_report 1 (readings r them))
+least_reported r taken them (rest, is) =
+    let first = decided (take (length taken - 16384) taken) in
+    subst (λ (l : List Reading). IsPrefix (readings_report 1 (readings r first)) (readings_report 1 l))
+    (sym (ap (readings r) is ∙ readings_append r first rest)) (report_longer 1 (readings r first) (readings r rest))
+
+-- the lines of a stream's frames begin its report
+report_front : (r : ℕ) (bytes : List ℕ) → IsPrefix (readings_report 1 (stream_readings r bytes)) (stream_report r bytes)
+report_front r bytes = (stream_counts_text (stream_counts r bytes), refl)
 
 -- ---- a stream begins
 
@@ -117,7 +119,7 @@ broke_begin r prefix text b a grew rose left reported reads reports =
       taken = [];
       consumes = consumes;
       text = between b.written a.written (stream_output_by prefix text r []) (prefix_longer b.written a.written prefix [] grew);
-      told = untold (stream_report r []);
+      told = between b.reported a.reported (stream_report r []) (untold (stream_report r []));
       ahead = ahead_by (stream_meaning_by prefix text r).whole b.left a.left b.written a.written b.reported a.reported [] consumes
           (λ rest is. (prefix_longer b.written a.written prefix _ grew, untold (stream_report r rest)));
       no_counts = λ other. with_rest b.left a.left [] _ consumes (λ rest is. untold (readings_report 1 (stream_readings r rest)));
@@ -141,7 +143,7 @@ stops_ahead r prefix text more taken w w1 w2 u u2 g c begun stops following last
       subst (λ (l : List Reading). AppendsPrefix w w2 (readings_output prefix text l)) (sym read)
           (prefix_within w w2 (readings_output prefix text (readings r some)) _ (output_longer prefix text (readings r rest.0) (readings r some)) (prefix_of w w2 _ _ broke.output)),
       subst (λ (l : List Reading). AppendsPrefix u u2 (readings_report 1 l)) (sym read)
-          (prefix_within u u2 (readings_report 1 (readings r some)) _ (report_longer 1 (readings r some) (readings r rest.0)) broke.report),
+          (prefix_within u u2 (readings_report 1 (readings r some)) _ (report_longer 1 (readings r some) (readings r rest.0)) (prefix_of u u2 _ _ broke.report)),
     )
 
 -- what the frames say where they break off, by the fault
@@ -177,8 +179,9 @@ broke_stream r prefix text b a w1 writes g g1 c c1 fault grew same none nothing 
     let out : AppendsBetween b.written a.written (least_output_by prefix text r part.taken) (readings_output prefix text (readings r some ++ readings r more.0)) =
     between_within b.written a.written (least_output_by prefix text r part.taken) (readings_output prefix text (readings r part.stops.done)) (readings_output prefix text (readings r some)) _
     (least_prefix r prefix text part.taken part.stops.done part.flushes) (output_longer prefix text (readings r more.0) (readings r some)) broke.output in
-    let told : AppendsPrefix b.reported a.reported (readings_report 1 (readings r some ++ readings r more.0)) =
-    prefix_within b.reported a.reported (readings_report 1 (readings r some)) _ (report_longer 1 (readings r some) (readings r more.0)) broke.report in
+    let told : AppendsBetween b.reported a.reported (least_report r part.taken) (readings_report 1 (readings r some ++ readings r more.0)) =
+    between_within b.reported a.reported (least_report r part.taken) (readings_report 1 (readings r part.stops.done)) (readings_report 1 (readings r some)) _
+    (least_reported r part.taken part.stops.done part.flushes) (report_longer 1 (readings r some) (readings r more.0)) broke.report in
     let begun = begins r prefix text b.written w1 b.reported g c grew none nothing (Appends-nil b.reported) in
     let all = stops_ahead r prefix text part.more part.taken b.written w1 a.written b.reported a.reported g c begun part.stops in
     let ahead = ahead_by (stream_meaning_by prefix text r).whole b.left a.left b.written a.written b.reported a.reported part.taken part.consumes
@@ -187,7 +190,8 @@ broke_stream r prefix text b a w1 writes g g1 c c1 fault grew same none nothing 
       taken = part.taken;
       consumes = part.consumes;
       text = subst (λ (l : List Reading). AppendsBetween b.written a.written (least_output_by prefix text r part.taken) (readings_output prefix text l)) (sym read) out;
-      told = prefix_longer b.reported a.reported (readings_report 1 (readings r (frames part.taken))) _ (subst (λ (l : List Reading). AppendsPrefix b.reported a.reported (readings_report 1 l)) (sym read) told);
+      told = between_within b.reported a.reported _ _ (readings_report 1 (stream_readings r part.taken)) _ (prefix_same (least_report r part.taken)) (report_front r part.taken)
+          (subst (λ (l : List Reading). AppendsBetween b.reported a.reported (least_report r part.taken) (readings_report 1 l)) (sym read) told);
       ahead = ahead;
       no_counts = λ other. with_rest b.left a.left part.taken _ part.consumes (λ rest is. (all rest (λ last. subst IsAtEnd is (part.end last))).1);
       cause = subst (λ (n : ℕ). HasItsCause {T = Unit {0}} (faults_of b.reads_failed n b.reports_failed) (faults_in a) (Err fault)) same cause;
@@ -203,17 +207,18 @@ pub broke_counts : {S T U : Type 0} (r : ℕ) (prefix : List ℕ) (text : NavIte
     → Broke (stream_meaning_by prefix text r) b a ReportFault
 broke_counts r prefix text b a w1 u1 g g1 c c1 grew none nothing all counts rose reads writes =
     let far = all_so_far r prefix text b.left a.left b.written w1 a.written b.reported u1 g g1 c c1 grew none nothing (Appends-nil b.reported) all in
-    let least = subst (λ (l : List (List ℕ)). IsPrefix (least_output_by prefix text r all.taken) (readings_output prefix text (readings r l)))
-    (sym (all_frames all.taken all.moves.frames_are (all.moves.stream [] (λ last. refl)))) (least_prefix r prefix text all.taken all.moves.frames_are all.flushes) in
-    let told = prefix_behind b.reported u1 a.reported _ _ far.report (subst (λ (x : StreamCounts). AppendsPrefix u1 a.reported (stream_counts_text x)) far.counts_are counts) in
+    let same = all_frames all.taken all.moves.frames_are (all.moves.stream [] (λ last. refl)) in
+    let least = subst (λ (l : List (List ℕ)). IsPrefix (least_output_by prefix text r all.taken) (readings_output prefix text (readings r l))) (sym same) (least_prefix r prefix text all.taken all.moves.frames_are all.flushes) in
+    let least_told = subst (λ (l : List (List ℕ)). IsPrefix (least_report r all.taken) (readings_report 1 (readings r l))) (sym same) (least_reported r all.taken all.moves.frames_are all.flushes) in
+    let told = between_behind b.reported u1 a.reported _ _ far.report (subst (λ (x : StreamCounts). AppendsPrefix u1 a.reported (stream_counts_text x)) far.counts_are counts) in
     record {
       taken = all.taken;
       consumes = all.consumes;
       text = between_within b.written a.written (least_output_by prefix text r all.taken) _ _ _ least (prefix_same (stream_output_by prefix text r all.taken))
           (between_whole b.written a.written (stream_output_by prefix text r all.taken) far.output);
-      told = told;
+      told = between_within b.reported a.reported (least_report r all.taken) _ _ _ least_told (prefix_same (stream_report r all.taken)) told;
       ahead = ahead_at_end (stream_meaning_by prefix text r).whole b.left a.left b.written a.written b.reported a.reported all.taken all.consumes all.end
-          (whole_prefix b.written a.written (stream_output_by prefix text r all.taken) far.output) told;
+          (whole_prefix b.written a.written (stream_output_by prefix text r all.taken) far.output) (prefix_of b.reported a.reported _ _ told);
       no_counts = λ other. absurd (other refl);
       cause = report_failed b a rose reads writes;
       leaves = leaves prefix text r b a;

@@ -22,25 +22,7 @@ use Rattle.streams.specs.Streams.{Reading, readings, has, items_of_readings, fir
 use Rattle.streams.specs.Mirrors.{GivenState, KeptPlaces, StandsIn, StreamBroke, StreamSoFar, any_alike, is_given, once_text, sent_alike, with_fault, with_item, with_refusal, with_unused}
 use Rattle.streams.proofs.AlikeLemmas.{Laws, looked_for, read_own}
 use Rattle.streams.proofs.KnownLemmas.{adds_nothing, is_known, known_more}
-use Rattle.one_run.proofs.Surface.{prefix_behind, whole_prefix}
-
--- what grew by a text and a prefix of another one
-pub between_behind : (w w1 w2 : Option (List ℕ)) (some more : List ℕ) → Appends w w1 some → AppendsPrefix w1 w2 more → AppendsBetween w w2 some (some ++ more)
-between_behind w w1 w2 some more whole (prefix, (rest, is), grew) = record {
-  prefix = some ++ prefix;
-  within = (rest, ap (λ (l : List ℕ). some ++ l) is ∙ sym (append_assoc some prefix rest));
-  no_less = (prefix, refl);
-  grew = Appends-trans w w1 w2 some prefix whole grew;
-}
-
--- what grew by a whole text
-pub between_whole : (w w1 : Option (List ℕ)) (text : List ℕ) → Appends w w1 text → AppendsBetween w w1 text text
-between_whole w w1 text whole = record {
-  prefix = text;
-  within = ([], sym (append-nil text));
-  no_less = ([], sym (append-nil text));
-  grew = whole;
-}
+use Rattle.one_run.proofs.Surface.{between_behind, between_whole}
 
 -- an item, where it was not there before
 abbrev pub once : Bool → NavItem → List NavItem
@@ -258,7 +240,8 @@ broke_item r prefix text past frame item w w1 w2 u u1 given c before is was look
     record {
       output = subst (AppendsBetween w w2 (readings_output prefix text rs)) (sym (ap (readings_output prefix text) more ∙ output_item prefix text rs item))
           (between_behind w w1 w2 _ _ far.output (subst (λ (b : Bool). AppendsPrefix w1 w2 (once_text text b item)) there output));
-      report = whole_prefix u u1 _ (subst (Appends u u1) (sym (ap (readings_report 1) more ∙ report_more 1 rs (Ok item) ∙ append-nil (readings_report 1 rs))) far.report);
+      report = subst (AppendsBetween u u1 (readings_report 1 rs)) (sym (ap (readings_report 1) more ∙ report_more 1 rs (Ok item) ∙ append-nil (readings_report 1 rs)))
+          (between_whole u u1 (readings_report 1 rs) far.report);
     }
 
 -- a frame whose refusal is not reported to its end
@@ -276,8 +259,8 @@ broke_fault r prefix text past frame fault w w1 u u1 u2 given c number is nth fa
     record {
       output = subst (AppendsBetween w w1 (readings_output prefix text rs)) (sym (ap (readings_output prefix text) more ∙ output_fault prefix text rs fault))
           (between_whole w w1 _ far.output);
-      report = subst (AppendsPrefix u u2) (sym (ap (readings_report 1) more ∙ report_more 1 rs (Err fault)))
-          (prefix_behind u u1 u2 _ _ far.report (subst (λ n. AppendsPrefix u1 u2 (reading_report n (Err fault))) place report));
+      report = subst (AppendsBetween u u2 (readings_report 1 rs)) (sym (ap (readings_report 1) more ∙ report_more 1 rs (Err fault)))
+          (between_behind u u1 u2 _ _ far.report (subst (λ n. AppendsPrefix u1 u2 (reading_report n (Err fault))) place report));
     }
 
 pub on_ok4 : {T E P Q S V R : Type 0} (r : Result T E) → OnOk r P → OnOk r Q → OnOk r S → OnOk r V → (P → Q → S → V → R) → OnOk r R

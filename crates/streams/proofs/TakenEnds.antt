@@ -11,12 +11,11 @@ use Rattle.one_run.specs.declared.fault.BridgeFault.{BridgeFault}
 use Rattle.one_run.specs.declared.fault.BridgeFault.TheVariants.{ReadFault, WriteFault, ReportFault, NotThisForm, TooLong, NoMemory}
 use Rattle.one_run.specs.Causes.{HasItsCause, faults_of}
 use Rattle.one_run.specs.Runs.{AppendsBetween, Broke, Done, Leaves, Says, World, faults_in}
-use Rattle.one_run.proofs.Surface.{ahead_at_end, ahead_by, between, no_prefix, nothing_told, prefix_behind, prefix_longer, prefix_nil, prefix_of, prefix_same, prefix_trans, prefix_within, report_failed, taken_all, whole_prefix, with_rest, write_failed}
+use Rattle.one_run.proofs.Surface.{ahead_at_end, ahead_by, between, between_behind, between_whole, between_within, no_prefix, nothing_told, prefix_nil, prefix_of, prefix_same, prefix_trans, prefix_within, report_failed, taken_all, whole_prefix, with_rest, write_failed}
 use Rattle.streams.specs.Mirrors.{BeginsFlushed, IsStreamFault}
 use Rattle.streams.specs.Taken.{Gives, Stops, Takes, TakesAll, TakesPart, frames_meaning_by, least_by}
 use Rattle.streams.proofs.PieceEnds.{begins_all, begins_flushed, flushed_frames, takes_none}
-use Rattle.streams.proofs.StreamEnds.{all_frames, between_within}
-use Rattle.streams.proofs.StreamLemmas.{between_behind, between_whole}
+use Rattle.streams.proofs.StreamEnds.{all_frames}
 use Rattle.streams.proofs.TakenLemmas.{stops_on, takes_fed, takes_nowhere, takes_on}
 
 -- ---- pieces after pieces
@@ -71,7 +70,7 @@ stops_of_takes {text = text} {told = told} {b = b} {w1 = w1} {u1 = u1} takes = r
   given = takes.given;
   stream = λ following last. (frames (b ++ following), takes.stream following last);
   output = λ past start held grew. between_whole start w1 (text (past ++ takes.given)) (takes.output past start held grew);
-  report = λ past start held grew. whole_prefix start u1 (told (past ++ takes.given)) (takes.report past start held grew);
+  report = λ past start held grew. between_whole start u1 (told (past ++ takes.given)) (takes.report past start held grew);
 }
 
 -- the frames that were processed before the last piece are those that were decided
@@ -178,7 +177,7 @@ part_of_last {text = text} {told = told} {holds = holds} {left = left} {l1 = l1}
 abbrev pub Grows : (List (List ℕ) → List ℕ) → Type 0
 Grows text = (some more : List (List ℕ)) → IsPrefix (text some) (text (some ++ more))
 
--- the least that is written is a prefix of what belongs to frames that begin with those that were decided before the last piece
+-- the least is a prefix of what belongs to frames that begin with those that were decided before the last piece
 least_prefix : (text : List (List ℕ) → List ℕ) → Grows text → (taken : List ℕ) (them : List (List ℕ)) → BeginsFlushed them taken → IsPrefix (least_by text taken) (text them)
 least_prefix text grows [] them begins = prefix_nil (text them)
 least_prefix text grows (b ∷ bs) them (rest, is) =
@@ -205,9 +204,9 @@ pub record Laws (output whole rejections reported : List (List ℕ) → List ℕ
   pub told : (some : List (List ℕ)) → IsPrefix (rejections some) (reported some)
   pub silent : rejections [] ≡ []
 
--- what belongs to fewer frames is a prefix of what is written of all
-to_whole : {text whole told reported : List (List ℕ) → List ℕ} → Laws text whole told reported → (some more : List (List ℕ)) → IsPrefix (text some) (whole (some ++ more))
-to_whole {text = text} {whole = whole} laws some more = prefix_trans (text some) (text (some ++ more)) (whole (some ++ more)) (laws.grows some more) (laws.text (some ++ more))
+-- what belongs to fewer frames is a prefix of what is written or reported of all
+to_whole : (text whole : List (List ℕ) → List ℕ) → Grows text → ((some : List (List ℕ)) → IsPrefix (text some) (whole some)) → (some more : List (List ℕ)) → IsPrefix (text some) (whole (some ++ more))
+to_whole text whole grows within some more = prefix_trans (text some) (text (some ++ more)) (whole (some ++ more)) (grows some more) (within (some ++ more))
 
 -- the leading text is not written to its end
 pub broke_begin : {C S T U : Type 0} {text whole told reported : List (List ℕ) → List ℕ} (count : List (List ℕ) → C) {b a : World S T U}
@@ -215,12 +214,12 @@ pub broke_begin : {C S T U : Type 0} {text whole told reported : List (List ℕ)
     → a.reads_failed ≡ b.reads_failed → a.reports_failed ≡ b.reports_failed → Broke (frames_meaning_by text whole told reported count) b a WriteFault
 broke_begin {text = text} {whole = whole} {told = told} {reported = reported} count {b = b} {a = a} laws grew rose left same reads reports =
     let consumes = subst (λ (l : Option (List ℕ)). Consumes b.left l []) (sym left) (Consumes-nil b.left) in
-    let front : (bytes : List ℕ) → AppendsPrefix b.written a.written (whole (frames bytes)) = λ bytes. prefix_within b.written a.written (text []) _ (to_whole laws [] (frames bytes)) grew in
+    let front : (bytes : List ℕ) → AppendsPrefix b.written a.written (whole (frames bytes)) = λ bytes. prefix_within b.written a.written (text []) _ (to_whole text whole laws.grows laws.text [] (frames bytes)) grew in
     record {
       taken = [];
       consumes = consumes;
       text = between b.written a.written (whole (frames [])) (front []);
-      told = untold b a same (reported (frames []));
+      told = between b.reported a.reported (reported (frames [])) (untold b a same (reported (frames [])));
       ahead = ahead_by (frames_meaning_by text whole told reported count).whole b.left a.left b.written a.written b.reported a.reported [] consumes
           (λ rest is. (front rest, untold b a same (reported (frames rest))));
       no_counts = λ other. nothing_told (λ bytes. told (frames bytes)) b.left b.reported a.reported same;
@@ -263,18 +262,18 @@ broke_frames {text = text} {whole = whole} {told = told} {reported = reported} c
     let said = stops.report [] b.reported held (silent_before laws b.reported) in
     let front : (bytes : List ℕ) (rest : List (List ℕ)) → frames bytes ≡ stops.given ++ rest → AppendsPrefix b.written a.written (whole (frames bytes)) × AppendsPrefix b.reported a.reported (told (frames bytes)) =
     λ bytes rest is. (
-      prefix_within b.written a.written (text stops.given) _ (subst (λ (l : List (List ℕ)). IsPrefix (text stops.given) (whole l)) (sym is) (to_whole laws stops.given rest)) (prefix_of b.written a.written _ _ wrote),
-      prefix_within b.reported a.reported (told stops.given) _ (subst (λ (l : List (List ℕ)). IsPrefix (told stops.given) (told l)) (sym is) (laws.more stops.given rest)) said,
+      prefix_within b.written a.written (text stops.given) _ (subst (λ (l : List (List ℕ)). IsPrefix (text stops.given) (whole l)) (sym is) (to_whole text whole laws.grows laws.text stops.given rest)) (prefix_of b.written a.written _ _ wrote),
+      prefix_within b.reported a.reported (told stops.given) _ (subst (λ (l : List (List ℕ)). IsPrefix (told stops.given) (told l)) (sym is) (laws.more stops.given rest)) (prefix_of b.reported a.reported _ _ said),
     ) in
     let nothing = stops.stream [] (λ last. refl) in
     let is : frames taken ≡ stops.given ++ nothing.0 = ap frames (sym (append-nil taken)) ∙ nothing.1 in
-    let own = front taken nothing.0 is in
     record {
       taken = taken;
       consumes = part.consumes;
       text = between_within b.written a.written (least_by text taken) (text stops.done) (text stops.given) (whole (frames taken)) (least_prefix text laws.grows taken stops.done part.flushes)
-          (subst (λ (l : List (List ℕ)). IsPrefix (text stops.given) (whole l)) (sym is) (to_whole laws stops.given nothing.0)) wrote;
-      told = prefix_within b.reported a.reported (told (frames taken)) _ (laws.told (frames taken)) own.1;
+          (subst (λ (l : List (List ℕ)). IsPrefix (text stops.given) (whole l)) (sym is) (to_whole text whole laws.grows laws.text stops.given nothing.0)) wrote;
+      told = between_within b.reported a.reported (least_by told taken) (told stops.done) (told stops.given) (reported (frames taken)) (least_prefix told laws.more taken stops.done part.flushes)
+          (subst (λ (l : List (List ℕ)). IsPrefix (told stops.given) (reported l)) (sym is) (to_whole told reported laws.more laws.told stops.given nothing.0)) said;
       ahead = ahead_by (frames_meaning_by text whole told reported count).whole b.left a.left b.written a.written b.reported a.reported taken part.consumes
           (λ rest left. let found = stops.stream rest (λ last. subst IsAtEnd left (part.end last)) in
           let both = front (taken ++ rest) found.0 found.1 in
@@ -303,23 +302,31 @@ pub all_held : {X : Type 0} {text told : List (List ℕ) → List ℕ} {holds : 
     → holds s [] → (all : TakesAll text told holds left l1 w w1 u u1 s s1) → holds s1 (frames all.taken)
 all_held {holds = holds} {s1 = s1} held all = subst (holds s1) (sym (all_frames all.taken all.takes.given (all.takes.stream [] (λ last. refl)))) (all.takes.held [] held)
 
--- all bytes were read, and what was written then is no less than what belongs to their frames
+-- the least is a prefix of what belongs to all frames
+least_all : {X : Type 0} {text told : List (List ℕ) → List ℕ} {holds : X → List (List ℕ) → Type 0} {left l1 w w1 u u1 : Option (List ℕ)} {s s1 : X} (of : List (List ℕ) → List ℕ) → Grows of
+    → (all : TakesAll text told holds left l1 w w1 u u1 s s1) → IsPrefix (least_by of all.taken) (of (frames all.taken))
+least_all of grows all =
+    subst (λ (l : List (List ℕ)). IsPrefix (least_by of all.taken) (of l)) (sym (all_frames all.taken all.takes.given (all.takes.stream [] (λ last. refl))))
+    (least_prefix of grows all.taken all.takes.given all.flushes)
+
+-- all bytes were read, and what was written and reported then is no less than what belongs to their frames
 broke_end : {X C S T U : Type 0} {text whole told reported : List (List ℕ) → List ℕ} {holds : X → List (List ℕ) → Type 0} (count : List (List ℕ) → C) {b a : World S T U} (w w1 w2 u1 : Option (List ℕ)) {s s1 : X} {fault : BridgeFault}
     → Laws text whole told reported → (all : TakesAll text told holds b.left a.left w1 w2 b.reported u1 s s1)
-    → AppendsBetween b.written a.written (text (frames all.taken)) (whole (frames all.taken)) → AppendsPrefix b.reported a.reported (reported (frames all.taken))
+    → AppendsBetween b.written a.written (text (frames all.taken)) (whole (frames all.taken))
+    → AppendsBetween b.reported a.reported (told (frames all.taken)) (reported (frames all.taken))
     → ((fault ≡ ReportFault → ⊥) → AppendsPrefix b.reported a.reported (told (frames all.taken))) → HasItsCause {T = Unit {0}} (faults_in b) (faults_in a) (Err fault)
     → Says (frames_meaning_by text whole told reported count) all.taken b a fault
     → Broke (frames_meaning_by text whole told reported count) b a fault
 broke_end {text = text} {whole = whole} {told = told} {reported = reported} count {b = b} {a = a} w w1 w2 u1 laws all wrote said rejections cause says =
-    let least = subst (λ (l : List (List ℕ)). IsPrefix (least_by text all.taken) (text l)) (sym (all_frames all.taken all.takes.given (all.takes.stream [] (λ last. refl))))
-    (least_prefix text laws.grows all.taken all.takes.given all.flushes) in
     record {
       taken = all.taken;
       consumes = all.consumes;
-      text = between_within b.written a.written (least_by text all.taken) (text (frames all.taken)) (whole (frames all.taken)) (whole (frames all.taken)) least (prefix_same (whole (frames all.taken))) wrote;
-      told = said;
+      text = between_within b.written a.written (least_by text all.taken) (text (frames all.taken)) (whole (frames all.taken)) (whole (frames all.taken)) (least_all text laws.grows all)
+          (prefix_same (whole (frames all.taken))) wrote;
+      told = between_within b.reported a.reported (least_by told all.taken) (told (frames all.taken)) (reported (frames all.taken)) (reported (frames all.taken)) (least_all told laws.more all)
+          (prefix_same (reported (frames all.taken))) said;
       ahead = ahead_at_end (frames_meaning_by text whole told reported count).whole b.left a.left b.written a.written b.reported a.reported all.taken all.consumes all.end
-          (prefix_of b.written a.written _ _ wrote) said;
+          (prefix_of b.written a.written _ _ wrote) (prefix_of b.reported a.reported _ _ said);
       no_counts = λ other. taken_all b.left a.left all.taken (λ bytes. AppendsPrefix b.reported a.reported (told (frames bytes))) all.consumes all.end (rejections other);
       cause = cause;
       leaves = leaves text whole told reported count;
@@ -335,8 +342,10 @@ pub broke_last : {X C S T U : Type 0} {text whole told reported : List (List ℕ
 broke_last {text = text} {whole = whole} {told = told} {reported = reported} count {b = b} {a = a} {w1 = w1} {w2 = w2} tail laws held grew all is part rose reads reports =
     let far = all_given b.written laws held grew all in
     let wrote = subst (AppendsBetween b.written a.written (text (frames all.taken))) (sym is) (between_behind b.written w2 a.written (text (frames all.taken)) tail far.0 part) in
-    let said = whole_prefix b.reported a.reported (told (frames all.taken)) far.1 in
-    broke_end count b.written w1 w2 a.reported laws all wrote (prefix_within b.reported a.reported (told (frames all.taken)) _ (laws.told (frames all.taken)) said) (λ other. said)
+    let rejections = told (frames all.taken) in
+    let said = between_within b.reported a.reported rejections rejections rejections (reported (frames all.taken)) (prefix_same rejections) (laws.told (frames all.taken))
+    (between_whole b.reported a.reported rejections far.1) in
+    broke_end count b.written w1 w2 a.reported laws all wrote said (λ other. whole_prefix b.reported a.reported rejections far.1)
     (write_failed b a rose reads reports) (rose, accepts count b.left)
 
 -- the counts are not reported to their end
@@ -349,7 +358,7 @@ pub broke_counts : {X C S T U : Type 0} {text whole told reported : List (List �
 broke_counts {text = text} {whole = whole} {told = told} {reported = reported} count {b = b} {a = a} {w1 = w1} {w2 = w2} {u1 = u1} tail last laws held grew all ends wrote is counts rose reads writes =
     let far = all_given b.written laws held grew all in
     let output = subst (AppendsBetween b.written a.written (text (frames all.taken))) (sym ends) (between_behind b.written w2 a.written (text (frames all.taken)) last far.0 (whole_prefix w2 a.written last wrote)) in
-    broke_end count b.written w1 w2 u1 laws all output (subst (AppendsPrefix b.reported a.reported) (sym is) (prefix_behind b.reported u1 a.reported _ _ far.1 counts)) (λ other. absurd (other refl))
+    broke_end count b.written w1 w2 u1 laws all output (subst (AppendsBetween b.reported a.reported (told (frames all.taken))) (sym is) (between_behind b.reported u1 a.reported _ _ far.1 counts)) (λ other. absurd (other refl))
     (report_failed b a rose reads writes) (refl, rose, accepts count b.left)
 
 -- the run is done

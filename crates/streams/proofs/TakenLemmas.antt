@@ -1,14 +1,13 @@
 -- Frames that are processed between two rests of bytes.
-use Rattle.std.proofs.Common.{◌≡◌, ◌+◌, ◌<◌, ◌≤◌, ◌^◌, ℕ, Bool, true, false, List, [], ◌∷◌, ◌++◌, length, take, drop, refl, sym, ap, subst, ◌∙◌, append_assoc, append-nil, arith, length-append}
+use Rattle.std.proofs.Common.{◌≡◌, ◌+◌, ◌≤◌, ℕ, Bool, true, List, [], ◌∷◌, ◌++◌, length, take, drop, refl, sym, ap, subst, ◌∙◌, append_assoc, append-nil, arith, length-append}
 use Rattle.std.specs.Prelude.{Option}
 use Rattle.std.proofs.lemmas.List.{take-append-drop}
 use Rattle.std.proofs.Math.Seq.{take-add}
 use Rattle.std.specs.Io.KnownBytes.{Appends}
-use Rattle.nav_io.specs.Prefix.{AppendsPrefix}
 use Rattle.rtcm_frame.specs.Frames.{decided, frames}
 use Rattle.rtcm_frame.specs.State.{TakesFrame, TakesNone}
 use Rattle.one_run.specs.Runs.{AppendsBetween}
-use Rattle.streams.specs.Taken.{Gives, GivesBetween, GivesPart, HasRoomFor, Holds, Stops, Takes}
+use Rattle.streams.specs.Taken.{Gives, GivesBetween, HasRoomFor, Holds, Stops, Takes}
 use Rattle.streams.proofs.DecidedLemmas.{decided_frame, decided_none}
 
 -- ---- what belongs to frames
@@ -33,11 +32,6 @@ between_on holds {text = text} {xs = xs} {done = done} {ys = ys} {w2 = w2} held 
     subst (λ (l : List (List ℕ)). AppendsBetween start w2 (text l) (text (past ++ (xs ++ ys)))) (append_assoc past xs done)
     (subst (λ (l : List (List ℕ)). AppendsBetween start w2 (text ((past ++ xs) ++ done)) (text l)) (append_assoc past xs ys)
     (second (past ++ xs) start (held past h) (first past start h grew)))
-
-part_on : {X : Type 0} (holds : X → List (List ℕ) → Type 0) {s s1 : X} {text : List (List ℕ) → List ℕ} {xs ys : List (List ℕ)} {w w1 w2 : Option (List ℕ)}
-    → Holds holds s s1 xs → Gives holds s text xs w w1 → GivesPart holds s1 text ys w1 w2 → GivesPart holds s text (xs ++ ys) w w2
-part_on holds {text = text} {xs = xs} {ys = ys} {w2 = w2} held first second past start h grew =
-    subst (λ (l : List (List ℕ)). AppendsPrefix start w2 (text l)) (append_assoc past xs ys) (second (past ++ xs) start (held past h) (first past start h grew))
 
 -- ---- frames after frames
 
@@ -127,7 +121,7 @@ takes_fed {a = a} {b = b} d takes = record {
 
 -- the next frame is not processed to its end
 stops_frame : {X : Type 0} {text told : List (List ℕ) → List ℕ} {holds : X → List (List ℕ) → Type 0} {more : Bool} {a d frame : List ℕ} {w w1 u u1 : Option (List ℕ)} {s : X}
-    → TakesFrame more a frame d → GivesBetween holds s text [] (frame ∷ []) w w1 → GivesPart holds s told (frame ∷ []) u u1 → Stops text told holds more a w w1 u u1 s
+    → TakesFrame more a frame d → GivesBetween holds s text [] (frame ∷ []) w w1 → GivesBetween holds s told [] (frame ∷ []) u u1 → Stops text told holds more a w w1 u u1 s
 stops_frame {d = d} {frame = frame} takes output report = record {
   done = [];
   given = frame ∷ [];
@@ -139,7 +133,7 @@ stops_frame {d = d} {frame = frame} takes output report = record {
 -- frames were processed, and then one is not processed to its end
 unfoldable pub stops_on : {X : Type 0} {text told : List (List ℕ) → List ℕ} {holds : X → List (List ℕ) → Type 0} {more : Bool} {a b : List ℕ} {w w1 w2 u u1 u2 : Option (List ℕ)} {s s1 : X}
     → Takes text told holds more a b w w1 u u1 s s1 → Stops text told holds more b w1 w2 u1 u2 s1 → Stops text told holds more a w w2 u u2 s
-unfolding between_on part_on
+unfolding between_on
 stops_on {holds = holds} first stops = record {
   done = first.given ++ stops.done;
   given = first.given ++ stops.given;
@@ -149,11 +143,11 @@ stops_on {holds = holds} first stops = record {
         ∙ sym (append_assoc first.given stops.given (stops.stream following last).0),
   );
   output = between_on holds first.held first.output stops.output;
-  report = part_on holds first.held first.report stops.report;
+  report = between_on holds first.held first.report stops.report;
 }
 
 pub stops_more : {X : Type 0} {text told : List (List ℕ) → List ℕ} {holds : X → List (List ℕ) → Type 0} {more : Bool} {a b d frame : List ℕ} {w w1 w2 u u1 u2 : Option (List ℕ)} {s s1 : X}
-    → Takes text told holds more a b w w1 u u1 s s1 → TakesFrame more b frame d → GivesBetween holds s1 text [] (frame ∷ []) w1 w2 → GivesPart holds s1 told (frame ∷ []) u1 u2
+    → Takes text told holds more a b w w1 u u1 s s1 → TakesFrame more b frame d → GivesBetween holds s1 text [] (frame ∷ []) w1 w2 → GivesBetween holds s1 told [] (frame ∷ []) u1 u2
     → Stops text told holds more a w w2 u u2 s
 stops_more first takes output report = stops_on first (stops_frame takes output report)
 

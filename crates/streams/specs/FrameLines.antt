@@ -25,6 +25,6 @@ frames_meaning = record {
   counts = λ bytes. Some (record { frames = length (frames bytes) });
   whole = record { output = output_of line_of; report = λ bytes. [] };
   rejections = λ bytes. [];
-  least = least_of line_of;
+  least = record { output = least_of line_of; report = λ bytes. [] };
   flushed = Some (record { output = flushed_of line_of; report = λ bytes. [] });
 }

@@ -9,7 +9,6 @@ use Rattle.std.specs.Map.{lookup}
 use Rattle.std.specs.Option.{unwrap_or}
 use Rattle.std.specs.Io.KnownBytes.{Appends, Consumes, IsAtEnd}
 use Rattle.nav_bits.specs.Bits.{number_at}
-use Rattle.nav_io.specs.Prefix.{AppendsPrefix}
 use Rattle.nav_eph.specs.declared.items.NavItem.{NavItem}
 use Rattle.nav_eph.specs.declared.items.NavItem.TheVariants.{Gps, Gal, Ion}
 use Rattle.rtcm_eph.specs.Reading.{GivesItem, content_of, item_in}
@@ -170,10 +169,10 @@ pub record StreamSoFar (r : ℕ) (prefix : List ℕ) (text : NavItem → List �
   pub holds : (other : NavItem) → is_given given other ≡ any_alike (items_of_readings (readings r past)) other
   pub known : AreKnown r given
 
--- A prefix was written and reported of what these frames give, and no less was written than what the frames `done` give.
+-- A prefix was written and reported of what these frames give, and no less than what the frames `done` give.
 pub record StreamBroke (r : ℕ) (prefix : List ℕ) (text : NavItem → List ℕ) (done frames_are : List (List ℕ)) (written written_new reported reported_new : Option (List ℕ)) : Type 0 where
   pub output : AppendsBetween written written_new (readings_output prefix text (readings r done)) (readings_output prefix text (readings r frames_are))
-  pub report : AppendsPrefix reported reported_new (readings_report 1 (readings r frames_are))
+  pub report : AppendsBetween reported reported_new (readings_report 1 (readings r done)) (readings_report 1 (readings r frames_are))
 
 -- These frames follow those already processed, and are processed.
 abbrev pub StreamGoes : ℕ → List ℕ → (NavItem → List ℕ) → List (List ℕ) → Option (List ℕ) → Option (List ℕ) → Option (List ℕ) → Option (List ℕ) → GivenState → GivenState → StreamCounts → StreamCounts → Type 0

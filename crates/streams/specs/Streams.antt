@@ -135,6 +135,10 @@ abbrev pub least_output_by : List ℕ → (NavItem → List ℕ) → ℕ → Lis
 least_output_by prefix text r [] = []
 least_output_by prefix text r (b ∷ bs) = flushed_output_by prefix text r (take (length (b ∷ bs) - 16384) (b ∷ bs))
 
+-- the least that was reported of them: the lines of the frames that all but the last 16,384 bytes decide
+abbrev pub least_report : ℕ → List ℕ → List ℕ
+least_report r bytes = readings_report 1 (flushed_readings r (take (length bytes - 16384) bytes))
+
 -- the meaning of a run over a stream, with a leading text and one for each item
 abbrev pub stream_meaning_by : List ℕ → (NavItem → List ℕ) → ℕ → Meaning StreamCounts
 stream_meaning_by prefix text r = record {
@@ -145,7 +149,7 @@ stream_meaning_by prefix text r = record {
   counts = λ bytes. Some (stream_counts r bytes);
   whole = record { output = stream_output_by prefix text r; report = stream_report r };
   rejections = λ bytes. readings_report 1 (stream_readings r bytes);
-  least = least_output_by prefix text r;
+  least = record { output = least_output_by prefix text r; report = least_report r };
   flushed = Some (record { output = flushed_output_by prefix text r; report = λ bytes. readings_report 1 (flushed_readings r bytes) });
 }
 

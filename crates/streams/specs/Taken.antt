@@ -1,15 +1,14 @@
 -- What a run makes of the frames of a stream, and a stream while they are processed.
 use Rattle.std.specs.Prelude.{◌≡◌, ◌+◌, ◌-◌, ◌^◌, ◌<◌, ◌≤◌, ℕ, Bool, true, false, List, [], ◌∷◌, ◌++◌, length, take, Option, Some}
 use Rattle.std.specs.Io.KnownBytes.{Appends, Consumes, IsAtEnd}
-use Rattle.nav_io.specs.Prefix.{AppendsPrefix}
 use Rattle.rtcm_frame.specs.Frames.{decided, frames}
 use Rattle.one_run.specs.Runs.{AppendsBetween, Meaning}
 use Rattle.one_run.specs.declared.fault.BridgeFault.{BridgeFault}
 use Rattle.one_run.specs.declared.fault.BridgeFault.TheVariants.{ReadFault, NotThisForm, TooLong}
 use Rattle.streams.specs.Mirrors.{BeginsFlushed}
 
--- the least that was written of the bytes taken, whatever fails: what belongs to the frames that all but the last 16,384 bytes
--- decide (one read asks for so many); nothing if no byte was taken
+-- the least that was written or reported of the bytes taken, whatever fails: what belongs to the frames that all but the last
+-- 16,384 bytes decide (one read asks for so many); nothing if no byte was taken
 abbrev pub least_by : (List (List ℕ) → List ℕ) → List ℕ → List ℕ
 least_by text [] = []
 least_by text (b ∷ bs) = text (decided (take (length (b ∷ bs) - 16384) (b ∷ bs)))
@@ -25,7 +24,7 @@ frames_meaning_by text whole told reported count = record {
   counts = λ bytes. Some (count (frames bytes));
   whole = record { output = λ bytes. whole (frames bytes); report = λ bytes. reported (frames bytes) };
   rejections = λ bytes. told (frames bytes);
-  least = least_by text;
+  least = record { output = least_by text; report = least_by told };
   flushed = Some (record { output = λ bytes. text (decided bytes); report = λ bytes. told (decided bytes) });
 }
 
@@ -39,11 +38,6 @@ abbrev pub GivesBetween : {X : Type 0} → (X → List (List ℕ) → Type 0) �
 GivesBetween holds old text done given grown grown_new =
     (past : List (List ℕ)) (start : Option (List ℕ)) → holds old past → Appends start grown (text past)
     → AppendsBetween start grown_new (text (past ++ done)) (text (past ++ given))
-
--- a prefix of what belongs to them
-abbrev pub GivesPart : {X : Type 0} → (X → List (List ℕ) → Type 0) → X → (List (List ℕ) → List ℕ) → List (List ℕ) → Option (List ℕ) → Option (List ℕ) → Type 0
-GivesPart holds old text given grown grown_new =
-    (past : List (List ℕ)) (start : Option (List ℕ)) → holds old past → Appends start grown (text past) → AppendsPrefix start grown_new (text (past ++ given))
 
 -- the state after these frames
 abbrev pub Holds : {X : Type 0} → (X → List (List ℕ) → Type 0) → X → X → List (List ℕ) → Type 0
@@ -70,7 +64,7 @@ pub record Stops {X : Type 0} (text told : List (List ℕ) → List ℕ) (holds 
   pub given : List (List ℕ)
   pub stream : (following : List ℕ) → (more ≡ false → following ≡ []) → (rest : List (List ℕ)) × (frames (before ++ following) ≡ given ++ rest)
   pub output : GivesBetween holds old text done given written written_new
-  pub report : GivesPart holds old told given reported reported_new
+  pub report : GivesBetween holds old told done given reported reported_new
 
 -- the complete input was read, and all its frames processed
 pub record TakesAll {X : Type 0} (text told : List (List ℕ) → List ℕ) (holds : X → List (List ℕ) → Type 0) (left left_new written written_new reported reported_new : Option (List ℕ)) (old new : X) : Type 0 where

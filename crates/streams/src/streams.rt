@@ -24,7 +24,7 @@ use std::alloc::Global;
 /// - `ReadFault`, `WriteFault`, `ReportFault` only if the error count of the input, the output or
 ///   the report rose, or is at its maximum. After a failed read exactly what the frames give that
 ///   the bytes read decide, whatever bytes follow, was written and reported. After any error at
-///   least what all but the last 16,384 of these bytes decide was written.
+///   least what all but the last 16,384 of these bytes decide was written and reported.
 /// - `TooLong` only if 4,294,967,295 bytes were read and there was one more.
 /// - `NoMemory` if out of memory: 61 or 63 bytes are retained of each item, its message.
 pub fn run_stream<S: Source, T: Sink, U: Sink>(

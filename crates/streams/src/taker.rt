@@ -9,7 +9,7 @@ ghost use Rattle.rtcm_frame.specs.State.{MayFeed, IsWaiting};
 ghost use Rattle.one_run.specs.Causes.{HasItsCause, faults_of};
 ghost use Rattle.one_run.specs.Runs.{Ran};
 ghost use Rattle.streams.specs.Mirrors.{IsStreamFault};
-ghost use Rattle.streams.specs.Taken.{Gives, GivesBetween, GivesPart, HasRoomFor, Holds};
+ghost use Rattle.streams.specs.Taken.{Gives, GivesBetween, HasRoomFor, Holds};
 ghost use Rattle.streams.specs.Taken.{Stops, Takes, TakesAll, TakesPart, frames_meaning_by};
 
 use nav_io::{Failed, MOST_TAKEN, Sink, Source, read_piece};
@@ -58,7 +58,8 @@ pub trait FrameTaker {
         ensures { Writes (T.written output.old) (T.written output.new)
             (T.faults output.old) (T.faults output.new) result (text self.now []) };
 
-    // Processes a frame. Where that fails, all that belongs to the frames before it was written.
+    // Processes a frame. Where that fails, all that belongs to the frames before it was written and
+    // reported.
     fn take<T: Sink, U: Sink>(
         &self,
         state: &mut Self::State,
@@ -74,8 +75,8 @@ pub trait FrameTaker {
             (frame.now ∷ []) (U.written report.old) (U.written report.new)) }
         ensures unwritten { OnErr result (GivesBetween (holds self.now) state.old (text self.now)
             [] (frame.now ∷ []) (T.written output.old) (T.written output.new)) }
-        ensures unreported { OnErr result (GivesPart (holds self.now) state.old (told self.now)
-            (frame.now ∷ []) (U.written report.old) (U.written report.new)) }
+        ensures unreported { OnErr result (GivesBetween (holds self.now) state.old (told self.now)
+            [] (frame.now ∷ []) (U.written report.old) (U.written report.new)) }
         ensures cause { HasItsCause (faults_of 0 (T.faults output.old) (U.faults report.old))
             (faults_of 0 (T.faults output.new) (U.faults report.new)) result }
         ensures kinds { IfErr result IsStreamFault };

@@ -1,11 +1,10 @@
 -- The ephemerides of GPS and Galileo I/NAV in a stream of all systems.
-use Rattle.std.proofs.Common.{◌≡◌, ℕ, ◌+◌, ◌||◌, Bool, true, false, if◌then◌else◌, List, [], ◌∷◌, refl, sym, ap, ◌∙◌, inl, inr}
+use Rattle.std.proofs.Common.{◌≡◌, ℕ, ◌+◌, ◌||◌, Bool, true, false, if◌then◌else◌, List, [], ◌∷◌, refl, ap, ◌∙◌, inl, inr}
 use Rattle.std.specs.Prelude.{Option, None, Some, Result, Ok, Err}
 use Rattle.nav_eph.specs.Items.{same_item}
 use Rattle.nav_eph.specs.declared.items.NavItem.{NavItem}
 use Rattle.nav_rows.specs.declared.kind.Kind.{Kind}
 use Rattle.nav_rows.specs.declared.row.RowFault.{RowFault}
-use Rattle.nav_rows.specs.Order.{KindRow}
 use Rattle.nav_rows.specs.Rows.{RowValue, row_in}
 use Rattle.rtcm_eph.specs.Reading.{item_in}
 use Rattle.rtcm_eph.specs.declared.fault.MessageFault.{MessageFault}

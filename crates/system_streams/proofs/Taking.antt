@@ -1,27 +1,27 @@
 -- The state after a frame more, and what belongs to it.
-use Rattle.std.proofs.Common.{◌≡◌, ℕ, suc, ◌+◌, ◌<◌, ◌^◌, ◌||◌, Bool, true, false, if◌then◌else◌, List, [], ◌∷◌, ◌++◌, length, refl, sym, ap, subst, ◌∙◌, arith, append-nil, append_assoc, inl, inr, ℤ}
-use Rattle.std.specs.Prelude.{Option, None, Some, Result, Ok, Err, OnErr, not}
+use Rattle.std.proofs.Common.{◌≡◌, ℕ, suc, ◌+◌, ◌||◌, Bool, true, false, List, [], ◌∷◌, ◌++◌, length, refl, sym, ap, subst, ◌∙◌, arith, append-nil, append_assoc, inl, inr, ℤ}
+use Rattle.std.specs.Prelude.{Option, Result, Ok, Err, OnErr, not}
 use Rattle.std.specs.BTreeSet.{BTreeSet}
 use Rattle.arrayvec.specs.ArrayVec.{ArrayVec}
 use Rattle.std.specs.Io.KnownBytes.{Appends}
-use Rattle.std.proofs.KnownBytes.{Appends-nil, Appends-trans}
+use Rattle.std.proofs.KnownBytes.{Appends-trans}
 use Rattle.std.specs.Ordering.{int_cmp, is_eq}
 use Rattle.std.specs.Cmp.Lexicographic.{slice_cmp}
 use Rattle.nav_io.specs.Prefix.{AppendsPrefix, IsPrefix}
 use Rattle.one_run.specs.Runs.{AppendsBetween}
-use Rattle.one_run.proofs.Surface.{prefix_behind, prefix_same, prefix_trans, whole_prefix}
+use Rattle.one_run.proofs.Surface.{between_behind, between_whole, between_within, prefix_same, prefix_trans}
 use Rattle.nav_eph.specs.declared.items.NavItem.{NavItem}
 use Rattle.nav_rows.specs.Order.{KindRow, rank}
 use Rattle.outlets.specs.declared.target.Target.{Target}
 use Rattle.rtcm_eph.specs.Reading.{item_in}
 use Rattle.rtcm_eph.specs.declared.fault.MessageFault.{MessageFault}
 use Rattle.rtcm_frame.specs.State.{payload_of}
-use Rattle.streams.specs.Mirrors.{AreKnown, GivenState, HasRoom, KeptPlaces, StandsIn, any_alike, is_given, sent_alike}
-use Rattle.streams.specs.Streams.{has as nav_has, items_of_readings, readings as nav_readings}
+use Rattle.streams.specs.Mirrors.{AreKnown, GivenState, HasRoom, KeptPlaces, any_alike, is_given, sent_alike}
+use Rattle.streams.specs.Streams.{items_of_readings, readings as nav_readings}
 use Rattle.streams.specs.Streams.{Reading as NavReading}
-use Rattle.streams.specs.Taken.{Gives, GivesBetween, GivesPart, HasRoomFor, Holds}
+use Rattle.streams.specs.Taken.{Gives, GivesBetween, HasRoomFor, Holds}
 use Rattle.streams.specs.declared.counts.StreamCounts.{StreamCounts}
-use Rattle.streams.proofs.Surface.{Laws, adds_nothing, any_more, between_behind, between_whole, is_known, items_more, items_same, known_more, looked_for, read_own, readings_more}
+use Rattle.streams.proofs.Surface.{Laws, any_more, items_more, items_same, known_more, looked_for, read_own, readings_more}
 use Rattle.system_streams.specs.Mirrors.{StandsFor, any_rank, is_rank_in}
 use Rattle.system_streams.specs.Readings.{Fault, Item, Reading, reading_by, reading_in, reading_report, readings, readings_report}
 use Rattle.system_streams.specs.Streams.{counts_of, has, items_from, output_of, text_by, text_of, told_by}
@@ -80,16 +80,27 @@ gives_report ks r s frame x u u1 is grew past start far told =
     (Appends-trans start u u1 _ _ told (subst (λ (n : ℕ). Appends u u1 (reading_report n x)) (next_number ks r s past far) grew))
 
 pub part_of_report : (ks : Kinds) (r : ℕ) (s : State) (frame : List ℕ) (x : Reading) (u u1 : Option (List ℕ))
-    → reading_in ks r (payload_of frame) ≡ x → AppendsPrefix u u1 (reading_report (s.counts.frames + 1) x) → GivesPart (StandsFor ks r) s (told_by ks r) (frame ∷ []) u u1
+    → reading_in ks r (payload_of frame) ≡ x → AppendsPrefix u u1 (reading_report (s.counts.frames + 1) x) → GivesBetween (StandsFor ks r) s (told_by ks r) [] (frame ∷ []) u u1
 part_of_report ks r s frame x u u1 is grew past start far told =
     let xs = readings ks r past in
-    subst (AppendsPrefix start u1) (sym (ap (readings_report 1) (one_more ks r past frame x is) ∙ report_more 1 xs x))
-    (prefix_behind start u u1 _ _ told (subst (λ (n : ℕ). AppendsPrefix u u1 (reading_report n x)) (next_number ks r s past far) grew))
+    let all : AppendsBetween start u1 (readings_report 1 xs) (readings_report 1 (readings ks r (past ++ frame ∷ []))) =
+    subst (AppendsBetween start u1 (readings_report 1 xs)) (sym (ap (readings_report 1) (one_more ks r past frame x is) ∙ report_more 1 xs x))
+    (between_behind start u u1 _ _ told (subst (λ (n : ℕ). AppendsPrefix u u1 (reading_report n x)) (next_number ks r s past far) grew)) in
+    subst (λ (l : List (List ℕ)). AppendsBetween start u1 (told_by ks r l) (told_by ks r (past ++ frame ∷ []))) (sym (append-nil past)) all
+
+-- the report of frames begins with that of fewer
+pub told_one : (ks : Kinds) (r : ℕ) (some : List (List ℕ)) (frame : List ℕ) → IsPrefix (told_by ks r some) (told_by ks r (some ++ frame ∷ []))
+told_one ks r some frame =
+    let reading = reading_in ks r (payload_of frame) in
+    (reading_report (1 + length (readings ks r some)) reading, ap (readings_report 1) (one_more ks r some frame reading refl) ∙ report_more 1 (readings ks r some) reading)
 
 -- what was given whole was given in part
-pub part_of_gives : {X : Type 0} (holds : X → List (List ℕ) → Type 0) (s : X) (told : List (List ℕ) → List ℕ) (given : List (List ℕ)) (u u1 : Option (List ℕ))
-    → Gives holds s told given u u1 → GivesPart holds s told given u u1
-part_of_gives holds s told given u u1 gives past start held grew = whole_prefix start u1 (told (past ++ given)) (gives past start held grew)
+pub part_of_gives : (ks : Kinds) (r : ℕ) (s : State) (frame : List ℕ) (u u1 : Option (List ℕ))
+    → Gives (StandsFor ks r) s (told_by ks r) (frame ∷ []) u u1 → GivesBetween (StandsFor ks r) s (told_by ks r) [] (frame ∷ []) u u1
+part_of_gives ks r s frame u u1 gives past start held grew =
+    let all = told_by ks r (past ++ frame ∷ []) in
+    between_within start u1 (told_by ks r (past ++ [])) all all all
+    (subst (λ (l : List (List ℕ)). IsPrefix (told_by ks r l) all) (sym (append-nil past)) (told_one ks r past frame)) (prefix_same all) (between_whole start u1 all (gives past start held grew))
 
 -- no less was written of a frame without an item than before it
 pub between_none : (ks : Kinds) (to : Target) (r : ℕ) (s : State) (frame : List ℕ) (fault : Fault) (w : Option (List ℕ))
@@ -225,5 +236,4 @@ told_grows ks r [] some = subst (λ (l : List (List ℕ)). IsPrefix (told_by ks 
 told_grows ks r (m ∷ ms) some =
     subst (λ (l : List (List ℕ)). IsPrefix (told_by ks r some) (told_by ks r l)) (append_assoc some (m ∷ []) ms)
     (prefix_trans (told_by ks r some) (told_by ks r (some ++ m ∷ [])) (told_by ks r ((some ++ m ∷ []) ++ ms))
-    (reading_report (1 + length (readings ks r some)) (reading_in ks r (payload_of m)), ap (readings_report 1) (one_more ks r some m (reading_in ks r (payload_of m)) refl) ∙ report_more 1 (readings ks r some) (reading_in ks r (payload_of m)))
-    (told_grows ks r ms (some ++ m ∷ [])))
+    (told_one ks r some m) (told_grows ks r ms (some ++ m ∷ [])))

@@ -1,16 +1,15 @@
 -- The state of a run between two frames. Private functions cite these.
-use Rattle.std.specs.Prelude.{◌≡◌, ℕ, ◌+◌, ◌||◌, Bool, false, List, [], ◌∷◌, ℤ}
+use Rattle.std.specs.Prelude.{◌≡◌, ℕ, ◌||◌, Bool, false, List, [], ◌∷◌, ℤ}
 use Rattle.std.proofs.Common.{inl, inr}
 use Rattle.std.specs.BTreeSet.{BTreeSet, contains}
 use Rattle.std.specs.Cmp.Lexicographic.{slice_cmp}
 use Rattle.std.specs.Ordering.{int_cmp, is_eq}
-use Rattle.std.specs.declared.cmp.Ordering.{Ordering}
 use Rattle.arrayvec.specs.ArrayVec.{ArrayVec}
 use Rattle.nav_eph.specs.declared.items.NavItem.{NavItem}
 use Rattle.nav_rows.specs.Order.{rank}
 use Rattle.streams.specs.Mirrors.{AreKnown, any_alike, is_given}
 use Rattle.streams.specs.Streams.{items_of_readings, readings as nav_readings}
-use Rattle.system_streams.specs.Readings.{Item, readings}
+use Rattle.system_streams.specs.Readings.{readings}
 use Rattle.system_streams.specs.Streams.{Numbered, counts_of, items_from}
 use Rattle.system_streams.specs.declared.kinds.Kinds.{Kinds}
 use Rattle.system_streams.specs.declared.state.State.{State}

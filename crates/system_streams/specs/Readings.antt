@@ -1,10 +1,10 @@
 -- The messages of all systems in a stream: what a frame gives, and what is reported of it.
-use Rattle.std.specs.Prelude.{ℕ, ◌+◌, ◌==◌, ◌||◌, Bool, true, false, List, [], ◌∷◌, ◌++◌, codes, decimal, length, map, nat_eq, nat_le, nat_lt, if◌then◌else◌, Option, None, Some, Result, Ok, Err, ◌⊎◌}
+use Rattle.std.specs.Prelude.{ℕ, ◌+◌, ◌==◌, ◌||◌, Bool, false, List, [], ◌∷◌, ◌++◌, codes, decimal, length, map, nat_eq, nat_le, nat_lt, if◌then◌else◌, Option, None, Some, Result, Ok, Err, ◌⊎◌}
 use Rattle.std.proofs.Common.{inl, inr}
 use Rattle.nav_bits.specs.Bits.{number_at}
 use Rattle.nav_eph.specs.declared.items.NavItem.{NavItem}
 use Rattle.nav_rows.specs.declared.kind.Clock.{Clock}
-use Rattle.nav_rows.specs.declared.kind.Clock.TheVariants.{Frame, Weeks}
+use Rattle.nav_rows.specs.declared.kind.Clock.TheVariants.{Frame, Weeks, Daily}
 use Rattle.nav_rows.specs.declared.kind.Kind.{Kind}
 use Rattle.nav_rows.specs.declared.row.RowFault.{RowFault}
 use Rattle.nav_rows.specs.declared.row.RowFault.TheVariants.{Message, SpareSisa as RowSisa, Day}
@@ -52,11 +52,13 @@ satellite_in payload = if nat_lt (length payload) 3 then 0 else number_at payloa
 abbrev pub is_time : Clock → ℕ → Bool
 is_time Frame f = nat_eq f 6 || (nat_eq f 7 || (nat_eq f 8 || nat_eq f 11))
 is_time (Weeks c) f = nat_eq f c.toe || nat_eq f c.toc
+is_time (Daily step) f = nat_eq f 3
 
 -- the field with the number of the day
 abbrev pub is_day : Clock → ℕ → Bool
 is_day Frame f = nat_eq f 30
 is_day (Weeks c) f = false
+is_day (Daily step) f = false
 
 -- why a number is out of its range, in one word
 abbrev pub range_reason : Clock → ℕ → List ℕ

@@ -69,6 +69,11 @@ abbrev pub message_text : Result (List ℕ) EncodeFault → List ℕ
 message_text (Ok bytes) = frame_bytes bytes
 message_text (Err fault) = []
 
+-- there is a message
+abbrev pub has_message : Result (List ℕ) EncodeFault → Bool
+has_message (Ok bytes) = true
+has_message (Err fault) = false
+
 -- the satellite of a row: the letter of its system, and two digits
 abbrev pub satellite_text : KindRow → List ℕ
 satellite_text x = x.kind.letter ∷ (48 + x.row.number / 10 % 10) ∷ (48 + x.row.number % 10) ∷ []

@@ -5,7 +5,7 @@ ghost use Rattle.nav_rows.specs.Kinds.{IsKind};
 ghost use Rattle.system_streams.specs.Readings.{beidou_kind, kind_at};
 
 use crate::kinds::Kinds;
-use nav_rows::{Kind, kind_d1, kind_d2, kind_fdma, kind_fnav, kind_navic, kind_qzss};
+use nav_rows::{Kind, kind_d1, kind_d2, kind_fdma, kind_fnav, kind_navic, kind_qzss, kind_sbas};
 
 impl Kinds {
     /// All of them.
@@ -17,11 +17,12 @@ impl Kinds {
             fnav: kind_fnav(),
             qzss: kind_qzss(),
             navic: kind_navic(),
+            sbas: kind_sbas(),
         }
     }
 
-    // The kind of a BeiDou satellite.
-    fn beidou(&self, satellite: u64) -> Kind
+    /// The kind of a BeiDou satellite: D2 of 1 to 5 and 59 to 63 (BDS-SIS-ICD-B1I-3.0).
+    pub fn beidou(&self, satellite: u64) -> Kind
         ensures same { result ≡ beidou_kind self.now satellite }
         ensures kind { IsKind result }
     {

@@ -1,4 +1,4 @@
-//! The kinds of ephemerides that messages have beside those of 1019 and 1046.
+//! The kinds of ephemerides beside those of messages 1019 and 1046.
 
 ghost use Rattle.system_streams.specs.Kinds.{AreKinds};
 
@@ -19,5 +19,7 @@ pub struct Kinds {
     pub qzss: Kind,
     /// NavIC LNAV, message 1041.
     pub navic: Kind,
-    pub ghost are: { AreKinds fdma d1 d2 fnav qzss navic },
+    /// SBAS, which has no message.
+    pub sbas: Kind,
+    pub ghost are: { AreKinds fdma d1 d2 fnav qzss navic sbas },
 }

@@ -25,3 +25,4 @@ mod text;
 pub use crate::kinds::Kinds;
 pub use crate::laws::a_stream_has_the_same_ephemerides_of_gps_and_galileo;
 pub use crate::run::run_systems;
+pub use crate::text::{put_message, put_row};

@@ -35,6 +35,7 @@ fn is_time(clock: &Clock, field: usize) -> bool
     match clock {
         Clock::Frame => field == 6 || (field == 7 || (field == 8 || field == 11)),
         Clock::Weeks(weeks) => field == weeks.toe || field == weeks.toc,
+        Clock::Daily(_) => field == 3,
     }
 }
 
@@ -45,6 +46,7 @@ fn is_day(clock: &Clock, field: usize) -> bool
     match clock {
         Clock::Frame => field == 30,
         Clock::Weeks(_) => false,
+        Clock::Daily(_) => false,
     }
 }
 

@@ -12,7 +12,7 @@ ghost use Rattle.rtcm_eph.specs.declared.fault.MessageFault.TheVariants.{OtherMe
 ghost use Rattle.nav_rows.specs.Kinds.{IsKind};
 ghost use Rattle.nav_rows.specs.Rows.{value};
 ghost use Rattle.streams.specs.Mirrors.{HasRoom, IsStreamFault, StandsIn};
-ghost use Rattle.streams.specs.Taken.{Gives, GivesBetween, GivesPart, Holds};
+ghost use Rattle.streams.specs.Taken.{Gives, GivesBetween, Holds};
 ghost use Rattle.system_streams.specs.Mirrors.{StandsFor};
 ghost use Rattle.system_streams.specs.Readings.{reading_in, reading_report, readings};
 ghost use Rattle.system_streams.specs.Streams.{counts_of, reported_by, systems_meaning};
@@ -65,8 +65,8 @@ impl Systems {
         ensures report { (u : Option (List ℕ)) → Gives (StandsFor self.now.kinds self.now.week)
             state.old (told_by self.now.kinds self.now.week) (frame.now ∷ []) u u }
         ensures unreported { (u : Option (List ℕ))
-            → GivesPart (StandsFor self.now.kinds self.now.week)
-            state.old (told_by self.now.kinds self.now.week) (frame.now ∷ []) u u }
+            → GivesBetween (StandsFor self.now.kinds self.now.week)
+            state.old (told_by self.now.kinds self.now.week) [] (frame.now ∷ []) u u }
         ensures cause { HasItsCause (faults_of 0 (T.faults output.old) 0)
             (faults_of 0 (T.faults output.new) 0) result }
         ensures kinds { IfErr result IsStreamFault }
@@ -120,8 +120,8 @@ impl Systems {
         ensures report { (u : Option (List ℕ)) → Gives (StandsFor self.now.kinds self.now.week)
             state.old (told_by self.now.kinds self.now.week) (frame.now ∷ []) u u }
         ensures unreported { (u : Option (List ℕ))
-            → GivesPart (StandsFor self.now.kinds self.now.week)
-            state.old (told_by self.now.kinds self.now.week) (frame.now ∷ []) u u }
+            → GivesBetween (StandsFor self.now.kinds self.now.week)
+            state.old (told_by self.now.kinds self.now.week) [] (frame.now ∷ []) u u }
         ensures cause { HasItsCause (faults_of 0 (T.faults output.old) 0)
             (faults_of 0 (T.faults output.new) 0) result }
         ensures kinds { IfErr result IsStreamFault }
@@ -167,8 +167,8 @@ impl Systems {
         ensures report { OnOk result (Gives (StandsFor self.now.kinds self.now.week) state.old
             (told_by self.now.kinds self.now.week) (frame.now ∷ [])
             (U.written report.old) (U.written report.new)) }
-        ensures unreported { OnErr result (GivesPart (StandsFor self.now.kinds self.now.week)
-            state.old (told_by self.now.kinds self.now.week) (frame.now ∷ [])
+        ensures unreported { OnErr result (GivesBetween (StandsFor self.now.kinds self.now.week)
+            state.old (told_by self.now.kinds self.now.week) [] (frame.now ∷ [])
             (U.written report.old) (U.written report.new)) }
         ensures cause { HasItsCause (faults_of 0 0 (U.faults report.old))
             (faults_of 0 0 (U.faults report.new)) result }
@@ -242,8 +242,8 @@ fn take_row<T: Sink, U: Sink>(
     ensures unwritten { OnErr result (GivesBetween (StandsFor systems.now.kinds systems.now.week)
         state.old (text_by systems.now.kinds systems.now.to systems.now.week) [] (frame.now ∷ [])
         (T.written output.old) (T.written output.new)) }
-    ensures unreported { OnErr result (GivesPart (StandsFor systems.now.kinds systems.now.week)
-        state.old (told_by systems.now.kinds systems.now.week) (frame.now ∷ [])
+    ensures unreported { OnErr result (GivesBetween (StandsFor systems.now.kinds systems.now.week)
+        state.old (told_by systems.now.kinds systems.now.week) [] (frame.now ∷ [])
         (U.written report.old) (U.written report.new)) }
     ensures cause { HasItsCause (faults_of 0 (T.faults output.old) (U.faults report.old))
         (faults_of 0 (T.faults output.new) (U.faults report.new)) result }
@@ -288,8 +288,8 @@ fn take_fault<T: Sink, U: Sink>(
     ensures unwritten { OnErr result (GivesBetween (StandsFor systems.now.kinds systems.now.week)
         state.old (text_by systems.now.kinds systems.now.to systems.now.week) [] (frame.now ∷ [])
         (T.written output.old) (T.written output.new)) }
-    ensures unreported { OnErr result (GivesPart (StandsFor systems.now.kinds systems.now.week)
-        state.old (told_by systems.now.kinds systems.now.week) (frame.now ∷ [])
+    ensures unreported { OnErr result (GivesBetween (StandsFor systems.now.kinds systems.now.week)
+        state.old (told_by systems.now.kinds systems.now.week) [] (frame.now ∷ [])
         (U.written report.old) (U.written report.new)) }
     ensures cause { HasItsCause (faults_of 0 (T.faults output.old) (U.faults report.old))
         (faults_of 0 (T.faults output.new) (U.faults report.new)) result }
@@ -331,8 +331,8 @@ fn take_frame<T: Sink, U: Sink>(
     ensures unwritten { OnErr result (GivesBetween (StandsFor systems.now.kinds systems.now.week)
         state.old (text_by systems.now.kinds systems.now.to systems.now.week) [] (frame.now ∷ [])
         (T.written output.old) (T.written output.new)) }
-    ensures unreported { OnErr result (GivesPart (StandsFor systems.now.kinds systems.now.week)
-        state.old (told_by systems.now.kinds systems.now.week) (frame.now ∷ [])
+    ensures unreported { OnErr result (GivesBetween (StandsFor systems.now.kinds systems.now.week)
+        state.old (told_by systems.now.kinds systems.now.week) [] (frame.now ∷ [])
         (U.written report.old) (U.written report.new)) }
     ensures cause { HasItsCause (faults_of 0 (T.faults output.old) (U.faults report.old))
         (faults_of 0 (T.faults output.new) (U.faults report.new)) result }

@@ -1,13 +1,13 @@
 //! The texts of ephemerides, in each format that a run writes.
 
-ghost use Rattle.std.specs.Prelude.{◌≡◌, ◌≤◌, length};
+ghost use Rattle.std.specs.Prelude.{◌≡◌, ◌≤◌, IfOk, length};
 ghost use Rattle.nav_io.specs.Writes.{Writes};
 ghost use Rattle.outlets.specs.Targets.{item_text};
 ghost use Rattle.rinex_write.specs.Columns.{AreFields};
 ghost use Rattle.nav_rows.specs.Encoding.{message_of};
 ghost use Rattle.nav_rows.specs.Kinds.{IsKind};
 ghost use Rattle.nav_rows.specs.Rows.{value};
-ghost use Rattle.system_streams.specs.Streams.{message_text, row_line, row_text};
+ghost use Rattle.system_streams.specs.Streams.{has_message, message_text, row_line, row_text};
 
 use nav_eph::NavItem;
 use nav_io::{Failed, Sink};
@@ -37,18 +37,28 @@ pub(crate) fn put_item<T: Sink>(
     }
 }
 
-// Writes the frame of the message of a row, if it has one.
-fn put_message<T: Sink>(kind: &Kind, row: &Row, out: &mut T) -> Result<(), Failed>
+/// Writes the frame of the message of a row, and returns whether it has one.
+///
+/// # Errors
+///
+/// `Failed` only if the sink's count of errors rose in this call or is at its maximum; a prefix of
+/// the frame was appended then. So in [`put_row`].
+pub fn put_message<T: Sink>(kind: &Kind, row: &Row, out: &mut T) -> Result<bool, Failed>
     requires kind { IsKind kind.now }
     requires fields { AreFields kind.now.layout.columns.now row.now.columns.items }
-    ensures { Writes (T.written out.old) (T.written out.new) (T.faults out.old) (T.faults out.new)
+    ensures writes { Writes (T.written out.old) (T.written out.new)
+        (T.faults out.old) (T.faults out.new)
         result (message_text (message_of kind.now (value row.now))) }
+    ensures has { IfOk result (λ has. has ≡ has_message (message_of kind.now (value row.now))) }
 {
     let mut bytes = [0; MOST];
     let message = &mut bytes[..kind.table.bytes];
     match message_of_row(kind, row, message) {
-        Ok(()) => write_payload(message, out),
-        Err(_) => Ok(()),
+        Ok(()) => match write_payload(message, out) {
+            Ok(()) => Ok(true),
+            Err(Failed) => Err(Failed),
+        },
+        Err(_) => Ok(false),
     }
 }
 
@@ -79,8 +89,8 @@ fn line_of(number: u64, kind: &Kind, row: &Row) -> Text
     text
 }
 
-// Writes a row that a frame with this number gave.
-pub(crate) fn put_row<T: Sink>(
+/// Writes a row that a frame or line with this number gave.
+pub fn put_row<T: Sink>(
     to: &Target,
     number: u64,
     kind: &Kind,
@@ -95,7 +105,10 @@ pub(crate) fn put_row<T: Sink>(
     match to {
         Target::Rinex(_) => write_record(kind, row, out),
         Target::Rinex3(_) => write_body(kind, row, out),
-        Target::Rtcm => put_message(kind, row, out),
+        Target::Rtcm => match put_message(kind, row, out) {
+            Ok(_) => Ok(()),
+            Err(Failed) => Err(Failed),
+        },
         Target::ToList => out.write(line_of(number, kind, row).as_slice()),
         Target::Count => Ok(()),
     }

@@ -1,8 +1,8 @@
 //! Files of an independent program, records of other kinds and of odd spellings, versions, and what
 //! is written.
 
-use nav_io::{MemSink, MemSource};
-use rinex_read::{HeaderFault, ItemRead, Reason, Records3};
+use nav_io::{LineFault, MemSink, MemSource};
+use rinex_read::{HeaderFault, ItemRead, Reason, RecordReader, Rinex3};
 use rinex_write::{HeaderWords, write_header3, write_item, write_item3};
 use std::alloc::{AllocError, Global};
 use std::test::Fail;
@@ -354,25 +354,26 @@ fn reads_to(
     four: &mut MemSink,
     three: &mut MemSink,
 ) -> bool {
-    let mut records = Records3::new();
-    match records.read_header3(source) {
+    let mut records = RecordReader::new();
+    match records.read_header::<ItemRead, Rinex3, MemSource>(&Rinex3, source) {
         Ok(()) => {}
         Err(_) => return false,
     }
     let mut all = true;
     for want in wants {
-        match records.next_item3(source) {
-            Ok(read) => {
+        match records.next_item::<ItemRead, Rinex3, MemSource>(&Rinex3, source) {
+            Ok(Some(read)) => {
                 all = all && is_wanted(&read, want);
                 if let ItemRead::Item { item, .. } = read {
                     all = write_item(&item, four) == Ok(()) && all;
                     all = write_item3(&item, three) == Ok(()) && all;
                 }
             }
-            Err(_) => all = false,
+            _ => all = false,
         }
     }
-    all && records.next_item3(source) == Ok(ItemRead::End)
+    let last: Result<Option<ItemRead>, LineFault> = records.next_item(&Rinex3, source);
+    all && last == Ok(None)
 }
 
 // Whether a text is the one that is looked at.
@@ -452,9 +453,9 @@ static HEADERS: [HeaderRow; 7] = [
 
 fn answers(alloc: Global, row: &HeaderRow) -> Result<[Result<(), HeaderFault>; 2], AllocError> {
     let mut source = source_of(alloc, row.bytes, b"")?;
-    let mut records = Records3::new();
-    let first = records.read_header3(&mut source);
-    let second = records.read_header3(&mut source);
+    let mut records = RecordReader::new();
+    let first = records.read_header::<ItemRead, Rinex3, MemSource>(&Rinex3, &mut source);
+    let second = records.read_header::<ItemRead, Rinex3, MemSource>(&Rinex3, &mut source);
     Ok([first, second])
 }
 

@@ -10,7 +10,7 @@ use nav_samples::{
     G32_OF_WEEK_2294, GalIonNumbers, GalNumbers, GpsIonNumbers, GpsNumbers, OrbitANumbers,
     OrbitBNumbers, SideNumbers,
 };
-use rinex_read::{HeaderFault, ItemRead, Judged, Reason, RecordLines, Records};
+use rinex_read::{HeaderFault, ItemRead, Judged, Reason, RecordLines, RecordReader, Rinex4};
 use rinex_write::{HeaderWords, write_header, write_item};
 use std::alloc::{AllocError, Global};
 use std::test::Fail;
@@ -114,23 +114,23 @@ enum Want {
     Fault(LineFault),
 }
 
-fn is_wanted(read: &Result<ItemRead, LineFault>, want: &Want) -> bool {
+fn is_wanted(read: &Result<Option<ItemRead>, LineFault>, want: &Want) -> bool {
     match (read, want) {
         (
-            Ok(ItemRead::Item { line, item }),
+            Ok(Some(ItemRead::Item { line, item })),
             Want::Item {
                 line: at,
                 item: wanted,
             },
         ) => { line == at && is_item(item, wanted) }
         (
-            Ok(ItemRead::Refused { line, reason }),
+            Ok(Some(ItemRead::Refused { line, reason })),
             Want::Refused {
                 line: at,
                 reason: why,
             },
         ) => { line == at && reason == why }
-        (Ok(ItemRead::PassedOver { line }), Want::PassedOver { line: at }) => line == at,
+        (Ok(Some(ItemRead::PassedOver { line })), Want::PassedOver { line: at }) => line == at,
         (Err(fault), Want::Fault(wanted)) => fault == wanted,
         _ => false,
     }
@@ -640,22 +640,22 @@ fn source_of(alloc: Global, row: &FileRow) -> Result<MemSource, AllocError> {
 // Whether the source gives a header, these answers, and from then on the end; the items are
 // written.
 fn gives(source: &mut MemSource, want: &[Want], sink: &mut MemSink) -> bool {
-    let mut records = Records::new();
-    match records.read_header(source) {
+    let mut records = RecordReader::new();
+    match records.read_header::<ItemRead, Rinex4, MemSource>(&Rinex4, source) {
         Ok(()) => {}
         Err(_) => return false,
     }
     let mut all = true;
     for read in want {
-        let next = records.next_item(source);
+        let next = records.next_item(&Rinex4, source);
         all = all && is_wanted(&next, read);
-        if let Ok(ItemRead::Item { item, .. }) = next {
+        if let Ok(Some(ItemRead::Item { item, .. })) = next {
             all = write_item(&item, sink) == Ok(()) && all;
         }
     }
-    let first = records.next_item(source) == Ok(ItemRead::End);
-    let second = records.next_item(source) == Ok(ItemRead::End);
-    all && first && second
+    let first: Result<Option<ItemRead>, LineFault> = records.next_item(&Rinex4, source);
+    let second: Result<Option<ItemRead>, LineFault> = records.next_item(&Rinex4, source);
+    all && first == Ok(None) && second == Ok(None)
 }
 
 // Whether the records of a row are read so, and their items written so.
@@ -874,9 +874,9 @@ static HEADERS: [HeaderRow; 6] = [
 fn answers(alloc: Global, row: &HeaderRow) -> Result<[Result<(), HeaderFault>; 2], AllocError> {
     let bytes = row.bytes.to_vec(alloc)?;
     let mut source = MemSource::new(bytes, Vec::new(alloc), Vec::new(alloc));
-    let mut records = Records::new();
-    let first = records.read_header(&mut source);
-    let second = records.read_header(&mut source);
+    let mut records = RecordReader::new();
+    let first = records.read_header::<ItemRead, Rinex4, MemSource>(&Rinex4, &mut source);
+    let second = records.read_header::<ItemRead, Rinex4, MemSource>(&Rinex4, &mut source);
     Ok([first, second])
 }
 

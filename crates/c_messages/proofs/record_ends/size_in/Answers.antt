@@ -17,7 +17,7 @@ returns-then-begins g c =
     let h : EndsAt (drop at text) n = subst (λ (l : List ℕ). EndsAt l n) (take_rest text at) c.in-Some.ensures.some in
     let width : at + n - at ≡ n = omega arith in
     let is : c.without_end.result.now ≡ without_cr (take n (drop at text)) = c.without_end.ensures ∙ ap (λ (m : ℕ). without_cr (take m (drop at text))) width in
-    next_ends g.F.FileForm.form text c.without_end.result.now c.args.is_end at n (omega (arith, c.if-at-gt0.true)) c.lines.invariant.within c.lines.invariant.whole
+    next_ends (g.F.FileForm.form c.args.form.now) text c.without_end.result.now c.args.is_end at n (omega (arith, c.if-at-gt0.true)) c.lines.invariant.within c.lines.invariant.whole
     c.lines.invariant.one h is (sym c.begins.ensures ∙ c.if-begins.true)
 
 pub lines-preserved : goal.lines-preserved
@@ -28,9 +28,9 @@ lines-preserved g c =
     let h : EndsAt (drop at text) n = subst (λ (l : List ℕ). EndsAt l n) (take_rest text at) c.in-Some.ensures.some in
     let line : List ℕ = without_cr (take n (drop at text)) in
     let width : at + n - at ≡ n = omega arith in
-    let other : (lines_of (take at text) ≡ []) ⊎ (begins g.F.FileForm.form line ≡ false) =
+    let other : (lines_of (take at text) ≡ []) ⊎ (begins (g.F.FileForm.form c.args.form.now) line ≡ false) =
     elim c.else-at-gt0.branch [
-      | else-at-gt0-via-then-at-gt0+else-begins w ↦ inr (ap (begins g.F.FileForm.form) (sym (w.without_end.ensures ∙ ap (λ (m : ℕ). without_cr (take m (drop at text))) width))
+      | else-at-gt0-via-then-at-gt0+else-begins w ↦ inr (ap (begins (g.F.FileForm.form c.args.form.now)) (sym (w.without_end.ensures ∙ ap (λ (m : ℕ). without_cr (take m (drop at text))) width))
           ∙ sym w.begins.ensures ∙ w.if-begins.false)
       | else-at-gt0-via-else-at-gt0 w ↦
           let zero : at ≡ 0 = omega (arith, w.if-at-gt0.false) in
@@ -39,8 +39,8 @@ lines-preserved g c =
     record {
       within = omega (arith, c.lines.invariant.within, h.within, length-drop at text);
       whole = next_whole text at n c.lines.invariant.whole h;
-      one = subst (AreOfOne g.F.FileForm.form) (sym (next_lines text line at n c.lines.invariant.whole h refl))
-          (one_longer g.F.FileForm.form (lines_of (take at text)) line c.lines.invariant.one other);
+      one = subst (AreOfOne (g.F.FileForm.form c.args.form.now)) (sym (next_lines text line at n c.lines.invariant.whole h refl))
+          (one_longer (g.F.FileForm.form c.args.form.now) (lines_of (take at text)) line c.lines.invariant.one other);
     }
 
 pub returns-then-not-is_end : goal.returns-then-not-is_end
@@ -48,7 +48,7 @@ returns-then-not-is_end g c =
     let text = c.args.text.now in
     let at = c.lines.at in
     let none : ends (drop at text) ≡ false = ap ends (sym (take_rest text at)) ∙ c.in_default.ensures.none in
-    not_yet g.F.FileForm.form text c.args.is_end at c.lines.invariant.whole c.lines.invariant.one none c.if-not-is_end.true
+    not_yet (g.F.FileForm.form c.args.form.now) text c.args.is_end at c.lines.invariant.whole c.lines.invariant.one none c.if-not-is_end.true
 
 pub returns-then-begins-2 : goal.returns-then-begins-2
 returns-then-begins-2 g c =
@@ -56,7 +56,7 @@ returns-then-begins-2 g c =
     let at = c.lines.at in
     let none : ends (drop at text) ≡ false = ap ends (sym (take_rest text at)) ∙ c.in_default.ensures.none in
     let is : c.without_end-then-at-text.result.now ≡ without_cr (drop at text) = c.without_end-then-at-text.ensures ∙ ap without_cr (take_rest text at) in
-    last_ends g.F.FileForm.form text c.without_end-then-at-text.result.now c.args.is_end at (omega (arith, c.if-at-gt0-2.true)) (omega (arith, c.if-at-text.true))
+    last_ends (g.F.FileForm.form c.args.form.now) text c.without_end-then-at-text.result.now c.args.is_end at (omega (arith, c.if-at-gt0-2.true)) (omega (arith, c.if-at-text.true))
     c.lines.invariant.whole c.lines.invariant.one none is (sym c.begins-then-at-text.ensures ∙ c.if-begins-2.true) c.if-not-is_end.false
 
 pub returns : goal.returns
@@ -64,12 +64,12 @@ returns g c =
     let text = c.args.text.now in
     let at = c.lines.at in
     let none : ends (drop at text) ≡ false = ap ends (sym (take_rest text at)) ∙ c.in_default.ensures.none in
-    let other : (length text ≤ at) ⊎ ((at ≡ 0) ⊎ (begins g.F.FileForm.form (without_cr (drop at text)) ≡ false)) =
+    let other : (length text ≤ at) ⊎ ((at ≡ 0) ⊎ (begins (g.F.FileForm.form c.args.form.now) (without_cr (drop at text)) ≡ false)) =
     elim c.else-at-gt0-2.branch [
       | else-at-gt0-2-via-then-at-gt0-2+then-at-text+else-begins-2 w ↦
-          inr (inr (ap (begins g.F.FileForm.form) (sym (w.without_end-then-at-text.ensures ∙ ap without_cr (take_rest text at)))
+          inr (inr (ap (begins (g.F.FileForm.form c.args.form.now)) (sym (w.without_end-then-at-text.ensures ∙ ap without_cr (take_rest text at)))
           ∙ sym w.begins-then-at-text.ensures ∙ w.if-begins-2.false))
       | else-at-gt0-2-via-then-at-gt0-2+else-at-text w ↦ inl (omega (arith, w.if-at-text.false))
       | else-at-gt0-2-via-else-at-gt0-2 w ↦ inr (inl (omega (arith, w.if-at-gt0-2.false)))
     ] in
-    all_ends g.F.FileForm.form text c.args.is_end at c.lines.invariant.within c.lines.invariant.whole c.lines.invariant.one none c.if-not-is_end.false other
+    all_ends (g.F.FileForm.form c.args.form.now) text c.args.is_end at c.lines.invariant.within c.lines.invariant.whole c.lines.invariant.one none c.if-not-is_end.false other

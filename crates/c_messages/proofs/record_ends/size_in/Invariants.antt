@@ -9,7 +9,7 @@ abbrev pub invariant-lines : goal.invariant-lines
 invariant-lines g l = record {
   within : l.at ≤ length l.text;
   whole : AreWhole (take l.at l.text);
-  one : AreOfOne g.F.FileForm.form (lines_of (take l.at l.text));
+  one : AreOfOne (g.F.FileForm.form l.form) (lines_of (take l.at l.text));
 }
 
 abbrev pub decreases-lines : goal.decreases-lines

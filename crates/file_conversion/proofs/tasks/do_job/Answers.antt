@@ -1,13 +1,14 @@
 use Rattle.std.proofs.Common.{Err, Ok}
 use Rattle.bridge_engine.proofs.Surface.{limit_of}
-use Rattle.file_conversion.proofs.Running.{accepts_by, breaks_of, broke_for, complete_by, counts_by, ended_for, ended_well, text_by}
+use Rattle.file_conversion.specs.declared.done.Done.TheVariants as dones
+use Rattle.file_conversion.proofs.Running.{accepts_by, breaks_of, broke_for, complete_by, counts_read, ended_for, ended_well, text_by}
 use Rattle.file_conversion.proofs.tasks.do_job.Goals as goal
 
 pub returns-in-Ok-clause-text : goal.returns-in-Ok-clause-text
 returns-in-Ok-clause-text g c = text_by _ _ _ (Ok c.in-Ok.done) c.requires c.in-Ok.ensures.ended
 
 pub returns-in-Ok-clause-counts : goal.returns-in-Ok-clause-counts
-returns-in-Ok-clause-counts g c = counts_by _ _ _ c.in-Ok.done c.requires c.in-Ok.ensures.ended
+returns-in-Ok-clause-counts g c = counts_read dones.Job _ _ _ c.in-Ok.done c.requires c.in-Ok.ensures.ended
 
 pub returns-in-Ok-clause-complete : goal.returns-in-Ok-clause-complete
 returns-in-Ok-clause-complete g c = ended_well _ _ _ _ _ _ tt

@@ -1,5 +1,5 @@
 use Rattle.std.proofs.Common.{Err, Ok, refl}
-use Rattle.bridge_engine.specs.declared.done.Done.TheVariants as dones
+use Rattle.file_conversion.specs.declared.done.Done.TheVariants as dones
 use Rattle.file_conversion.proofs.Running.{accepts_by, breaks_of, broke_for, complete_by, counts_read, ended_for, ended_well, text_by}
 use Rattle.file_conversion.proofs.tasks.do_systems.Goals as goal
 

@@ -8,9 +8,9 @@ use Rattle.file_diff.proofs.read.read_records.Given as goal
 
 abbrev pub invariant-records : goal.invariant-records
 invariant-records g l = record {
-  follow : Follow g.F.FileForm.form;
+  follow : Follow (g.F.FileForm.form l.form);
   header : l.records.header ≡ Passed;
-  some : ReadsSome g.F.FileForm.form l.all (g.S.Source.left l.fn.input) (g.S.Source.left l.input) l.fn.records l.records l.fn.items l.items l.counts;
+  some : ReadsSome (g.F.FileForm.form l.form) l.all (g.S.Source.left l.fn.input) (g.S.Source.left l.input) l.fn.records l.records l.fn.items l.items l.counts;
   read : g.S.Source.faults l.input ≡ g.S.Source.faults l.fn.input;
   never : IsTrue (g.S.Source.never_fails l.fn.input) → IsTrue (g.S.Source.never_fails l.input);
 }

@@ -1,8 +1,8 @@
-use Rattle.std.proofs.Common.{◌≡◌, true, length, sym, ap, subst, ◌∙◌, arith}
+use Rattle.std.proofs.Common.{◌≡◌, ◌++◌, true, length, sym, ap, subst, ◌∙◌, arith}
 use Rattle.nav_tables.proofs.Surface.{starts_length}
 use Rattle.nav_links.specs.Links.{AreSmall, are_links}
-use Rattle.nav_rows.specs.Encoding.{HasClock}
-use Rattle.nav_rows.proofs.EncodeLemmas.{row_is}
+use Rattle.nav_rows.specs.Encoding.{HasClock, known}
+use Rattle.nav_rows.proofs.EncodeLemmas.{known_length, known_small, row_is}
 use Rattle.nav_rows.proofs.RowLemmas.{front}
 use Rattle.nav_rows.proofs.encode.write_numbers.Goals as goal
 
@@ -20,13 +20,27 @@ fill_numbers-requires-clause-links c =
 
 pub fill_numbers-requires-clause-columns : goal.fill_numbers-requires-clause-columns
 fill_numbers-requires-clause-columns c =
-    ap length c.as_slice-columns.ensures.value
-    ∙ (row_is c.args.kind.now c.args.row.now.columns.items c.requires.kind c.requires.fields).count
+    let k = c.args.kind.now in
+    let fields = c.args.row.now.columns.items in
+    let are : c.as_slice.result.now ≡ known k.layout.columns.now fields = c.as_slice.ensures.value
+    ∙ c.push_known.ensures
+    ∙ ap (λ xs. xs ++ known k.layout.columns.now c.as_slice-columns.result.now)
+    c.new-known.ensures
+    ∙ ap (known k.layout.columns.now) c.as_slice-columns.ensures.value in
+    ap length are ∙ known_length k.layout.columns.now fields c.requires.fields
+    ∙ (row_is k fields c.requires.kind c.requires.fields).count
 
 pub fill_numbers-requires-clause-small : goal.fill_numbers-requires-clause-small
 fill_numbers-requires-clause-small c =
-    subst AreSmall (sym c.as_slice-columns.ensures.value)
-    (row_is c.args.kind.now c.args.row.now.columns.items c.requires.kind c.requires.fields).small
+    let k = c.args.kind.now in
+    let fields = c.args.row.now.columns.items in
+    let are : c.as_slice.result.now ≡ known k.layout.columns.now fields = c.as_slice.ensures.value
+    ∙ c.push_known.ensures
+    ∙ ap (λ xs. xs ++ known k.layout.columns.now c.as_slice-columns.result.now)
+    c.new-known.ensures
+    ∙ ap (known k.layout.columns.now) c.as_slice-columns.ensures.value in
+    subst AreSmall (sym are) (known_small k.layout.columns.now fields c.requires.fields
+    (row_is k fields c.requires.kind c.requires.fields).small)
 
 pub write_head-requires-clause-count : goal.write_head-requires-clause-count
 write_head-requires-clause-count c =

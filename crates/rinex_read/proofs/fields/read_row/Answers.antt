@@ -1,19 +1,17 @@
 use Rattle.std.proofs.Common.{◌≡◌, ℕ, ◌+◌, ◌*◌, List, drop, sym, ap, ◌∙◌, Result, arith, ℤ, rules, SFits, to_z, of_z, w64, [], ◌∷◌, ◌++◌}
 use Rattle.std.proofs.lemmas.Int.{to_z-of_z}
-use Rattle.scaled_decimal.specs.ScaleValue.{size_of}
-use Rattle.scaled_decimal.specs.NumberReading.{seen}
 use Rattle.rinex_write.specs.declared.columns.Column.{Column}
 use Rattle.rinex_write.proofs.Surface.{no_column}
 use Rattle.rinex_read.specs.declared.reason.Reason.{Reason}
 use Rattle.rinex_read.specs.Lines.{columns}
-use Rattle.rinex_read.specs.Fields.{taken, field_at, read_row}
+use Rattle.rinex_read.specs.Fields.{field_of, field_at, read_row}
 use Rattle.rinex_read.specs.Mirrors.{with_prefix}
 use Rattle.rinex_read.proofs.FieldLemmas.{good_at}
 use Rattle.rinex_read.proofs.RowLemmas.{row_more}
 use Rattle.rinex_read.proofs.fields.read_row.Goals as goal
 
-field_is : (col : Column) (t : List ℕ) (a : ℕ) (line : List ℕ) (r : Result ℤ Reason) → t ≡ columns a 19 line → r ≡ taken col.rule (seen (size_of col.scale) t) → field_at col a line ≡ r
-field_is col t a line r e f = sym (f ∙ ap (λ u. taken col.rule (seen (size_of col.scale) u)) e)
+field_is : (col : Column) (t : List ℕ) (a : ℕ) (line : List ℕ) (r : Result ℤ Reason) → t ≡ columns a 19 line → r ≡ field_of col t → field_at col a line ≡ r
+field_is col t a line r e f = sym (f ∙ ap (field_of col) e)
 
 pub field-requires-clause-scale : goal.field-requires-clause-scale
 field-requires-clause-scale c = (good_at c.args.columns_of_row.now c.loop-i.i no_column c.requires.good c.loop-i-test.true).0

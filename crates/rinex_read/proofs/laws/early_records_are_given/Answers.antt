@@ -2,7 +2,7 @@ use Rattle.rinex_read.proofs.EarlyLemmas.{header_early, records_early}
 use Rattle.rinex_read.proofs.laws.early_records_are_given.Goals as goal
 
 pub returns-clause-records : goal.returns-clause-records
-returns-clause-records g c = records_early g.F.FileForm.form c.looks_at_kept.ensures
+returns-clause-records g c = records_early (g.F.FileForm.form c.args.form.now) c.looks_at_kept.ensures
 
 pub returns-clause-header : goal.returns-clause-header
-returns-clause-header g c = header_early g.F.FileForm.form c.looks_at_kept.ensures
+returns-clause-header g c = header_early (g.F.FileForm.form c.args.form.now) c.looks_at_kept.ensures

@@ -1,11 +1,10 @@
-use Rattle.rinex_read.proofs.ListedLemmas.{list_whole, reads_whole, to_come_whole}
+use Rattle.rinex_read.specs.Form3.{rinex3}
+use Rattle.rinex_read.specs.Forms.{rinex4}
+use Rattle.rinex_read.proofs.ListedLemmas.{list_whole}
 use Rattle.rinex_read.proofs.laws.listed_items_are_whole.Goals as goal
 
 pub returns-clause-list : goal.returns-clause-list
-returns-clause-list g c = list_whole g.F.FileForm.form c.gives_items.ensures
+returns-clause-list c = list_whole rinex4 c.gives_whole.ensures
 
-pub returns-clause-records : goal.returns-clause-records
-returns-clause-records g c = reads_whole g.F.FileForm.form c.gives_items.ensures
-
-pub returns-clause-to_come : goal.returns-clause-to_come
-returns-clause-to_come g c = to_come_whole g.F.FileForm.form c.gives_items.ensures
+pub returns-clause-list3 : goal.returns-clause-list3
+returns-clause-list3 c = list_whole rinex3 c.gives_whole-2.ensures

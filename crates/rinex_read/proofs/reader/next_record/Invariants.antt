@@ -7,7 +7,7 @@ use Rattle.rinex_read.proofs.reader.next_record.Given as goal
 
 abbrev pub invariant-records : goal.invariant-records
 invariant-records g l = record {
-  steps : (header : HeaderState) → NearSteps g.F.FileForm.form (g.S.Source.left l.fn.source) (g.S.Source.left l.source) (state_of header l.fn.kept l.fn.first l.fn.lines) (state_of header l.kept l.first l.lines) [];
+  steps : (header : HeaderState) → NearSteps (g.F.FileForm.form l.form) (g.S.Source.left l.fn.source) (g.S.Source.left l.source) (state_of header l.fn.kept l.fn.first l.fn.lines) (state_of header l.kept l.first l.lines) [];
   near : lines_left (state_of Passed l.kept l.first l.lines) ≤ lines_left (state_of Passed l.fn.kept l.fn.first l.fn.lines);
   numbered : l.lines.number ≤ l.lines.taken;
   faults : g.S.Source.faults l.source ≡ g.S.Source.faults l.fn.source;

@@ -9,7 +9,7 @@ use Rattle.rinex_read.proofs.reader.pass_header.Goals as goal
 
 pub header-init : goal.header-init
 header-init g c = record {
-  steps = λ first. near_header_none g.F.FileForm.form _ _;
+  steps = λ first. near_header_none (g.F.FileForm.form c.args.form.now) _ _;
   waiting = c.requires.waiting;
   numbered = c.requires.numbered;
   faults = refl;
@@ -18,18 +18,18 @@ header-init g c = record {
 
 pub returns-in-Err-ReadFault-clause-steps : goal.returns-in-Err-ReadFault-clause-steps
 returns-in-Err-ReadFault-clause-steps g c = λ first.
-    early_header_more g.F.FileForm.form _ _ _ (state_of c.args.header.now [] first c.args.lines.now) (state_of c.header.header [] first c.header.lines) (state_of c.header.header [] first c.next.new.self)
-    (c.header.invariant.steps first) (header_breaks g.F.FileForm.form c.in-Err-ReadFault.field-0 _ _ c.header.header first c.header.lines c.next.new.self c.in-Err-ReadFault.ensures.fault)
+    early_header_more (g.F.FileForm.form c.args.form.now) _ _ _ (state_of c.args.header.now [] first c.args.lines.now) (state_of c.header.header [] first c.header.lines) (state_of c.header.header [] first c.next.new.self)
+    (c.header.invariant.steps first) (header_breaks (g.F.FileForm.form c.args.form.now) c.in-Err-ReadFault.field-0 _ _ c.header.header first c.header.lines c.next.new.self c.in-Err-ReadFault.ensures.fault)
 
 pub returns-in-Err-TooLong-clause-steps : goal.returns-in-Err-TooLong-clause-steps
 returns-in-Err-TooLong-clause-steps g c = λ first.
-    early_header_more g.F.FileForm.form _ _ _ (state_of c.args.header.now [] first c.args.lines.now) (state_of c.header.header [] first c.header.lines) (state_of c.header.header [] first c.next.new.self)
-    (c.header.invariant.steps first) (header_breaks g.F.FileForm.form c.in-Err-TooLong.field-0 _ _ c.header.header first c.header.lines c.next.new.self c.in-Err-TooLong.ensures.fault)
+    early_header_more (g.F.FileForm.form c.args.form.now) _ _ _ (state_of c.args.header.now [] first c.args.lines.now) (state_of c.header.header [] first c.header.lines) (state_of c.header.header [] first c.next.new.self)
+    (c.header.invariant.steps first) (header_breaks (g.F.FileForm.form c.args.form.now) c.in-Err-TooLong.field-0 _ _ c.header.header first c.header.lines c.next.new.self c.in-Err-TooLong.ensures.fault)
 
 pub returns-then-is_end-clause-steps : goal.returns-then-is_end-clause-steps
 returns-then-is_end-clause-steps g c = λ first.
-    early_header g.F.FileForm.form _ _ _ _ (near_header_more g.F.FileForm.form _ _ _ (state_of c.args.header.now [] first c.args.lines.now) (state_of c.header.header [] first c.header.lines) (state_of NotRinexNav [] first c.next.new.self)
-    (c.header.invariant.steps first) (header_over g.F.FileForm.form _ _ c.header.header first c.header.lines c.next.new.self
+    early_header (g.F.FileForm.form c.args.form.now) _ _ _ _ (near_header_more (g.F.FileForm.form c.args.form.now) _ _ _ (state_of c.args.header.now [] first c.args.lines.now) (state_of c.header.header [] first c.header.lines) (state_of NotRinexNav [] first c.next.new.self)
+    (c.header.invariant.steps first) (header_over (g.F.FileForm.form c.args.form.now) _ _ c.header.header first c.header.lines c.next.new.self
     (end_given c.in-Ok.kind _ _ _ _ (c.is_end.ensures.0 c.if-is_end.true) c.in-Ok.ensures.answer) c.header.invariant.waiting))
 
 pub returns-then-is_end-clause-answer : goal.returns-then-is_end-clause-answer
@@ -43,14 +43,14 @@ returns-then-not-is_waiting-clause-answer g c =
 pub returns-then-not-is_waiting-clause-steps : goal.returns-then-not-is_waiting-clause-steps
 returns-then-not-is_waiting-clause-steps g c = λ first.
     let line = line_given c.in-Ok.kind _ _ _ _ (λ (e : c.in-Ok.kind ≡ End). let end : c.is_end.result ≡ true = c.is_end.ensures.1 e in absurd (cc c.if-is_end.false)) c.in-Ok.ensures.answer in
-    header_by g.F.FileForm.form c.answer_of.result _ _ _ _ (header_more g.F.FileForm.form _ _ _ c.args.header.now c.header.header c.header_after.result first c.args.lines.now c.header.lines c.next.new.self c.text.result.now
+    header_by (g.F.FileForm.form c.args.form.now) c.answer_of.result _ _ _ _ (header_more (g.F.FileForm.form c.args.form.now) _ _ _ c.args.header.now c.header.header c.header_after.result first c.args.lines.now c.header.lines c.next.new.self c.text.result.now
     (c.header.invariant.steps first) line c.header.invariant.waiting c.text.ensures c.header_after.ensures)
 
 pub header-preserved : goal.header-preserved
 header-preserved g c =
     let line = line_given c.in-Ok.kind _ _ _ _ (λ (e : c.in-Ok.kind ≡ End). let end : c.is_end.result ≡ true = c.is_end.ensures.1 e in absurd (cc c.if-is_end.false)) c.in-Ok.ensures.answer in
     record {
-      steps = λ first. header_more g.F.FileForm.form _ _ _ c.args.header.now c.header.header c.header_after.result first c.args.lines.now c.header.lines c.next.new.self c.text.result.now
+      steps = λ first. header_more (g.F.FileForm.form c.args.form.now) _ _ _ c.args.header.now c.header.header c.header_after.result first c.args.lines.now c.header.lines c.next.new.self c.text.result.now
           (c.header.invariant.steps first) line c.header.invariant.waiting c.text.ensures c.header_after.ensures;
       waiting = sym c.is_waiting.ensures ∙ c.if-not-is_waiting.false;
       numbered = line.gives.numbered;

@@ -1,7 +1,7 @@
 use Rattle.std.proofs.Common.{Bool, not, subst, ap, ◌∙◌, arith}
 use Rattle.std.proofs.lemmas.Result.{err_from_is_err_and}
 use Rattle.rtcm_frame.specs.State.{TakesFrame, TakesNone}
-use Rattle.streams.proofs.TakenLemmas.{room_left, stops_more, takes_more, takes_none, takes_nowhere}
+use Rattle.streams.proofs.TakenLemmas.{room_left, stops_more, takes_more, takes_none}
 use Rattle.streams.proofs.taker.take_frames.Goals as goal
 
 pub take-requires : goal.take-requires

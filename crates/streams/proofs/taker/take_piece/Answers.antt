@@ -1,7 +1,7 @@
 use Rattle.std.proofs.Common.{ap, ◌∙◌, length-drop, arith}
 use Rattle.std.proofs.lemmas.List.{take_rest}
 use Rattle.std.proofs.lemmas.Result.{err_from_is_err_and}
-use Rattle.streams.proofs.TakenLemmas.{room_left, stops_part, takes_part}
+use Rattle.streams.proofs.TakenLemmas.{stops_part, takes_part}
 use Rattle.streams.proofs.taker.take_piece.Goals as goal
 
 pub returns-in_err-fed-clause-stops : goal.returns-in_err-fed-clause-stops

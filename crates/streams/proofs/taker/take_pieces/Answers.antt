@@ -3,7 +3,6 @@ use Rattle.std.proofs.lemmas.Result.{err_from_is_err_and}
 use Rattle.streams.proofs.PieceEnds.{if_err2}
 use Rattle.streams.proofs.StreamLemmas.{on_ok2}
 use Rattle.streams.proofs.TakenEnds.{part_of_last, part_of_long, part_of_piece, part_of_read, so_far_piece, so_far_start, takes_all}
-use Rattle.streams.proofs.TakenLemmas.{room_left}
 use Rattle.streams.proofs.taker.take_pieces.Goals as goal
 
 pub returns-in-Err-clause-part : goal.returns-in-Err-clause-part

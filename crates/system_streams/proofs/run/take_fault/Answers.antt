@@ -1,4 +1,4 @@
-use Rattle.std.proofs.Common.{ℕ, List, sym, ap, ◌∙◌}
+use Rattle.std.proofs.Common.{ℕ, sym, ap, ◌∙◌}
 use Rattle.std.specs.Prelude.{Err, Some, codes}
 use Rattle.rtcm_frame.specs.State.{payload_of}
 use Rattle.system_streams.specs.Readings.{Reading, message_in, reading_by}

@@ -33,3 +33,15 @@ returns-in-Systems-clause-causes g c = c.do_systems.ensures.causes
 
 pub returns-in-Systems-clause-breaks : goal.returns-in-Systems-clause-breaks
 returns-in-Systems-clause-breaks g c = rw c.in-Systems.is c.do_systems.ensures.breaks
+
+pub returns-in-SystemFile-clause-complete : goal.returns-in-SystemFile-clause-complete
+returns-in-SystemFile-clause-complete g c = rw c.in-SystemFile.is c.do_system_file.ensures.complete
+
+pub returns-in-SystemFile-clause-accepts : goal.returns-in-SystemFile-clause-accepts
+returns-in-SystemFile-clause-accepts g c = rw c.in-SystemFile.is c.do_system_file.ensures.accepts
+
+pub returns-in-SystemFile-clause-causes : goal.returns-in-SystemFile-clause-causes
+returns-in-SystemFile-clause-causes g c = c.do_system_file.ensures.causes
+
+pub returns-in-SystemFile-clause-breaks : goal.returns-in-SystemFile-clause-breaks
+returns-in-SystemFile-clause-breaks g c = rw c.in-SystemFile.is c.do_system_file.ensures.breaks

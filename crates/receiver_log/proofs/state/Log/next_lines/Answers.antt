@@ -1,16 +1,15 @@
 use Rattle.std.proofs.Common.{◌≡◌, ◌≤◌, [], drop, length, refl, sym, ap, ◌∙◌, arith}
 use Rattle.std.proofs.lemmas.Bool.{eqb-true}
-use Rattle.std.proofs.lemmas.List.{drop_all}
+use Rattle.std.proofs.lemmas.List.{drop_all, nil_from_length}
 use Rattle.std.proofs.lemmas.Result.{err_from_is_err_and}
-use Rattle.one_run.specs.declared.fault.BridgeFault.TheVariants.{ReportFault}
-use Rattle.receiver_log.proofs.LogSteps.{appends_none, both_told, hears_nothing, reads_more}
-use Rattle.receiver_log.proofs.LogSteps.{reads_none, reads_stopped, reads_took, stops_from, told_by}
+use Rattle.receiver_log.proofs.LogSteps.{advances_filled, advances_none, advances_took}
+use Rattle.receiver_log.proofs.LogSteps.{appends_none, both_told, breaks_filled, breaks_took}
+use Rattle.receiver_log.proofs.LogSteps.{stops_from}
 use Rattle.receiver_log.proofs.state.Log.next_lines.Goals as goal
 
 pub loop-self-init : goal.loop-self-init
 loop-self-init g c = record {
-  reads = reads_none g.J.Judge.heading g.J.Receiver.said _ _ _ _ _ _ refl refl
-      (hears_nothing g.J.Judge.heading g.J.Receiver.said _ _ _ (appends_none _));
+  reads = advances_none g.J.Judge.heading g.J.Receiver.said _ _ _ _ (appends_none _);
   source = refl;
   refused = refl;
   never = λ quiet. quiet;
@@ -24,9 +23,8 @@ returns-in-Err-clause-stopped g c =
     let took = c.in-Err.ensures in
     let none : drop s.given s.lines.items ≡ [] =
     drop_all s.given s.lines.items (omega (arith, c.loop-self-test.true, c.len.ensures.value)) in
-    rw took.given (reads_took g.J.Judge.heading g.J.Receiver.said _ _ _ _ _ _ _ _ _ _ _
-    (told_by ReportFault _ _ _) none c.loop-self.invariant.reads took.taken took.finished
-    took.stopped)
+    rw took.given (breaks_took g.J.Judge.heading g.J.Receiver.said _ _ _ _ _ _ _ _ _ _ _ none
+    c.loop-self.invariant.reads took.taken took.finished took.stopped)
 
 pub returns-then-not-may_feed-clause-reads : goal.returns-then-not-may_feed-clause-reads
 returns-then-not-may_feed-clause-reads g c =
@@ -34,7 +32,7 @@ returns-then-not-may_feed-clause-reads g c =
     let took = c.in-Ok.ensures in
     let none : drop s.given s.lines.items ≡ [] =
     drop_all s.given s.lines.items (omega (arith, c.loop-self-test.true, c.len.ensures.value)) in
-    rw took.given (reads_took g.J.Judge.heading g.J.Receiver.said _ _ _ _ _ _ _ _ _ _ _
+    rw took.given (advances_took g.J.Judge.heading g.J.Receiver.said _ _ _ _ _ _ _ _ _ _ _
     (both_told _ _ _) none c.loop-self.invariant.reads took.taken took.finished took.hears)
 
 pub loop-self-preserved : goal.loop-self-preserved
@@ -45,7 +43,7 @@ loop-self-preserved g c =
     let none : drop s.given s.lines.items ≡ [] =
     drop_all s.given s.lines.items (omega (arith, c.loop-self-test.true, c.len.ensures.value)) in
     rw took.given (record {
-      reads = reads_took g.J.Judge.heading g.J.Receiver.said _ _ _ _ _ _ _ _ _ _ _
+      reads = advances_took g.J.Judge.heading g.J.Receiver.said _ _ _ _ _ _ _ _ _ _ _
           (both_told _ _ _) none so_far.reads took.taken took.finished took.hears;
       source = so_far.source;
       refused = took.cause.stays ∙ so_far.refused;
@@ -62,11 +60,14 @@ loop-self-preserved-in-Continue-1 g c =
     let filled = c.in_ok-fill.ensures in
     let none : drop s.given s.lines.items ≡ [] =
     drop_all s.given s.lines.items (omega (arith, c.loop-self-test.true, c.len.ensures.value)) in
+    let empty : length c.take.new.self.lines.items ≡ 0 =
+    eqb-true _ _ (sym c.is_empty.ensures ∙ c.if-is_empty.true) in
     rw (filled.lines.1, took.given) (record {
-      reads = reads_more g.J.Judge.heading g.J.Receiver.said _ _ _ _ _ _ _ _ _ _
-          (reads_took g.J.Judge.heading g.J.Receiver.said _ _ _ _ _ _ _ _ _ _ _
+      reads = advances_filled g.J.Judge.heading g.J.Receiver.said _ _ _ _ _ _ _ _ _ _
+          (advances_took g.J.Judge.heading g.J.Receiver.said _ _ _ _ _ _ _ _ _ _ _
           (both_told _ _ _) none so_far.reads took.taken took.finished took.hears)
-          filled.reads;
+          filled.reads (nil_from_length _ empty) (took.idle (omega (arith, empty)))
+          (c.may_feed.ensures.0 c.if-not-may_feed.false).0 filled.few;
       source = filled.faults ∙ so_far.source;
       refused = took.cause.stays ∙ so_far.refused;
       never = λ quiet. filled.never (so_far.never quiet);
@@ -85,10 +86,12 @@ returns-in_err-fill-clause-stopped g c =
     let empty : length c.take.new.self.lines.items ≡ 0 =
     eqb-true _ _ (sym c.is_empty.ensures ∙ c.if-is_empty.true) in
     let few : length c.take.new.self.lines.items ≤ 8192 = omega (arith, empty) in
-    rw (p.1, p.2, filled.lines.1, took.given) (reads_stopped g.J.Judge.heading g.J.Receiver.said _ _ _ _ _ _ _ _ _ _ _ _ _ _ _
-    (reads_took g.J.Judge.heading g.J.Receiver.said _ _ _ _ _ _ _ _ _ _ _
+    rw (p.1, p.2, filled.lines.1, took.given) (breaks_filled g.J.Judge.heading
+    g.J.Receiver.said _ _ _ _ _ _ _ _ _ _ _ _ _ _ _
+    (advances_took g.J.Judge.heading g.J.Receiver.said _ _ _ _ _ _ _ _ _ _ _
     (both_told _ _ _) none c.loop-self.invariant.reads took.taken took.finished took.hears)
-    filled.reads (filled.why [] 0 refl (took.idle few)))
+    filled.reads (nil_from_length _ empty) (took.idle few)
+    (c.may_feed.ensures.0 c.if-not-may_feed.false).0 filled.few (filled.why [] 0 refl (took.idle few)))
 
 pub returns-in_err-fill-clause-why : goal.returns-in_err-fill-clause-why
 returns-in_err-fill-clause-why g c =

@@ -1,12 +1,12 @@
 use Rattle.std.proofs.Common.{◌≡◌, ◌<◌, ◌≤◌, ◌+◌, [], length, nat_lt, cond}
 use Rattle.std.specs.Prelude.{IsTrue}
 use Rattle.std.specs.Io.KnownBytes.{Appends}
-use Rattle.receiver_log.specs.Steps.{Reads, steps_left, view_of, waiting_of}
+use Rattle.receiver_log.specs.Steps.{Advances, steps_left, view_of, waiting_of}
 use Rattle.receiver_log.proofs.state.Log.next_lines.Given as goal
 
 abbrev pub invariant-loop-self : goal.invariant-loop-self
 invariant-loop-self g l = record {
-  reads : Reads g.J.Judge.heading g.J.Receiver.said (view_of l.fn.self)
+  reads : Advances g.J.Judge.heading g.J.Receiver.said (view_of l.fn.self)
       (view_of l.self) (g.S.Source.left l.fn.source) (g.S.Source.left l.source)
       (waiting_of l.fn.self) (waiting_of l.self)
       (Appends (g.R.Refused.reported l.fn.refused) (g.R.Refused.reported l.refused));

@@ -1,4 +1,4 @@
-use Rattle.std.proofs.Common.{true, refl, sym, ap, ◌∙◌, inl, inr}
+use Rattle.std.proofs.Common.{true, refl, sym, ap, ◌∙◌, inl}
 use Rattle.std.specs.Prelude.{Ok}
 use Rattle.std.proofs.KnownBytes.{Appends-nil}
 use Rattle.streams.proofs.Surface.{Laws, adds_nothing, is_known}

@@ -1,4 +1,4 @@
-use Rattle.std.proofs.Common.{[], ◌∷◌, Bool, true, false, refl, sym, ap, subst, ◌∙◌, inl, inr}
+use Rattle.std.proofs.Common.{true, false, refl, ap, subst, ◌∙◌, inl}
 use Rattle.std.specs.Prelude.{Ok}
 use Rattle.std.proofs.KnownBytes.{Appends-nil}
 use Rattle.one_run.proofs.Surface.{no_prefix}
@@ -6,8 +6,6 @@ use Rattle.streams.specs.Mirrors.{KeptPlaces, is_given}
 use Rattle.streams.proofs.Surface.{Laws, counts_are}
 use Rattle.system_streams.specs.Readings.{reading_by}
 use Rattle.rtcm_frame.specs.State.{payload_of}
-use Rattle.system_streams.specs.Mirrors.{StandsFor}
-use Rattle.system_streams.specs.Streams.{told_by}
 use Rattle.system_streams.proofs.Taking.{gives_item, gives_report, holds_item, is_new, is_old, part_of_gives, part_of_item, was_item}
 use Rattle.system_streams.proofs.run.Systems.give_item.Goals as goal
 
@@ -31,7 +29,7 @@ pub returns-in-Err-clause-report : goal.returns-in-Err-clause-report
 returns-in-Err-clause-report g c = λ u. gives_report c.args.self.now.kinds c.args.self.now.week c.args.state.now c.args.frame.now (Ok (inl c.args.item.now)) u u (ap (reading_by c.args.self.now.kinds c.args.self.now.week (payload_of c.args.frame.now)) c.requires.read) (Appends-nil u)
 
 pub returns-in-Err-clause-unreported : goal.returns-in-Err-clause-unreported
-returns-in-Err-clause-unreported g c = λ u. part_of_gives (StandsFor c.args.self.now.kinds c.args.self.now.week) c.args.state.now (told_by c.args.self.now.kinds c.args.self.now.week) (c.args.frame.now ∷ []) u u (gives_report c.args.self.now.kinds c.args.self.now.week c.args.state.now c.args.frame.now (Ok (inl c.args.item.now)) u u (ap (reading_by c.args.self.now.kinds c.args.self.now.week (payload_of c.args.frame.now)) c.requires.read) (Appends-nil u))
+returns-in-Err-clause-unreported g c = λ u. part_of_gives c.args.self.now.kinds c.args.self.now.week c.args.state.now c.args.frame.now u u (gives_report c.args.self.now.kinds c.args.self.now.week c.args.state.now c.args.frame.now (Ok (inl c.args.item.now)) u u (ap (reading_by c.args.self.now.kinds c.args.self.now.week (payload_of c.args.frame.now)) c.requires.read) (Appends-nil u))
 
 pub returns-in-Ok-clause-held : goal.returns-in-Ok-clause-held
 returns-in-Ok-clause-held g c =
@@ -70,7 +68,7 @@ pub returns-in-Ok-clause-report : goal.returns-in-Ok-clause-report
 returns-in-Ok-clause-report g c = λ u. gives_report c.args.self.now.kinds c.args.self.now.week c.args.state.now c.args.frame.now (Ok (inl c.args.item.now)) u u (ap (reading_by c.args.self.now.kinds c.args.self.now.week (payload_of c.args.frame.now)) c.requires.read) (Appends-nil u)
 
 pub returns-in-Ok-clause-unreported : goal.returns-in-Ok-clause-unreported
-returns-in-Ok-clause-unreported g c = λ u. part_of_gives (StandsFor c.args.self.now.kinds c.args.self.now.week) c.args.state.now (told_by c.args.self.now.kinds c.args.self.now.week) (c.args.frame.now ∷ []) u u (gives_report c.args.self.now.kinds c.args.self.now.week c.args.state.now c.args.frame.now (Ok (inl c.args.item.now)) u u (ap (reading_by c.args.self.now.kinds c.args.self.now.week (payload_of c.args.frame.now)) c.requires.read) (Appends-nil u))
+returns-in-Ok-clause-unreported g c = λ u. part_of_gives c.args.self.now.kinds c.args.self.now.week c.args.state.now c.args.frame.now u u (gives_report c.args.self.now.kinds c.args.self.now.week c.args.state.now c.args.frame.now (Ok (inl c.args.item.now)) u u (ap (reading_by c.args.self.now.kinds c.args.self.now.week (payload_of c.args.frame.now)) c.requires.read) (Appends-nil u))
 
 pub returns-in-Err-put_item-clause-unwritten : goal.returns-in-Err-put_item-clause-unwritten
 returns-in-Err-put_item-clause-unwritten g c =
@@ -92,7 +90,7 @@ pub returns-in-Err-put_item-clause-report : goal.returns-in-Err-put_item-clause-
 returns-in-Err-put_item-clause-report g c = λ u. gives_report c.args.self.now.kinds c.args.self.now.week c.args.state.now c.args.frame.now (Ok (inl c.args.item.now)) u u (ap (reading_by c.args.self.now.kinds c.args.self.now.week (payload_of c.args.frame.now)) c.requires.read) (Appends-nil u)
 
 pub returns-in-Err-put_item-clause-unreported : goal.returns-in-Err-put_item-clause-unreported
-returns-in-Err-put_item-clause-unreported g c = λ u. part_of_gives (StandsFor c.args.self.now.kinds c.args.self.now.week) c.args.state.now (told_by c.args.self.now.kinds c.args.self.now.week) (c.args.frame.now ∷ []) u u (gives_report c.args.self.now.kinds c.args.self.now.week c.args.state.now c.args.frame.now (Ok (inl c.args.item.now)) u u (ap (reading_by c.args.self.now.kinds c.args.self.now.week (payload_of c.args.frame.now)) c.requires.read) (Appends-nil u))
+returns-in-Err-put_item-clause-unreported g c = λ u. part_of_gives c.args.self.now.kinds c.args.self.now.week c.args.state.now c.args.frame.now u u (gives_report c.args.self.now.kinds c.args.self.now.week c.args.state.now c.args.frame.now (Ok (inl c.args.item.now)) u u (ap (reading_by c.args.self.now.kinds c.args.self.now.week (payload_of c.args.frame.now)) c.requires.read) (Appends-nil u))
 
 pub returns-in-Ok-false-clause-held : goal.returns-in-Ok-false-clause-held
 returns-in-Ok-false-clause-held g c =
@@ -130,4 +128,4 @@ pub returns-in-Ok-false-clause-report : goal.returns-in-Ok-false-clause-report
 returns-in-Ok-false-clause-report g c = λ u. gives_report c.args.self.now.kinds c.args.self.now.week c.args.state.now c.args.frame.now (Ok (inl c.args.item.now)) u u (ap (reading_by c.args.self.now.kinds c.args.self.now.week (payload_of c.args.frame.now)) c.requires.read) (Appends-nil u)
 
 pub returns-in-Ok-false-clause-unreported : goal.returns-in-Ok-false-clause-unreported
-returns-in-Ok-false-clause-unreported g c = λ u. part_of_gives (StandsFor c.args.self.now.kinds c.args.self.now.week) c.args.state.now (told_by c.args.self.now.kinds c.args.self.now.week) (c.args.frame.now ∷ []) u u (gives_report c.args.self.now.kinds c.args.self.now.week c.args.state.now c.args.frame.now (Ok (inl c.args.item.now)) u u (ap (reading_by c.args.self.now.kinds c.args.self.now.week (payload_of c.args.frame.now)) c.requires.read) (Appends-nil u))
+returns-in-Ok-false-clause-unreported g c = λ u. part_of_gives c.args.self.now.kinds c.args.self.now.week c.args.state.now c.args.frame.now u u (gives_report c.args.self.now.kinds c.args.self.now.week c.args.state.now c.args.frame.now (Ok (inl c.args.item.now)) u u (ap (reading_by c.args.self.now.kinds c.args.self.now.week (payload_of c.args.frame.now)) c.requires.read) (Appends-nil u))

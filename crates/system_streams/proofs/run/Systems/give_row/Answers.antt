@@ -1,4 +1,4 @@
-use Rattle.std.proofs.Common.{[], ◌∷◌, List, ◌||◌, true, false, refl, sym, ap, subst, ◌∙◌, inl, inr, ℤ}
+use Rattle.std.proofs.Common.{List, ◌||◌, true, false, refl, ap, ◌∙◌, inr, ℤ}
 use Rattle.std.specs.Prelude.{Ok}
 use Rattle.std.specs.Ordering.{int_cmp, is_eq}
 use Rattle.std.specs.Cmp.Lexicographic.{slice_cmp}
@@ -7,8 +7,7 @@ use Rattle.nav_rows.specs.Order.{rank}
 use Rattle.nav_rows.specs.Rows.{value}
 use Rattle.one_run.proofs.Surface.{no_prefix}
 use Rattle.streams.proofs.Surface.{counts_are}
-use Rattle.system_streams.specs.Mirrors.{StandsFor, is_rank_in}
-use Rattle.system_streams.specs.Streams.{told_by}
+use Rattle.system_streams.specs.Mirrors.{is_rank_in}
 use Rattle.system_streams.proofs.Taking.{gives_item, gives_report, holds_row, is_new, is_old, part_of_gives, part_of_item, was_row}
 use Rattle.system_streams.proofs.run.Systems.give_row.Goals as goal
 
@@ -20,7 +19,7 @@ pub returns-in-Err-clause-report : goal.returns-in-Err-clause-report
 returns-in-Err-clause-report g c = λ u. gives_report c.args.self.now.kinds c.args.self.now.week c.args.state.now c.args.frame.now (Ok (inr (record { kind = c.args.kind.now; row = value c.args.row.now }))) u u c.requires.read (Appends-nil u)
 
 pub returns-in-Err-clause-unreported : goal.returns-in-Err-clause-unreported
-returns-in-Err-clause-unreported g c = λ u. part_of_gives (StandsFor c.args.self.now.kinds c.args.self.now.week) c.args.state.now (told_by c.args.self.now.kinds c.args.self.now.week) (c.args.frame.now ∷ []) u u (gives_report c.args.self.now.kinds c.args.self.now.week c.args.state.now c.args.frame.now (Ok (inr (record { kind = c.args.kind.now; row = value c.args.row.now }))) u u c.requires.read (Appends-nil u))
+returns-in-Err-clause-unreported g c = λ u. part_of_gives c.args.self.now.kinds c.args.self.now.week c.args.state.now c.args.frame.now u u (gives_report c.args.self.now.kinds c.args.self.now.week c.args.state.now c.args.frame.now (Ok (inr (record { kind = c.args.kind.now; row = value c.args.row.now }))) u u c.requires.read (Appends-nil u))
 
 pub returns-in-Ok-clause-held : goal.returns-in-Ok-clause-held
 returns-in-Ok-clause-held g c =
@@ -35,7 +34,7 @@ pub returns-in-Ok-clause-report : goal.returns-in-Ok-clause-report
 returns-in-Ok-clause-report g c = λ u. gives_report c.args.self.now.kinds c.args.self.now.week c.args.state.now c.args.frame.now (Ok (inr (record { kind = c.args.kind.now; row = value c.args.row.now }))) u u c.requires.read (Appends-nil u)
 
 pub returns-in-Ok-clause-unreported : goal.returns-in-Ok-clause-unreported
-returns-in-Ok-clause-unreported g c = λ u. part_of_gives (StandsFor c.args.self.now.kinds c.args.self.now.week) c.args.state.now (told_by c.args.self.now.kinds c.args.self.now.week) (c.args.frame.now ∷ []) u u (gives_report c.args.self.now.kinds c.args.self.now.week c.args.state.now c.args.frame.now (Ok (inr (record { kind = c.args.kind.now; row = value c.args.row.now }))) u u c.requires.read (Appends-nil u))
+returns-in-Ok-clause-unreported g c = λ u. part_of_gives c.args.self.now.kinds c.args.self.now.week c.args.state.now c.args.frame.now u u (gives_report c.args.self.now.kinds c.args.self.now.week c.args.state.now c.args.frame.now (Ok (inr (record { kind = c.args.kind.now; row = value c.args.row.now }))) u u c.requires.read (Appends-nil u))
 
 pub returns-in-Err-put_row-clause-unwritten : goal.returns-in-Err-put_row-clause-unwritten
 returns-in-Err-put_row-clause-unwritten g c =
@@ -45,7 +44,7 @@ pub returns-in-Err-put_row-clause-report : goal.returns-in-Err-put_row-clause-re
 returns-in-Err-put_row-clause-report g c = λ u. gives_report c.args.self.now.kinds c.args.self.now.week c.args.state.now c.args.frame.now (Ok (inr (record { kind = c.args.kind.now; row = value c.args.row.now }))) u u c.requires.read (Appends-nil u)
 
 pub returns-in-Err-put_row-clause-unreported : goal.returns-in-Err-put_row-clause-unreported
-returns-in-Err-put_row-clause-unreported g c = λ u. part_of_gives (StandsFor c.args.self.now.kinds c.args.self.now.week) c.args.state.now (told_by c.args.self.now.kinds c.args.self.now.week) (c.args.frame.now ∷ []) u u (gives_report c.args.self.now.kinds c.args.self.now.week c.args.state.now c.args.frame.now (Ok (inr (record { kind = c.args.kind.now; row = value c.args.row.now }))) u u c.requires.read (Appends-nil u))
+returns-in-Err-put_row-clause-unreported g c = λ u. part_of_gives c.args.self.now.kinds c.args.self.now.week c.args.state.now c.args.frame.now u u (gives_report c.args.self.now.kinds c.args.self.now.week c.args.state.now c.args.frame.now (Ok (inr (record { kind = c.args.kind.now; row = value c.args.row.now }))) u u c.requires.read (Appends-nil u))
 
 pub returns-in-Ok-false-clause-held : goal.returns-in-Ok-false-clause-held
 returns-in-Ok-false-clause-held g c =
@@ -59,4 +58,4 @@ pub returns-in-Ok-false-clause-report : goal.returns-in-Ok-false-clause-report
 returns-in-Ok-false-clause-report g c = λ u. gives_report c.args.self.now.kinds c.args.self.now.week c.args.state.now c.args.frame.now (Ok (inr (record { kind = c.args.kind.now; row = value c.args.row.now }))) u u c.requires.read (Appends-nil u)
 
 pub returns-in-Ok-false-clause-unreported : goal.returns-in-Ok-false-clause-unreported
-returns-in-Ok-false-clause-unreported g c = λ u. part_of_gives (StandsFor c.args.self.now.kinds c.args.self.now.week) c.args.state.now (told_by c.args.self.now.kinds c.args.self.now.week) (c.args.frame.now ∷ []) u u (gives_report c.args.self.now.kinds c.args.self.now.week c.args.state.now c.args.frame.now (Ok (inr (record { kind = c.args.kind.now; row = value c.args.row.now }))) u u c.requires.read (Appends-nil u))
+returns-in-Ok-false-clause-unreported g c = λ u. part_of_gives c.args.self.now.kinds c.args.self.now.week c.args.state.now c.args.frame.now u u (gives_report c.args.self.now.kinds c.args.self.now.week c.args.state.now c.args.frame.now (Ok (inr (record { kind = c.args.kind.now; row = value c.args.row.now }))) u u c.requires.read (Appends-nil u))

@@ -1,0 +1,8 @@
+use Rattle.system_files.proofs.Items.{file_navs, file_texts}
+use Rattle.system_files.proofs.laws.a_file_has_the_same_items_of_gps_and_galileo.Goals as goal
+
+pub returns-clause-items : goal.returns-clause-items
+returns-clause-items c = file_navs
+
+pub returns-clause-text : goal.returns-clause-text
+returns-clause-text c = file_texts

@@ -1,0 +1,9 @@
+use Rattle.std.proofs.Common.{ap, ◌∙◌}
+use Rattle.outlets.specs.Targets.{back_text}
+use Rattle.nav_files.proofs.Surface.{finish_as}
+use Rattle.system_files.specs.Files.{counts_text}
+use Rattle.system_files.proofs.run.SystemsTakerRecordRead.finish.Goals as goal
+
+pub returns-clause-output : goal.returns-clause-output
+returns-clause-output g c = λ reads start held so_far.
+    finish_as _ _ _ start _ _ _ _ _ (ap (back_text c.args.self.now.to) (c.as_slice.ensures.value ∙ c.counts_text.ensures ∙ ap counts_text held.0)) so_far c.end.ensures

@@ -1,0 +1,4 @@
+pub mod Selecting
+pub mod Readings
+pub mod Files
+pub mod Mirrors

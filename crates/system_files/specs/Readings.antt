@@ -1,0 +1,91 @@
+-- The records of all systems in a navigation file: what one gives, and what is reported of it.
+use Rattle.std.specs.Prelude.{ℕ, List, [], ◌∷◌, codes, get_or, map, replicate, set, take, Option, None, Some, Result, Ok, Err}
+use Rattle.std.proofs.Common.{inl, inr}
+use Rattle.one_run.specs.Reports.{report_line}
+use Rattle.rinex_read.specs.Form3.{judged3}
+use Rattle.rinex_read.specs.Judging.{judged}
+use Rattle.rinex_read.specs.Kept.{padded}
+use Rattle.rinex_read.specs.declared.judged.Judged.{Judged}
+use Rattle.rinex_read.specs.declared.judged.Judged.TheVariants.{Item as ItemOf, Refused, PassedOver}
+use Rattle.rinex_read.specs.declared.reason.Reason.{Reason}
+use Rattle.rinex_read.specs.declared.reason.Reason.TheVariants as reasons
+use Rattle.nav_files.specs.Files.{reason_text}
+use Rattle.nav_rows.specs.Reading.{read_lines_of, row_read}
+use Rattle.nav_rows.specs.Rows.{RowValue}
+use Rattle.nav_rows.specs.declared.kind.Kind.{Kind}
+use Rattle.system_streams.specs.Readings.{Item}
+use Rattle.system_streams.specs.declared.kinds.Kinds.{Kinds}
+use Rattle.system_files.specs.Selecting.{kind_in}
+use Rattle.system_files.specs.declared.version.Version.{Version}
+use Rattle.system_files.specs.declared.version.Version.TheVariants.{Four, Three}
+
+-- what a record gives: an item, a reason why it is rejected, or nothing if it is of a kind that is not read
+abbrev pub Reading : Type 0
+Reading = Result Item (Option Reason)
+
+-- a title of RINEX 4 with nothing but the satellite with which a line begins
+abbrev pub sat_title : List ℕ → List ℕ
+sat_title line = set (set (set (replicate 80 32) 6 (get_or line 0 32)) 7 (get_or line 1 32)) 8 (get_or line 2 32)
+
+-- the row of the lines of a record of a kind, or the first reason
+abbrev pub row_in : Version → Kind → List (List ℕ) → Result RowValue Reason
+row_in Four k lines = read_lines_of k lines
+row_in Three k [] = Err reasons.Short
+row_in Three k (l ∷ ls) = row_read k (sat_title l) (l ∷ ls)
+
+abbrev pub row_reading : Kind → Result RowValue Reason → Reading
+row_reading k (Ok row) = Ok (inr (record { kind = k; row = row }))
+row_reading k (Err reason) = Err (Some reason)
+
+abbrev pub kind_reading : Option Kind → Version → List (List ℕ) → Reading
+kind_reading None v lines = Err None
+kind_reading (Some k) v lines = row_reading k (row_in v k lines)
+
+-- the reading of the lines of a record that is none of GPS LNAV and Galileo I/NAV
+abbrev pub lines_reading : Kinds → Version → List (List ℕ) → Reading
+lines_reading ks v lines = kind_reading (kind_in ks v lines) v lines
+
+-- how a record is judged as one of GPS LNAV, Galileo I/NAV or their ionosphere parameters
+abbrev pub nav_judged : Version → List (List ℕ) → Judged
+nav_judged Four lines = judged lines
+nav_judged Three lines = judged3 lines
+
+-- the reading of a record of these lines that is judged so; of the lines of any other record only those that are stored matter
+abbrev pub reading_by : Kinds → Version → List (List ℕ) → Judged → Reading
+reading_by ks v lines (ItemOf item) = Ok (inl item)
+reading_by ks v lines (Refused reason) = Err (Some reason)
+reading_by ks v lines PassedOver = lines_reading ks v (map padded (take 9 lines))
+
+-- the reading of a record
+abbrev pub reading_in : Kinds → Version → List (List ℕ) → Reading
+reading_in ks v lines = reading_by ks v lines (nav_judged v lines)
+
+-- a record, by the number of its first line
+pub record LineRead : Type 0 where
+  pub line : ℕ
+  pub reading : Reading
+
+-- the readings of records
+abbrev pub readings : List LineRead → List Reading
+readings reads = map (λ (r : LineRead). r.reading) reads
+
+-- the report line of a rejected record: the number of its first line, and the reason
+abbrev pub reading_report : ℕ → Reading → List ℕ
+reading_report line (Ok item) = []
+reading_report line (Err None) = []
+reading_report line (Err (Some reason)) = report_line (codes "line") line (reason_text reason)
+
+-- 1 for a rejected record, for one of a kind that is not read, and for an item, else 0
+abbrev pub is_refused : Reading → ℕ
+is_refused (Ok item) = 0
+is_refused (Err None) = 0
+is_refused (Err (Some reason)) = 1
+
+abbrev pub is_passed : Reading → ℕ
+is_passed (Ok item) = 0
+is_passed (Err None) = 1
+is_passed (Err (Some reason)) = 0
+
+abbrev pub is_item : Reading → ℕ
+is_item (Ok item) = 1
+is_item (Err fault) = 0

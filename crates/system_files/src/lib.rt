@@ -1,0 +1,33 @@
+//! Navigation files of all systems (RINEX 4.01 and 3.05, navigation records).
+//!
+//! [`run_system_file`] writes each ephemeris of a file, in the order of its records, as navigation
+//! file, frames or list. Its GPS LNAV and Galileo I/NAV ephemerides, and the ionosphere parameters,
+//! are those of [`nav_files::run_rinex`] and [`nav_files::run_rinex3`], in the same order; the
+//! others come from the tables of [`nav_rows`]. Records of other kinds are skipped and counted.
+//!
+//! ```rust
+//! use outlets::Target;
+//! use system_files::{Version, run_system_file};
+//! use system_streams::Kinds;
+//!
+//! let kinds = Kinds::all();
+//! let counts = run_system_file(&kinds, Version::Four, &Target::ToList, &mut input, &mut output, &mut report)?;
+//! ```
+#![tactic(auto)]
+
+mod counts;
+mod form;
+mod laws;
+mod read;
+mod run;
+mod select;
+mod text;
+mod version;
+
+pub use crate::counts::SystemCounts;
+pub use crate::laws::{
+    a_file_has_the_same_items_of_gps_and_galileo,
+    what_is_written_of_a_file_is_the_text_of_its_items,
+};
+pub use crate::run::run_system_file;
+pub use crate::version::Version;

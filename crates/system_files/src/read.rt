@@ -1,0 +1,152 @@
+//! What a record gives.
+
+ghost use Rattle.std.specs.Prelude.{◌≡◌, IfOk};
+ghost use Rattle.rinex_read.specs.Mirrors.{Gives};
+ghost use Rattle.rinex_write.specs.Columns.{AreFields};
+ghost use Rattle.nav_rows.specs.Kinds.{IsKind};
+ghost use Rattle.nav_rows.specs.Rows.{value};
+ghost use Rattle.system_files.specs.Mirrors.{HasFields, view_given};
+ghost use Rattle.system_files.specs.Readings.{lines_reading, nav_judged, reading_in, row_in};
+ghost use Rattle.system_files.specs.Readings.{row_reading, sat_title};
+
+use crate::select::kind_in;
+use crate::version::Version;
+use nav_eph::NavItem;
+use nav_rows::{Kind, Row, read_record};
+use rinex_read::{Judged, Reason, RecordLines, judge3};
+use std::marker::Model;
+use system_streams::Kinds;
+
+/// What a record gives.
+#[derive(Drop)]
+pub(crate) enum Given {
+    /// An ephemeris of GPS LNAV or Galileo I/NAV, or ionosphere parameters.
+    Nav(NavItem),
+    /// An ephemeris of a further kind.
+    Further(Kind, Row),
+    /// Nothing, for this reason.
+    Refused(Reason),
+    /// Nothing: it is of a kind that is not read.
+    Passed,
+}
+
+// A title of RINEX 4 with nothing but the satellite with which a line begins.
+fn sat_title(line: &[u8; 80]) -> [u8; 80]
+    ensures { result ≡ sat_title line.now }
+{
+    let mut title = [b' '; 80];
+    title[6] = line[0];
+    title[7] = line[1];
+    title[8] = line[2];
+    title
+}
+
+// The row of the lines of a record of a kind, or the first reason why there is none.
+fn row_in(version: Version, kind: &Kind, lines: &[[u8; 80]]) -> Result<Row, Reason>
+    requires { IsKind kind.now }
+    ensures row { Gives value result (row_in version kind.now lines.now) }
+    ensures fields { IfOk result (λ row. AreFields kind.now.layout.columns.now row.columns.items) }
+{
+    match lines {
+        [] => Err(Reason::Short),
+        [first, rest @ ..] => match version {
+            Version::Four => read_record(kind, first, rest),
+            Version::Three => read_record(kind, &sat_title(first), lines),
+        },
+    }
+}
+
+// What a record of a kind gives.
+fn read_kind(version: Version, kind: Kind, lines: &[[u8; 80]]) -> Given
+    requires { IsKind kind }
+    ensures same { view_given result ≡ row_reading kind (row_in version kind lines.now) }
+    ensures fields { HasFields result }
+{
+    match row_in(version, &kind, lines) {
+        Ok(row) => Given::Further(kind, row),
+        Err(reason) => Given::Refused(reason),
+    }
+}
+
+// What the lines of a record give that is none of GPS LNAV and Galileo I/NAV.
+fn read_lines(kinds: &Kinds, version: Version, lines: &[[u8; 80]]) -> Given
+    ensures same { view_given result ≡ lines_reading kinds.now version lines.now }
+    ensures fields { HasFields result }
+{
+    match kind_in(kinds, version, lines) {
+        Some(kind) => read_kind(version, kind, lines),
+        None => Given::Passed,
+    }
+}
+
+// How a record is judged as one of GPS LNAV, Galileo I/NAV or their ionosphere parameters.
+fn nav_judged(version: Version, lines: &RecordLines) -> Judged
+    ensures { result ≡ nav_judged version lines.now }
+{
+    match version {
+        Version::Four => lines.judge(),
+        Version::Three => judge3(lines),
+    }
+}
+
+// What the lines of a record give.
+fn read_in(kinds: &Kinds, version: Version, lines: &RecordLines) -> Given
+    ensures same { view_given result ≡ reading_in kinds.now version lines.now }
+    ensures fields { HasFields result }
+{
+    lines.are_kept();
+    match nav_judged(version, lines) {
+        Judged::Item(item) => Given::Nav(item),
+        Judged::Refused(reason) => Given::Refused(reason),
+        Judged::PassedOver => read_lines(kinds, version, lines.lines()),
+    }
+}
+
+/// What a record gives, and the number of its first line.
+#[derive(Drop)]
+pub(crate) struct RecordRead {
+    line: u32,
+    given: Given,
+}
+
+impl Model for RecordRead {
+    ghost use Rattle.system_files.specs.Mirrors.{HasFields, view_given};
+    ghost use Rattle.system_files.specs.Readings.{LineRead};
+
+    ghost Value = { LineRead };
+
+    ghost view = { λ r. record { line = r.line; reading = view_given r.given } };
+
+    ghost invariant = { λ r. HasFields r.given };
+}
+
+impl RecordRead {
+    ghost use Rattle.std.specs.Prelude.{◌≡◌};
+    ghost use Rattle.system_files.specs.Mirrors.{HasFields, view_given};
+    ghost use Rattle.system_files.specs.Readings.{reading_in};
+
+    // What the lines of a record give that begins at this line.
+    pub(crate) fn of(kinds: &Kinds, version: Version, line: u32, lines: &RecordLines) -> RecordRead
+        ensures { result ≡ record { line = line; reading = reading_in kinds.now version lines.now } }
+    {
+        RecordRead {
+            line,
+            given: read_in(kinds, version, lines),
+        }
+    }
+
+    // The number of its first line.
+    pub(crate) fn line(&self) -> u32
+        ensures { result ≡ self.now.line }
+    {
+        self.line
+    }
+
+    // What it gives.
+    pub(crate) fn given(&self) -> &Given
+        ensures same { view_given result.now ≡ self.now.reading }
+        ensures fields { HasFields result.now }
+    {
+        &self.given
+    }
+}
