@@ -59,10 +59,10 @@ lives() { # language, command
   tried=$((tried + 1))
   rm -f "$at" "$at".*
   mkfifo "$at"
-  LD_LIBRARY_PATH=$stage/usr/lib/tried timeout 60 "$@" 2295 < "$at" > "$at.rnx" 2> "$at.said" &
+  LD_LIBRARY_PATH=$stage/usr/lib/tried timeout 300 "$@" 2295 < "$at" > "$at.rnx" 2> "$at.said" &
   exec 3> "$at"
   head -c 69 examples/ephemerides.rtcm3 >&3
-  for _ in $(seq 100); do [ "$(wc -l < "$at.rnx")" -lt 12 ] || break; sleep 0.1; done
+  for _ in $(seq 600); do [ "$(wc -l < "$at.rnx")" -lt 12 ] || break; sleep 0.1; done
   [ "$(wc -l < "$at.said"),$(grep -c '^> EPH' "$at.rnx")" = 1,1 ] || differs "examples/live, $language: not the first ephemeris alone before the end"
   tail -c +70 examples/ephemerides.rtcm3 >&3
   exec 3>&-
@@ -140,7 +140,7 @@ for suffix in '' ++; do
   "$made/listen$suffix" 2295 < "$out/log" > "$out/heard" &
   exec 3> "$out/log"
   head -c 69 examples/ephemerides.rtcm3 >&3
-  for _ in $(seq 100); do [ ! -s "$out/heard" ] || break; sleep 0.1; done
+  for _ in $(seq 600); do [ ! -s "$out/heard" ] || break; sleep 0.1; done
   head -1 examples/expected/ephemerides.heard | cmp -s - "$out/heard" || differs "listen$suffix, a frame before the end"
   exec 3>&-
   wait $!
