@@ -351,7 +351,7 @@ for it in "G24nN: GPS NAV DATA" "R24gGLONASS NAV DATA" "S24hH: GEO NAV MSG DATA"
 done
 run "RINEX 3 as RINEX 2" 5 "line 1 does not name RINEX 2 navigation data" -f rinex2 -t list -o n.list every3.rnx
 run "RINEX 2 as RINEX 3" 5 "line 1 does not name RINEX 3.02 to 3.05 navigation data" -f rinex3 -t list -o n.list older.24n
-sed 's/^\(.. 24 .* 0\)\.0/\1.5/' older.24n > amiss.24n
+sed 's/^\(.. 24 .\{14\}\)\.0/\1.5/' older.24n > amiss.24n
 run "RINEX 2 with a fraction of a second" 1 "record" --check amiss.24n
 grep -q "^amiss.24n: line 3: number$" out || differs "RINEX 2 with a fraction of a second" "$(cat out)"
 run "the command for RINEX 2" 0 - -n "${date[@]}" -o shown2.rnx older.24n
