@@ -1,4 +1,4 @@
--- Lines that are cut: of a line that has not ended the first 81 bytes decide what it stands for.
+-- Lines that are cut: of a line that has not ended the first 81 bytes matter.
 use Rattle.std.specs.Prelude.{◌≡◌, ◌+◌, ◌<◌, ◌≤◌, ◌==◌, ◌++◌, ℕ, zero, suc, Bool, true, false, if◌then◌else◌, List, [], ◌∷◌, length, min, ◌-◌, take, drop, map, replicate, refl}
 use Rattle.std.proofs.Common.{sym, ap, ◌∙◌, arith, append-nil, length-append, length-take, ⊎_elim}
 use Rattle.std.proofs.lemmas.List.{take_all, take_min, drop_all, drop-take, take-take, take-append-le}
@@ -119,7 +119,7 @@ padded_cut p l = ⊎_elim
 
 -- ---- the text of bytes
 
--- the lines for which pieces stand
+-- the lines as which pieces are read
 abbrev lines_of : Place → List (List ℕ) → List (List ℕ)
 lines_of place ps = lines_from place (map without_cr ps)
 

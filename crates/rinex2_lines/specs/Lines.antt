@@ -1,5 +1,5 @@
--- Lines of RINEX 2 navigation files, and those of RINEX 3 for which they stand (RINEX 2.11, tables A3, A4, A10, A11, A15 and
--- A16; RINEX 3.05, navigation message files).
+-- Lines of RINEX 2 navigation files, and the lines of RINEX 3 as which they are read (RINEX 2.11, tables A3, A4, A10, A11,
+-- A15 and A16; RINEX 3.05, navigation message files).
 use Rattle.std.specs.Prelude.{ℕ, ◌==◌, ◌&&◌, not, Bool, false, bytes_eq, codes, if◌then◌else◌, List, [], ◌∷◌, ◌++◌, get_or}
 use Rattle.scaled_decimal.specs.NumberReading.{is_decimal, trim_end, trim_start}
 use Rattle.rinex2_lines.specs.Columns.{part}
@@ -53,7 +53,7 @@ record_line letter line =
 abbrev pub body_line : ℕ → List ℕ → List ℕ
 body_line letter line = if is_record line then record_line letter line else 32 ∷ part 0 79 line
 
--- the line for which one stands, by its place in the file
+-- the line as which one is read, by its place in the file
 abbrev pub line_at : Place → List ℕ → List ℕ
 line_at First line = first_line line
 line_at (Header letter) line = line

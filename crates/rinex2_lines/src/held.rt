@@ -128,7 +128,7 @@ impl Held {
         let _begun = self.begun.as_slice();
     }
 
-    // The line that is begun ends: that for which it stands waits.
+    // The line that is begun ends: the one as which it is read waits.
     fn end_line(&mut self)
         ensures waiting { self.new.waiting
             ≡ line_at self.old.place (padded (without_cr self.old.begun)) ++ 10 ∷ [] }

@@ -1,4 +1,4 @@
-//! Navigation files of RINEX 2 as the files of RINEX 3 for which they stand (RINEX 2.11, navigation
+//! Navigation files of RINEX 2 as files of RINEX 3 with the same records (RINEX 2.11, navigation
 //! message files of GPS, GLONASS and SBAS).
 //!
 //! The records of RINEX 2 have the numbers of those of RINEX 3: [`Rinex2Source`] gives, for each

@@ -1,4 +1,4 @@
-//! The lines for which lines stand.
+//! The lines of RINEX 3.
 
 ghost use Rattle.std.specs.Prelude.{◌≡◌, ◌∷◌, length};
 ghost use Rattle.arrayvec.specs.ArrayVec.{array_vec_len};
@@ -134,7 +134,7 @@ fn header_line(line: &Columns) -> Line
     out
 }
 
-/// The line for which a line stands, by its place.
+/// The line as which a line is read, by its place.
 pub(crate) fn line_at(place: Place, line: &Columns) -> Line
     ensures text { result.items ≡ line_at place line.now }
     ensures len { array_vec_len result ≡ 80 }

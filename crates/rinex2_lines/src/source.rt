@@ -20,7 +20,7 @@ pub struct Rinex2Parts<S: Source> {
     pub taken: u64,
 }
 
-/// The file of RINEX 3 for which a file of RINEX 2 stands, read as the bytes of that come.
+/// The file of RINEX 3 as which a file of RINEX 2 is read, while the bytes of that come.
 ///
 /// If the bytes of the file are known to a contract, so are those of the other. A read fails if a
 /// read of the source inside fails, or if 18,446,744,073,709,551,615 bytes were read of it; the
@@ -35,7 +35,7 @@ pub struct Rinex2Source<S: Source> {
 }
 
 impl<S: Source> Rinex2Source<S> {
-    /// A source that gives the file for which what this one gives stands.
+    /// A source that gives the file as which that of this source is read.
     pub fn new(source: S) -> Self
         ensures left { ⟦<Rinex2Source<S> as Source>⟧.left result
             ≡ option_map rinex3_of (S.left source) }
