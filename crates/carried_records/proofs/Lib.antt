@@ -3,3 +3,4 @@ pub mod Digits
 pub mod Texts
 pub mod Places
 pub mod PartsLemmas
+pub mod Alike

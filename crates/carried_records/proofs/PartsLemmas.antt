@@ -222,7 +222,7 @@ exact_parts r p small are = by are.written are.equal
 
 -- ---- texts
 
-printed : (p : Parts) → AreThirteen p ⊎ (p ≡ none) → ArePrinted p.digits p.exponent
+pub printed : (p : Parts) → AreThirteen p ⊎ (p ≡ none) → ArePrinted p.digits p.exponent
 printed p (inl h) = record { below = h.below; from = h.from; to = h.to }
 printed p (inr e) = subst (λ (q : Parts). ArePrinted q.digits q.exponent) (sym e) (record { below = omega arith; from = search rules; to = search rules })
 

@@ -5,7 +5,7 @@ ghost use Rattle.scaled_decimal.specs.NumberReading.{decimal_of, trim_end, trim_
 ghost use Rattle.scaled_decimal.specs.NumberText.{Parts};
 ghost use Rattle.scaled_decimal.specs.Values.{Decimal, Reading};
 ghost use Rattle.carried_records.specs.ExactText.{AreEqual, AreExactPartsOf, decimal_text};
-ghost use Rattle.carried_records.specs.ExactText.{parts_of};
+ghost use Rattle.carried_records.specs.ExactText.{exact_text, parts_of};
 
 /// The exact text of a number is read as that number; it has 19 columns.
 pub fn exact_texts_keep_the_number()
@@ -21,4 +21,16 @@ pub fn exact_texts_keep_the_number()
 pub fn numbers_have_one_exact_text()
     ensures { (r : Reading) (p : Parts) → r.digits < 10 ^ 18
         → (parts_of r ≡ Some p) ↔ AreExactPartsOf r p }
+{}
+
+/// Two numbers with one value and sign have the same exact text, or both have none.
+pub fn equal_numbers_have_one_text()
+    ensures { (d e : Decimal) → d.value.digits < 10 ^ 18 → e.value.digits < 10 ^ 18
+        → AreEqual d.value e.value → d.minus ≡ e.minus → decimal_text d ≡ decimal_text e }
+{}
+
+/// An exact text is its own exact text, so a record that was written so is written again as it is.
+pub fn exact_texts_stay()
+    ensures { (d : Decimal) (text : List ℕ) → d.value.digits < 10 ^ 18
+        → decimal_text d ≡ Some text → exact_text text ≡ Some text }
 {}
