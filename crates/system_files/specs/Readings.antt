@@ -43,9 +43,9 @@ abbrev pub row_reading : Kind → Result RowValue Reason → Reading
 row_reading k (Ok row) = Ok (inr (record { kind = k; row = row }))
 row_reading k (Err reason) = Err (refused reason)
 
--- a record of another kind: in RINEX 4 its lines are carried, if there are at most four
+-- a record of another kind: in RINEX 4 its lines are carried, if there are at most 17
 abbrev pub other_reading : Version → List (List ℕ) → NoItem
-other_reading Four lines = if nat_le (length lines) 4 then carried lines else passed
+other_reading Four lines = if nat_le (length lines) 17 then carried lines else passed
 other_reading Three lines = passed
 
 abbrev pub kind_reading : Option Kind → Version → List (List ℕ) → Reading
@@ -65,7 +65,7 @@ nav_judged Three lines = judged3 lines
 abbrev pub reading_by : Kinds → Version → List (List ℕ) → Judged → Reading
 reading_by ks v lines (ItemOf item) = Ok (inl item)
 reading_by ks v lines (Refused reason) = Err (refused reason)
-reading_by ks v lines PassedOver = lines_reading ks v (map padded (take 9 lines))
+reading_by ks v lines PassedOver = lines_reading ks v (map padded (take 18 lines))
 
 -- the reading of a record
 abbrev pub reading_in : Kinds → Version → List (List ℕ) → Reading
