@@ -185,10 +185,10 @@ const CARRIED_TEXT: &[u8] = b"\
     \x20    1.500000000000D+01 0.000000000000D+00 0.000000000000D+00 2.000000000000D+01\n\
     \x20    1.728090000000D+05                                       2.000000000000D+01\n";
 
-// One of 17 lines, and one of 18.
-const LONG: &[u8] = b"> EPH R04 L1OC\n\n\n\n\n\n\n\n\n\n\n\n\n\n\n\n\n";
+// One of 12 lines, and one of 13.
+const LONG: &[u8] = b"> EPH R04 L1OC\n\n\n\n\n\n\n\n\n\n\n\n";
 
-const TOO_LONG: &[u8] = b"> EPH R04 L3OC\n\n\n\n\n\n\n\n\n\n\n\n\n\n\n\n\n\n";
+const TOO_LONG: &[u8] = b"> EPH R04 L3OC\n\n\n\n\n\n\n\n\n\n\n\n\n";
 
 // An empty sink.
 fn sink_of(alloc: Global) -> Result<MemSink, AllocError> {

@@ -18,12 +18,12 @@ view_given (Refused reason) = Err (refused reason)
 view_given (Carried lines) = Err (carried lines.items)
 view_given Passed = Err passed
 
--- the columns of a row are those of its kind, and no more than 17 lines are carried
+-- the columns of a row are those of its kind, and no more than 12 lines are carried
 abbrev pub HasFields : Given → Type 0
 HasFields (Nav item) = Unit {0}
 HasFields (Further kind row) = IsKind kind × AreFields kind.layout.columns.now row.columns.items
 HasFields (Refused reason) = Unit {0}
-HasFields (Carried lines) = length lines.items ≤ 17
+HasFields (Carried lines) = length lines.items ≤ 12
 HasFields Passed = Unit {0}
 
 -- the counts with one reading more, whose item has a text or has not

@@ -43,9 +43,9 @@ abbrev pub row_reading : Kind → Result RowValue Reason → Reading
 row_reading k (Ok row) = Ok (inr (record { kind = k; row = row }))
 row_reading k (Err reason) = Err (refused reason)
 
--- a record of another kind: in RINEX 4 its lines are carried, if there are at most 17
+-- a record of another kind: in RINEX 4 its lines are carried, if there are at most 12
 abbrev pub other_reading : Version → List (List ℕ) → NoItem
-other_reading Four lines = if nat_le (length lines) 17 then carried lines else passed
+other_reading Four lines = if nat_le (length lines) 12 then carried lines else passed
 other_reading Three lines = passed
 
 abbrev pub kind_reading : Option Kind → Version → List (List ℕ) → Reading

@@ -28,7 +28,7 @@ pub(crate) enum Given {
     /// Nothing, for this reason.
     Refused(Reason),
     /// Nothing, and its lines are carried: it is of another kind of RINEX 4.
-    Carried(ArrayVec<[u8; 80], 17>),
+    Carried(ArrayVec<[u8; 80], 12>),
     /// Nothing: it is of a kind that is not read.
     Passed,
 }
@@ -72,8 +72,8 @@ fn read_kind(version: Version, kind: Kind, lines: &[[u8; 80]]) -> Given
 }
 
 // The lines of a record that is carried.
-fn lines_of(lines: &[[u8; 80]]) -> ArrayVec<[u8; 80], 17>
-    requires { length lines.now ≤ 17 }
+fn lines_of(lines: &[[u8; 80]]) -> ArrayVec<[u8; 80], 12>
+    requires { length lines.now ≤ 12 }
     ensures { result.items ≡ lines.now }
 {
     let mut kept = ArrayVec::new();
@@ -90,7 +90,7 @@ fn read_other(version: Version, lines: &[[u8; 80]]) -> Given
 {
     match version {
         Version::Four => {
-            if lines.len() <= 17 {
+            if lines.len() <= 12 {
                 Given::Carried(lines_of(lines))
             } else {
                 Given::Passed

@@ -71,7 +71,7 @@ pub(crate) fn write_carried<T: Sink>(
     lines: &[[u8; 80]],
     out: &mut T,
 ) -> Result<bool, Failed>
-    requires { length lines.now ≤ 17 }
+    requires { length lines.now ≤ 12 }
     ensures writes { Writes (T.written out.old) (T.written out.new)
         (T.faults out.old) (T.faults out.new) result (carried_text to.now lines.now) }
     ensures has { IfOk result (λ has. has ≡ has_carried to.now) }
