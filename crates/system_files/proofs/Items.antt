@@ -10,7 +10,6 @@ use Rattle.nav_rows.specs.Rows.{RowValue}
 use Rattle.nav_rows.specs.declared.kind.Kind.{Kind}
 use Rattle.rinex_read.specs.Files.{Body, file_reads, header_of, header_passed, is_navigation, items_of, items_read, reads, reads_behind, records_in, up_to_next}
 use Rattle.rinex_read.specs.Forms.{begins, is_version, read_at}
-use Rattle.rinex_read.specs.Kept.{padded}
 use Rattle.rinex_read.specs.Lines.{lines_of}
 use Rattle.rinex_read.specs.declared.judged.HeaderFault.{HeaderFault}
 use Rattle.rinex_read.specs.declared.judged.HeaderFault.TheVariants.{NotRinexNav, Version as OtherVersion}
@@ -18,11 +17,10 @@ use Rattle.rinex_read.specs.declared.judged.ItemRead.{ItemRead}
 use Rattle.rinex_read.specs.declared.judged.Judged.{Judged}
 use Rattle.rinex_read.specs.declared.judged.Judged.TheVariants.{Item, Refused, PassedOver}
 use Rattle.rinex_read.specs.declared.reason.Reason.{Reason}
-use Rattle.system_streams.specs.Streams.{Numbered, navs, text_of}
+use Rattle.system_streams.specs.Streams.{navs, text_of}
 use Rattle.system_streams.specs.declared.kinds.Kinds.{Kinds}
 use Rattle.system_files.specs.Files.{Entry, entries_in, entry, entry_text, file_items, form_of, items_in, nav_form, nav_items, read_text, reading_text}
-use Rattle.system_files.specs.Readings.{LineRead, Reading, refused, carried, passed, kind_reading, lines_reading, nav_judged, reading_by, reading_in, row_in, row_reading}
-use Rattle.system_files.specs.Selecting.{kind_in}
+use Rattle.system_files.specs.Readings.{LineRead, Reading, refused, carried, passed, kind_reading, nav_judged, reading_by, reading_in, row_in, row_reading}
 use Rattle.system_files.specs.declared.version.Version.{Version}
 use Rattle.system_files.specs.declared.version.Version.TheVariants.{Four, Three}
 

@@ -1,9 +1,8 @@
 -- What a run over a navigation file of all systems writes and counts.
-use Rattle.std.specs.Prelude.{ℕ, false, not, Bool, true, List, [], ◌∷◌, ◌++◌, codes, length, map, sum, if◌then◌else◌, Option, None, Result, Ok, Err}
+use Rattle.std.specs.Prelude.{ℕ, false, not, Bool, true, List, [], ◌∷◌, ◌++◌, codes, length, map, sum, if◌then◌else◌, Option, None, Ok, Err}
 use Rattle.std.proofs.Common.{inl, inr, ◌⊎◌}
 use Rattle.carried_records.specs.CarriedLines.{record_text}
 use Rattle.std.specs.List.{flat_map}
-use Rattle.nav_eph.specs.declared.items.NavItem.{NavItem}
 use Rattle.nav_eph.specs.declared.items.NavItem.TheVariants.{Gps, Gal, Ion}
 use Rattle.nav_files.specs.Files.{file_meaning}
 use Rattle.nav_rows.specs.Encoding.{message_of}
@@ -21,7 +20,7 @@ use Rattle.rinex_read.specs.declared.judged.ItemRead.{ItemRead}
 use Rattle.system_streams.specs.Readings.{Item}
 use Rattle.system_streams.specs.Streams.{Numbered, epoch_in, has_message, text_of}
 use Rattle.system_streams.specs.declared.kinds.Kinds.{Kinds}
-use Rattle.system_files.specs.Readings.{LineRead, NoItem, Reading, refused, carried, passed, is_carried, is_item, is_passed, is_refused, reading_in, reading_report, readings}
+use Rattle.system_files.specs.Readings.{LineRead, Reading, refused, carried, passed, is_carried, is_item, is_passed, is_refused, reading_in, reading_report, readings}
 use Rattle.system_files.specs.declared.counts.SystemCounts.{SystemCounts}
 use Rattle.system_files.specs.declared.version.Version.{Version}
 use Rattle.system_files.specs.declared.version.Version.TheVariants.{Four, Three}
