@@ -190,8 +190,8 @@ for what, found, wanted in [
     ("man page, --from", set(re.search(r"Fl f , -from.*?\n\.Cm ([^\n]*) ,\n", man, re.S)[1].split(" , ")), set(of)),
     ("man page, --to", set(re.findall(r"^\.It Cm (\w+)$", re.search(r"Fl t , -to.*?\n\.El", man, re.S)[0], re.M)), made),
     *((f"README, {label}", {to for to, mark in zip(columns, re.search(rf"^\|{label}\|(.*)\|$", readme, re.M)[1].split("|")) if mark},
-       # navbridge merges RINEX 4 alone
-       of[name] - ({"merged", "cover"} if name == "rinex3" else set())) for label, names in rows.items() for name in names),
+       # navbridge merges RINEX 4 alone, and to it
+       of[name] - {"merged3"} - ({"merged", "cover"} if name == "rinex3" else set())) for label, names in rows.items() for name in names),
 ]:
     if found != wanted:
         print(f"{what}: {' '.join(sorted(found))}; --list-forms: {' '.join(sorted(wanted))}")

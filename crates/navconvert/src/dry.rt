@@ -42,7 +42,7 @@ fn show_before(settings: &Settings, files: &[&str], name: Option<&str>) -> u8 {
     line.text("{");
     for file in files {
         if is_three(settings, file) {
-            line.text(" navbridge");
+            line.text(" navconvert -o - -");
             line.job(&wanted_before(settings), Kind::Rinex3);
             line.word(" < ", file);
         } else {
@@ -50,7 +50,11 @@ fn show_before(settings: &Settings, files: &[&str], name: Option<&str>) -> u8 {
         }
         line.text(";");
     }
-    line.text(" } | navbridge");
+    line.text(" } | ");
+    line.text(match task_for(&settings.wanted.plan(), Kind::Rinex4) {
+        Some(task) => program_of(&task),
+        None => "navbridge",
+    });
     line.job(&settings.wanted, Kind::Rinex4);
     line.end(name)
 }
@@ -72,7 +76,8 @@ fn show_kind(
             line.text(program);
             line.files(mark, files);
             if !matches!(task, Task::Copied) {
-                line.text(" | navbridge");
+                line.text(" | ");
+                line.text(program_of(&task));
                 line.job(&settings.wanted, kind);
             }
         }
@@ -88,7 +93,7 @@ fn show_kind(
 // The program that does a task from its input to its output.
 fn program_of(task: &Task) -> &'static str {
     match task {
-        Task::Systems(_) | Task::SystemFile(_) => "navconvert -o - -",
+        Task::Systems(_) | Task::SystemFile(_) | Task::SystemMerge(_) => "navconvert -o - -",
         Task::Does(_) | Task::Copied => "navbridge",
     }
 }
@@ -96,7 +101,7 @@ fn program_of(task: &Task) -> &'static str {
 /// The reference week of a task.
 pub(crate) fn week_in(task: &Task) -> Option<RefWeek> {
     match task {
-        Task::Copied | Task::SystemFile(_) => None,
+        Task::Copied | Task::SystemFile(_) | Task::SystemMerge(_) => None,
         Task::Systems(job) => Some(job.week),
         Task::Does(Job::Capture(job)) => job.week,
         Task::Does(Job::Stream(job)) => Some(job.week),
@@ -167,7 +172,7 @@ impl<'a> Line<'a> {
                 self.whole = self.whole && print!(self.rt; " '--week={week}'").is_ok();
             }
         }
-        if let Target::Rinex | Target::Rinex3 | Target::Merged = wanted.target {
+        if let Target::Rinex | Target::Rinex3 | Target::Merged | Target::Merged3 = wanted.target {
             let leap = wanted.header.leap;
             self.whole = self.whole && print!(self.rt; " '--leap={leap}'").is_ok();
             self.option("--date=", from_utf8(&wanted.header.date).unwrap_or(""));

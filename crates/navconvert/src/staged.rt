@@ -80,12 +80,11 @@ pub(crate) fn is_three(settings: &Settings, file: &str) -> bool {
     matches!(file_kind(settings, None, file), Ok(Kind::Rinex3))
 }
 
-/// What is asked of a file of RINEX 3 that is merged: to convert what is merged of it to RINEX 4.
+/// What is asked of a file of RINEX 3 that is merged: to convert it to RINEX 4.
 pub(crate) fn wanted_before(settings: &Settings) -> Wanted {
     Wanted {
         form: Some(Kind::Rinex3),
         target: Target::Rinex,
-        merges: true,
         ..settings.wanted
     }
 }

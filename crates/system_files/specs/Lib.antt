@@ -2,3 +2,5 @@ pub mod Selecting
 pub mod Readings
 pub mod Files
 pub mod Mirrors
+pub mod Merging
+pub mod MergeMirrors

@@ -1,0 +1,174 @@
+-- Merged items: which comes next, how many there are, and what an item more adds.
+use Rattle.std.proofs.Common.{◌≡◌, ℕ, ◌+◌, ◌≤◌, ◌<◌, Bool, true, false, cond, List, [], ◌∷◌, ◌++◌, length, map, refl, sym, ap, subst, ◌∙◌, inl, inr, arith, append_assoc, append-nil, length-append}
+use Rattle.std.specs.Prelude.{OnOk, Option, None, Some, Result, Ok, Err, MatchOption}
+use Rattle.std.specs.Borrow.{Bor}
+use Rattle.std.specs.Iterator.{YieldsFirstRef}
+use Rattle.std.specs.List.{fold}
+use Rattle.std.specs.Ordering.{match_ordering}
+use Rattle.std.specs.declared.cmp.Ordering.{Ordering}
+use Rattle.std.specs.declared.cmp.Ordering.TheVariants.{Less, Equal, Greater}
+use Rattle.nav_eph.specs.declared.items.NavItem.{NavItem}
+use Rattle.nav_lists.specs.Merging.{by_rank as nav_rank, merged_of, with_item, earlier_of}
+use Rattle.nav_rows.specs.Order.{KindRow, by_place, by_rank}
+use Rattle.ranked_list.specs.Ranks.{first_of, ranked_of, with_value}
+use Rattle.system_streams.specs.Readings.{Item}
+use Rattle.system_files.specs.MergeMirrors.{IsNext, held}
+use Rattle.system_files.specs.Merging.{behind_rows, interleaved, is_before, item_of, items_of, merged_items, navs_of, rows_of}
+use Rattle.system_files.specs.Readings.{LineRead, Reading}
+use Rattle.system_files.specs.declared.next.Next.{Next}
+use Rattle.system_files.specs.declared.next.Next.TheVariants.{Nav, Further}
+
+-- ---- the next one
+
+pub row_first : (item : NavItem) (x : KindRow) → is_before x item ≡ true → (is : List NavItem) (xs : List KindRow)
+    → interleaved (item ∷ is) (x ∷ xs) ≡ inr x ∷ interleaved (item ∷ is) xs
+row_first item x h is xs = ap (λ b. cond b (inr x ∷ behind_rows item (interleaved is) xs) (inl item ∷ interleaved is (x ∷ xs))) h
+
+pub item_first : (item : NavItem) (x : KindRow) → is_before x item ≡ false → (is : List NavItem) (xs : List KindRow)
+    → interleaved (item ∷ is) (x ∷ xs) ≡ inl item ∷ interleaved is (x ∷ xs)
+item_first item x h is xs = ap (λ b. cond b (inr x ∷ behind_rows item (interleaved is) xs) (inl item ∷ interleaved is (x ∷ xs))) h
+
+-- what an iterator gave, with what is left, is what was left before
+pub held_is : {X : Type 0} (old new : List X) (r : Option (Bor X)) → YieldsFirstRef (λ s. s) old r new → held r new ≡ old
+held_is old new None h = sym h.0
+held_is old new (Some x) h = sym h
+
+-- ---- how many
+
+rows_length : (xs : List KindRow) → length (map inr xs) ≡ length xs
+rows_length [] = refl
+rows_length (x ∷ xs) = ap (λ n. n + 1) (rows_length xs)
+
+behind_length : (item : NavItem) (is : List NavItem) (xs : List KindRow) → ((ys : List KindRow) → length (interleaved is ys) ≡ length is + length ys)
+    → length (behind_rows item (interleaved is) xs) ≡ length is + 1 + length xs
+behind_length item is [] h = omega (arith, h [])
+behind_length item is (x ∷ xs) h = at (is_before x item) (behind_length item is xs h)
+  where
+    at : (b : Bool) → length (behind_rows item (interleaved is) xs) ≡ length is + 1 + length xs
+        → length (cond b (inr x ∷ behind_rows item (interleaved is) xs) (inl item ∷ interleaved is (x ∷ xs))) ≡ length is + 1 + length (x ∷ xs)
+    at true k = omega (arith, k)
+    at false k = omega (arith, h (x ∷ xs))
+
+pub interleaved_length : (is : List NavItem) (xs : List KindRow) → length (interleaved is xs) ≡ length is + length xs
+interleaved_length [] xs = rows_length xs
+interleaved_length (item ∷ is) xs = omega (arith, behind_length item is xs (interleaved_length is))
+
+with_length : (is : List NavItem) (x : NavItem) → length (with_item is x) ≤ length is + 1
+with_length [] x = omega arith
+with_length (y ∷ ys) x = at (nav_rank x y) (with_length ys x)
+  where
+    at : (o : Ordering) → length (with_item ys x) ≤ length ys + 1 → length (match_ordering o (x ∷ y ∷ ys) (earlier_of x y ∷ ys) (y ∷ with_item ys x)) ≤ length (y ∷ ys) + 1
+    at Less h = omega arith
+    at Equal h = omega arith
+    at Greater h = omega (arith, h)
+
+fold_length : (held is : List NavItem) → length (fold with_item held is) ≤ length held + length is
+fold_length held [] = omega arith
+fold_length held (x ∷ xs) = omega (arith, fold_length (with_item held x) xs, with_length held x)
+
+merged_length : (is : List NavItem) → length (merged_of is) ≤ length is
+unfolding merged_of
+merged_length is = fold_length [] is
+
+row_with_length : (xs : List KindRow) (x : KindRow) → length (with_value by_rank by_place xs x) ≤ length xs + 1
+row_with_length [] x = omega arith
+row_with_length (y ∷ ys) x = at (by_rank x y) (row_with_length ys x)
+  where
+    at : (o : Ordering) → length (with_value by_rank by_place ys x) ≤ length ys + 1
+        → length (match_ordering o (x ∷ y ∷ ys) (first_of by_rank by_place x y ∷ ys) (y ∷ with_value by_rank by_place ys x)) ≤ length (y ∷ ys) + 1
+    at Less h = omega arith
+    at Equal h = omega arith
+    at Greater h = omega (arith, h)
+
+row_fold_length : (held xs : List KindRow) → length (fold (with_value by_rank by_place) held xs) ≤ length held + length xs
+row_fold_length held [] = omega arith
+row_fold_length held (x ∷ xs) = omega (arith, row_fold_length (with_value by_rank by_place held x) xs, row_with_length held x)
+
+ranked_length : (xs : List KindRow) → length (ranked_of by_rank by_place xs) ≤ length xs
+unfolding ranked_of
+ranked_length xs = row_fold_length [] xs
+
+parts_length : (items : List Item) → length (navs_of items) + length (rows_of items) ≡ length items
+parts_length [] = refl
+parts_length (inl item ∷ is) = omega (arith, parts_length is)
+parts_length (inr x ∷ is) = omega (arith, parts_length is)
+
+one_length : (x : Reading) → length (item_of x) ≤ 1
+one_length (Ok item) = omega arith
+one_length (Err fault) = omega arith
+
+items_length : (reads : List LineRead) → length (items_of reads) ≤ length reads
+items_length [] = omega arith
+items_length (r ∷ rs) = omega (arith, length-append (item_of r.reading) (items_of rs), one_length r.reading, items_length rs)
+
+pub kept_length : (reads : List LineRead) → length (merged_of (navs_of (items_of reads))) + length (ranked_of by_rank by_place (rows_of (items_of reads))) ≤ length reads
+kept_length reads =
+    omega (arith, merged_length (navs_of (items_of reads)), ranked_length (rows_of (items_of reads)), parts_length (items_of reads), items_length reads)
+
+-- ---- an item more
+
+pub items_more : (reads : List LineRead) (read : LineRead) → items_of (reads ++ read ∷ []) ≡ items_of reads ++ item_of read.reading
+items_more [] read = append-nil (item_of read.reading)
+items_more (r ∷ rs) read = ap (λ (l : List Item). item_of r.reading ++ l) (items_more rs read) ∙ sym (append_assoc (item_of r.reading) (items_of rs) (item_of read.reading))
+
+pub navs_append : (some more : List Item) → navs_of (some ++ more) ≡ navs_of some ++ navs_of more
+navs_append [] more = refl
+navs_append (inl item ∷ is) more = ap (λ (l : List NavItem). item ∷ l) (navs_append is more)
+navs_append (inr x ∷ is) more = navs_append is more
+
+pub rows_append : (some more : List Item) → rows_of (some ++ more) ≡ rows_of some ++ rows_of more
+rows_append [] more = refl
+rows_append (inl item ∷ is) more = rows_append is more
+rows_append (inr x ∷ is) more = ap (λ (l : List KindRow). x ∷ l) (rows_append is more)
+
+-- those of a list without such items
+pub same_navs : (items more : List Item) → navs_of more ≡ [] → navs_of (items ++ more) ≡ navs_of items
+same_navs items more e = navs_append items more ∙ ap (λ (l : List NavItem). navs_of items ++ l) e ∙ append-nil (navs_of items)
+
+pub same_rows : (items more : List Item) → rows_of more ≡ [] → rows_of (items ++ more) ≡ rows_of items
+same_rows items more e = rows_append items more ∙ ap (λ (l : List KindRow). rows_of items ++ l) e ∙ append-nil (rows_of items)
+
+-- the next one is an item, or a row
+pub nav_next : (item : Option (Bor NavItem)) (x : Option (Bor KindRow)) (r : Option Next) (n : Next) (i : Bor NavItem) → IsNext item x r → r ≡ Some n → n ≡ Nav i
+    → (is : List NavItem) (xs : List KindRow) → interleaved (held item is) (held x xs) ≡ inl i.now ∷ interleaved is (held x xs)
+nav_next item x r n i h e f = subst (IsNext item x) (e ∙ ap Some f) h
+
+pub row_next : (item : Option (Bor NavItem)) (x : Option (Bor KindRow)) (r : Option Next) (n : Next) (y : Bor KindRow) → IsNext item x r → r ≡ Some n → n ≡ Further y
+    → (is : List NavItem) (xs : List KindRow) → interleaved (held item is) (held x xs) ≡ inr y.now ∷ interleaved (held item is) xs
+row_next item x r n y h e f = subst (IsNext item x) (e ∙ ap Some f) h
+
+pub none_next : (item : Option (Bor NavItem)) (x : Option (Bor KindRow)) (r : Option Next) → IsNext item x r → r ≡ None
+    → (is : List NavItem) (xs : List KindRow) → interleaved (held item is) (held x xs) ≡ []
+none_next item x r h e = subst (IsNext item x) e h
+
+-- ---- the merged lists with the item of a record more
+
+on_ok : {T E P Q : Type 0} (r : Result T E) → (P → Q) → OnOk r P → OnOk r Q
+on_ok (Ok x) f h = f h
+on_ok (Err x) f h = tt
+
+pub given_nav : {T E : Type 0} (r : Result T E) (item : NavItem) (x : Reading) (old new : List NavItem) → x ≡ Ok (inl item)
+    → OnOk r ((is : List NavItem) → old ≡ merged_of is → new ≡ merged_of (is ++ item ∷ []))
+    → OnOk r ((items : List Item) → old ≡ merged_of (navs_of items) → new ≡ merged_of (navs_of (items ++ item_of x)))
+given_nav r item x old new e =
+    on_ok r (λ h items k.
+    h (navs_of items) k ∙ ap merged_of (sym (navs_append items (inl item ∷ []))) ∙ ap (λ y. merged_of (navs_of (items ++ item_of y))) (sym e))
+
+pub given_row : {T E : Type 0} (r : Result T E) (row : KindRow) (x : Reading) (old new : List KindRow) → x ≡ Ok (inr row)
+    → OnOk r ((xs : List KindRow) → old ≡ ranked_of by_rank by_place xs → new ≡ ranked_of by_rank by_place (xs ++ row ∷ []))
+    → OnOk r ((items : List Item) → old ≡ ranked_of by_rank by_place (rows_of items) → new ≡ ranked_of by_rank by_place (rows_of (items ++ item_of x)))
+given_row r row x old new e =
+    on_ok r (λ h items k.
+    h (rows_of items) k ∙ ap (ranked_of by_rank by_place) (sym (rows_append items (inr row ∷ []))) ∙ ap (λ y. ranked_of by_rank by_place (rows_of (items ++ item_of y))) (sym e))
+
+all_ok : {T E P : Type 0} (r : Result T E) → P → OnOk r P
+all_ok (Ok x) p = p
+all_ok (Err x) p = tt
+
+pub navs_stay : {T E : Type 0} (r : Result T E) (x : Reading) (old new : List NavItem) → new ≡ old → navs_of (item_of x) ≡ []
+    → OnOk r ((items : List Item) → old ≡ merged_of (navs_of items) → new ≡ merged_of (navs_of (items ++ item_of x)))
+navs_stay r x old new e none = all_ok r (λ items k. e ∙ k ∙ ap merged_of (sym (same_navs items (item_of x) none)))
+
+pub rows_stay : {T E : Type 0} (r : Result T E) (x : Reading) (old new : List KindRow) → new ≡ old → rows_of (item_of x) ≡ []
+    → OnOk r ((items : List Item) → old ≡ ranked_of by_rank by_place (rows_of items) → new ≡ ranked_of by_rank by_place (rows_of (items ++ item_of x)))
+rows_stay r x old new e none = all_ok r (λ items k. e ∙ k ∙ ap (ranked_of by_rank by_place) (sym (same_rows items (item_of x) none)))
