@@ -1,5 +1,5 @@
 -- Merged items: which comes next, how many there are, and what an item more adds.
-use Rattle.std.proofs.Common.{◌≡◌, ℕ, ◌+◌, ◌≤◌, ◌<◌, Bool, true, false, cond, List, [], ◌∷◌, ◌++◌, length, map, refl, sym, ap, subst, ◌∙◌, inl, inr, arith, append_assoc, append-nil, length-append}
+use Rattle.std.proofs.Common.{◌≡◌, ℕ, ◌+◌, ◌-◌, ◌^◌, ◌≤◌, ◌<◌, min, Bool, true, false, cond, List, [], ◌∷◌, ◌++◌, length, map, refl, sym, ap, subst, ◌∙◌, inl, inr, arith, append_assoc, append-nil, length-append}
 use Rattle.std.specs.Prelude.{OnOk, Option, None, Some, Result, Ok, Err, MatchOption}
 use Rattle.std.specs.Borrow.{Bor}
 use Rattle.std.specs.Iterator.{YieldsFirstRef}
@@ -10,11 +10,14 @@ use Rattle.std.specs.declared.cmp.Ordering.TheVariants.{Less, Equal, Greater}
 use Rattle.nav_eph.specs.declared.items.NavItem.{NavItem}
 use Rattle.nav_lists.specs.Merging.{by_rank as nav_rank, merged_of, with_item, earlier_of}
 use Rattle.nav_rows.specs.Order.{KindRow, by_place, by_rank}
+use Rattle.outlets.specs.declared.target.Target.{Target}
 use Rattle.ranked_list.specs.Ranks.{first_of, ranked_of, with_value}
 use Rattle.system_streams.specs.Readings.{Item}
 use Rattle.system_files.specs.MergeMirrors.{IsNext, held}
-use Rattle.system_files.specs.Merging.{behind_rows, interleaved, is_before, item_of, items_of, merged_items, navs_of, rows_of}
-use Rattle.system_files.specs.Readings.{LineRead, Reading}
+use Rattle.system_files.specs.Merging.{behind_rows, interleaved, is_before, item_of, items_of, merge_counts, merged_items, navs_of, rows_of}
+use Rattle.system_files.specs.Files.{counts_of}
+use Rattle.system_files.specs.Readings.{LineRead, Reading, readings}
+use Rattle.system_files.specs.declared.counts.SystemCounts.{SystemCounts}
 use Rattle.system_files.specs.declared.next.Next.{Next}
 use Rattle.system_files.specs.declared.next.Next.TheVariants.{Nav, Further}
 
@@ -172,3 +175,30 @@ navs_stay r x old new e none = all_ok r (λ items k. e ∙ k ∙ ap merged_of (s
 pub rows_stay : {T E : Type 0} (r : Result T E) (x : Reading) (old new : List KindRow) → new ≡ old → rows_of (item_of x) ≡ []
     → OnOk r ((items : List Item) → old ≡ ranked_of by_rank by_place (rows_of items) → new ≡ ranked_of by_rank by_place (rows_of (items ++ item_of x)))
 rows_stay r x old new e none = all_ok r (λ items k. e ∙ k ∙ ap (ranked_of by_rank by_place) (sym (same_rows items (item_of x) none)))
+
+-- ---- the counts
+
+readings_length : (reads : List LineRead) → length (readings reads) ≡ length reads
+readings_length [] = refl
+readings_length (r ∷ rs) = ap (λ n. n + 1) (readings_length rs)
+
+-- the sum of both lengths is not too large
+pub kept_is : (reads : List LineRead) (a b k n : ℕ) → a ≡ length (merged_of (navs_of (items_of reads))) → b ≡ length (ranked_of by_rank by_place (rows_of (items_of reads)))
+    → k ≡ min (a + b) (2 ^ 64 - 1) → n ≡ length (readings reads) → n < 2 ^ 64 → k ≡ length (merged_items (items_of reads))
+kept_is reads a b k n e f g h l =
+    let few = kept_length reads in
+    let all = readings_length reads in
+    let sum : k ≡ length (merged_of (navs_of (items_of reads))) + length (ranked_of by_rank by_place (rows_of (items_of reads))) = omega (arith, e, f, g, h, l, few, all) in
+    sum ∙ sym (interleaved_length (merged_of (navs_of (items_of reads))) (ranked_of by_rank by_place (rows_of (items_of reads))))
+
+pub counts_are : (to : Target) (reads : List LineRead) (c : SystemCounts) (kept : ℕ) → c ≡ counts_of to reads → kept ≡ length (merged_items (items_of reads))
+    → record { records = c.records; refused = c.refused; passed = c.passed; items = c.items; kept = kept; unwritten = c.unwritten; times = c.times } ≡ merge_counts to reads
+counts_are to reads c kept e f = λ i. record {
+  records = (e i).records;
+  refused = (e i).refused;
+  passed = (e i).passed;
+  items = (e i).items;
+  kept = f i;
+  unwritten = (e i).unwritten;
+  times = (e i).times;
+}
