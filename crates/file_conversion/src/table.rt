@@ -236,11 +236,7 @@ fn capture_to(target: Target, header: HeaderWords) -> Option<CaptureTo>
         Target::Rtcm => Some(CaptureTo::Rtcm),
         Target::List => Some(CaptureTo::ToList),
         Target::Count => Some(CaptureTo::Count),
-        Target::Frames
-        | Target::Merged
-        | Target::Merged3
-        | Target::Cover
-        | Target::Capture => None,
+        Target::Frames | Target::Merged | Target::Merged3 | Target::Cover | Target::Capture => None,
     }
 }
 

@@ -62,7 +62,13 @@ impl<U: Sink> Conversion for TaskRun<U> {
             Task::Does(job) => do_job(self.alloc, job, input, output, &mut self.report),
             Task::Systems(job) => do_systems(self.alloc, job, input, output, &mut self.report),
             Task::SystemFile(job) => do_system_file(job, input, output, &mut self.report),
-            Task::SystemMerge(job) => do_system_merge(self.alloc, job, input, output, &mut self.report),
+            Task::SystemMerge(job) => do_system_merge(
+                self.alloc,
+                job,
+                input,
+                output,
+                &mut self.report,
+            ),
             Task::Copied => copy(input, output),
         }
     }
