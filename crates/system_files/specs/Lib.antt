@@ -3,4 +3,5 @@ pub mod Readings
 pub mod Files
 pub mod Mirrors
 pub mod Merging
+pub mod KeptRows
 pub mod MergeMirrors

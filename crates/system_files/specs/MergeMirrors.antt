@@ -5,21 +5,10 @@ use Rattle.std.specs.Borrow.{Bor}
 use Rattle.std.specs.List.{flat_map}
 use Rattle.std.specs.Io.KnownBytes.{Appends}
 use Rattle.nav_eph.specs.declared.items.NavItem.{NavItem}
-use Rattle.nav_rows.specs.Kinds.{IsKind}
 use Rattle.nav_rows.specs.Order.{KindRow}
-use Rattle.nav_rows.specs.Rows.{value}
-use Rattle.rinex_write.specs.Columns.{AreFields}
 use Rattle.system_files.specs.Merging.{interleaved}
 use Rattle.system_files.specs.declared.next.Next.{Next}
 use Rattle.system_files.specs.declared.next.Next.TheVariants.{Nav, Further}
-use Rattle.system_files.specs.declared.row_key.KeptRow.{KeptRow}
-
--- a row with its kind, and what is known of it
-abbrev pub kept_row : KeptRow → KindRow
-kept_row x = record { kind = x.kind; row = value x.row }
-
-abbrev pub IsKept : KeptRow → Type 0
-IsKept x = IsKind x.kind × AreFields x.kind.layout.columns.now x.row.columns.items
 
 -- the next value and those behind it; none if there is no next one
 abbrev pub held : {X : Type 0} → Option (Bor X) → List X → List X

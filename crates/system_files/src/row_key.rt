@@ -14,7 +14,7 @@ ghost use Rattle.nav_rows.specs.Order.{rank as rank_in_order};
 ghost use Rattle.nav_rows.specs.Rows.{value};
 ghost use Rattle.rinex_write.specs.Columns.{AreFields};
 ghost use Rattle.system_streams.specs.Streams.{row_text};
-ghost use Rattle.system_files.specs.MergeMirrors.{IsKept, kept_row};
+ghost use Rattle.system_files.specs.KeptRows.{IsKept, kept_row};
 ghost use Rattle.system_files.specs.Merging.{is_before, nav_front};
 
 use arrayvec::ArrayVec;
@@ -47,7 +47,7 @@ impl Model for RowKey {
     ghost use Rattle.std.specs.Prelude.{◌≡◌};
     ghost use Rattle.nav_rows.specs.Order.{KindRow, front_of};
     ghost use Rattle.nav_rows.specs.Rows.{value};
-    ghost use Rattle.system_files.specs.MergeMirrors.{IsKept, kept_row};
+    ghost use Rattle.system_files.specs.KeptRows.{IsKept, kept_row};
 
     ghost Value = { KindRow };
 

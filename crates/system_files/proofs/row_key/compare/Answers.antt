@@ -1,7 +1,7 @@
 use Rattle.std.proofs.Common.{ap, sym, ◌∙◌}
 use Rattle.std.specs.declared.cmp.Ordering.TheVariants.{Less, Equal, Greater}
 use Rattle.nav_rows.specs.Order.{by_rank, front_of}
-use Rattle.system_files.specs.MergeMirrors.{kept_row}
+use Rattle.system_files.specs.KeptRows.{kept_row}
 use Rattle.system_files.proofs.RowOrder.{fronts}
 use Rattle.system_files.proofs.row_key.compare.Goals as goal
 
