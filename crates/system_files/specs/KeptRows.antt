@@ -1,4 +1,4 @@
--- Rows while they are kept. Private functions cite these.
+-- Rows of a merged list. Private functions cite these.
 use Rattle.nav_rows.specs.Kinds.{IsKind}
 use Rattle.nav_rows.specs.Order.{KindRow}
 use Rattle.nav_rows.specs.Rows.{value}
