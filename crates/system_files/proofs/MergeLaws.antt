@@ -112,10 +112,10 @@ at_place [] m h = absurd h
 at_place (x ∷ xs) m (inl e) = (0, omega arith, sym e)
 at_place (x ∷ xs) m (inr h) = let k = at_place xs m h in (suc k.0, omega (arith, k.1), k.2)
 
-one_nav : (a b : NavItem) → inl {B = KindRow} a ≡ inl b → a ≡ b
+one_nav : (a b : NavItem) → ◌≡◌ {A = Item} (inl a) (inl b) → a ≡ b
 one_nav a b h = cc
 
-one_row : (a b : KindRow) → inr {A = NavItem} a ≡ inr b → a ≡ b
+one_row : (a b : KindRow) → ◌≡◌ {A = Item} (inr a) (inr b) → a ≡ b
 one_row a b h = cc
 
 nav_in : (items : List Item) (n : NavItem) → In n (navs_of items) → In (inl n) items
@@ -201,12 +201,12 @@ merged_set of_navs of_rows some other named s =
 
 navs_same : (reads : List LineRead) → navs_of (items_of reads) ≡ navs (items_in reads)
 navs_same [] = refl
-navs_same (r ∷ rs) = at r.reading
+navs_same (r ∷ rs) = at (navs_same rs) r.reading
   where
-    at : (x : Reading) → navs_of (item_of x ++ items_of rs) ≡ navs (numbered r.line x ++ items_in rs)
-    at (Ok (inl item)) = ap (λ (l : List NavItem). item ∷ l) (navs_same rs)
-    at (Ok (inr x)) = navs_same rs
-    at (Err fault) = navs_same rs
+    at : navs_of (items_of rs) ≡ navs (items_in rs) → (x : Reading) → navs_of (item_of x ++ items_of rs) ≡ navs (numbered r.line x ++ items_in rs)
+    at h (Ok (inl item)) = ap (λ (l : List NavItem). item ∷ l) h
+    at h (Ok (inr x)) = h
+    at h (Err fault) = h
 
 pub file_merge : (ks : Kinds) (v : Version) (bytes : List ℕ) → navs_of (file_merged ks v bytes) ≡ merged_of (items_read (file_reads (nav_form v) bytes))
 file_merge ks v bytes = merged_navs _ ∙ ap merged_of (navs_same (records_in (file_reads (form_of ks v) bytes)) ∙ file_navs ks v bytes)

@@ -38,9 +38,9 @@ held_is old new (Some x) h = sym h
 
 -- ---- how many
 
-rows_length : (xs : List KindRow) → length (map inr xs) ≡ length xs
+rows_length : (xs : List KindRow) → length {A = Item} (map inr xs) ≡ length xs
 rows_length [] = refl
-rows_length (x ∷ xs) = ap (λ n. n + 1) (rows_length xs)
+rows_length (x ∷ xs) = omega (arith, rows_length xs)
 
 behind_length : (item : NavItem) (is : List NavItem) (xs : List KindRow) → ((ys : List KindRow) → length (interleaved is ys) ≡ length is + length ys)
     → length (behind_rows item (interleaved is) xs) ≡ length is + 1 + length xs
@@ -71,7 +71,7 @@ fold_length held (x ∷ xs) = omega (arith, fold_length (with_item held x) xs, w
 
 merged_length : (is : List NavItem) → length (merged_of is) ≤ length is
 unfolding merged_of
-merged_length is = fold_length [] is
+merged_length is = omega (arith, fold_length [] is)
 
 row_with_length : (xs : List KindRow) (x : KindRow) → length (with_value by_rank by_place xs x) ≤ length xs + 1
 row_with_length [] x = omega arith
@@ -89,7 +89,7 @@ row_fold_length held (x ∷ xs) = omega (arith, row_fold_length (with_value by_r
 
 ranked_length : (xs : List KindRow) → length (ranked_of by_rank by_place xs) ≤ length xs
 unfolding ranked_of
-ranked_length xs = row_fold_length [] xs
+ranked_length xs = omega (arith, row_fold_length [] xs)
 
 parts_length : (items : List Item) → length (navs_of items) + length (rows_of items) ≡ length items
 parts_length [] = refl
@@ -180,7 +180,7 @@ rows_stay r x old new e none = all_ok r (λ items k. e ∙ k ∙ ap (ranked_of b
 
 readings_length : (reads : List LineRead) → length (readings reads) ≡ length reads
 readings_length [] = refl
-readings_length (r ∷ rs) = ap (λ n. n + 1) (readings_length rs)
+readings_length (r ∷ rs) = omega (arith, readings_length rs)
 
 -- the sum of both lengths is not too large
 pub kept_is : (reads : List LineRead) (a b k n : ℕ) → a ≡ length (merged_of (navs_of (items_of reads))) → b ≡ length (ranked_of by_rank by_place (rows_of (items_of reads)))

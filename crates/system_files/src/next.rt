@@ -24,7 +24,7 @@ pub(crate) enum Next<'a> {
 
 // The first of an item and a row.
 fn next_of<'a>(item: Option<&'a NavItem>, row: Option<&'a RowKey>) -> Option<Next<'a>>
-    ensures { IsNext item row result }
+    ensures { IsNext item.entry row.entry result }
 {
     match item {
         None => match row {
@@ -40,7 +40,7 @@ fn next_of<'a>(item: Option<&'a NavItem>, row: Option<&'a RowKey>) -> Option<Nex
 
 // The same, where both are left.
 fn first_of<'a>(nav: &'a NavItem, key: &'a RowKey) -> Next<'a>
-    ensures { IsNext (Some nav) (Some key) (Some result) }
+    ensures { IsNext (Some nav.entry) (Some key.entry) (Some result) }
 {
     if key.is_before(nav) {
         Next::Further(key)

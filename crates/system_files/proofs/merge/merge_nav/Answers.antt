@@ -5,4 +5,4 @@ use Rattle.system_files.proofs.merge.merge_nav.Goals as goal
 
 pub returns-in-Ok-clause-kept : goal.returns-in-Ok-clause-kept
 returns-in-Ok-clause-kept c = λ items held.
-    c.in-Ok.ensures ∙ ap (λ (l : List NavItem). merged_of (l ++ c.args.item.now ∷ [])) held ∙ c.merging.ensures.again items (c.args.item.now ∷ [])
+    c.in-Ok.ensures.ok ∙ ap (λ (l : List NavItem). merged_of (l ++ c.args.item.now ∷ [])) held ∙ c.merging.ensures.again items (c.args.item.now ∷ [])

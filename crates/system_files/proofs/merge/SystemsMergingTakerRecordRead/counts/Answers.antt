@@ -5,7 +5,7 @@ use Rattle.system_files.proofs.Merges.{counts_are, kept_is}
 use Rattle.system_files.proofs.merge.SystemsMergingTakerRecordRead.counts.Goals as goal
 
 pub returns : goal.returns
-returns g c = λ reads held.
+returns c = λ reads held.
     let s = c.args.state.now in
     let kept = kept_is reads c.len.result c.len-2.result c.saturating_add.result s.counts.records
     (c.len.ensures ∙ ap length held.2) (c.len-2.ensures ∙ ap length held.3) c.saturating_add.ensures
