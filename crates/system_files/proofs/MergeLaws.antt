@@ -209,7 +209,7 @@ navs_same (r ∷ rs) = at (navs_same rs) r.reading
     at h (Err fault) = h
 
 pub file_merge : (ks : Kinds) (v : Version) (bytes : List ℕ) → navs_of (file_merged ks v bytes) ≡ merged_of (items_read (file_reads (nav_form v) bytes))
-file_merge ks v bytes = merged_navs _ ∙ ap merged_of (navs_same (records_in (file_reads (form_of ks v) bytes)) ∙ file_navs ks v bytes)
+file_merge ks v bytes = merged_navs (items_of (records_in (file_reads (form_of ks v) bytes))) ∙ ap merged_of (navs_same (records_in (file_reads (form_of ks v) bytes)) ∙ file_navs ks v bytes)
 
 texts_of : (to : Target) (is : List NavItem) → flat_map (item_text to) (map inl is) ≡ flat_map (λ item. item_text to (inl item)) is
 texts_of to [] = refl

@@ -53,7 +53,7 @@ behind_length item is (x ∷ xs) h = at (is_before x item) (behind_length item i
     at false k = omega (arith, h (x ∷ xs))
 
 pub interleaved_length : (is : List NavItem) (xs : List KindRow) → length (interleaved is xs) ≡ length is + length xs
-interleaved_length [] xs = rows_length xs
+interleaved_length [] xs = let e : length xs ≡ 0 + length xs = omega arith in rows_length xs ∙ e
 interleaved_length (item ∷ is) xs = omega (arith, behind_length item is xs (interleaved_length is))
 
 with_length : (is : List NavItem) (x : NavItem) → length (with_item is x) ≤ length is + 1
@@ -144,6 +144,19 @@ pub none_next : (item : Option (Bor NavItem)) (x : Option (Bor KindRow)) (r : Op
     → (is : List NavItem) (xs : List KindRow) → interleaved (held item is) (held x xs) ≡ []
 none_next item x r h e = subst (IsNext item x) e h
 
+-- what is left once the next one is taken
+pub nav_left : (item : Option (Bor NavItem)) (x : Option (Bor KindRow)) (r : Option Next) (n : Next) (i : Bor NavItem) (old new : List NavItem) (xs : List KindRow) (next : Option (Bor NavItem))
+    → IsNext item x r → r ≡ Some n → n ≡ Nav i → YieldsFirstRef (λ s. s) old next new
+    → interleaved (held item old) (held x xs) ≡ inl i.now ∷ interleaved (held next new) (held x xs)
+nav_left item x r n i old new xs next h e f s =
+    nav_next item x r n i h e f old xs ∙ ap (λ (l : List NavItem). inl i.now ∷ interleaved l (held x xs)) (sym (held_is old new next s))
+
+pub row_left : (item : Option (Bor NavItem)) (x : Option (Bor KindRow)) (r : Option Next) (n : Next) (y : Bor KindRow) (is : List NavItem) (old new : List KindRow) (next : Option (Bor KindRow))
+    → IsNext item x r → r ≡ Some n → n ≡ Further y → YieldsFirstRef (λ s. s) old next new
+    → interleaved (held item is) (held x old) ≡ inr y.now ∷ interleaved (held item is) (held next new)
+row_left item x r n y is old new next h e f s =
+    row_next item x r n y h e f is old ∙ ap (λ (l : List KindRow). inr y.now ∷ interleaved (held item is) l) (sym (held_is old new next s))
+
 -- ---- the merged lists with the item of a record more
 
 on_ok : {T E P Q : Type 0} (r : Result T E) → (P → Q) → OnOk r P → OnOk r Q
@@ -182,14 +195,14 @@ readings_length : (reads : List LineRead) → length (readings reads) ≡ length
 readings_length [] = refl
 readings_length (r ∷ rs) = omega (arith, readings_length rs)
 
--- the sum of both lengths is not too large
-pub kept_is : (reads : List LineRead) (a b k n : ℕ) → a ≡ length (merged_of (navs_of (items_of reads))) → b ≡ length (ranked_of by_rank by_place (rows_of (items_of reads)))
-    → k ≡ min (a + b) (2 ^ 64 - 1) → n ≡ length (readings reads) → n < 2 ^ 64 → k ≡ length (merged_items (items_of reads))
-kept_is reads a b k n e f g h l =
+-- the number of the items of both lists
+pub kept_is : (reads : List LineRead) (a b n k : ℕ) → a ≡ length (merged_of (navs_of (items_of reads))) → b ≡ length (ranked_of by_rank by_place (rows_of (items_of reads)))
+    → n ≡ length (readings reads) → (a + b ≤ n → k ≡ a + b) → k ≡ length (merged_items (items_of reads))
+kept_is reads a b n k e f g h =
     let few = kept_length reads in
     let all = readings_length reads in
-    let sum : k ≡ length (merged_of (navs_of (items_of reads))) + length (ranked_of by_rank by_place (rows_of (items_of reads))) = omega (arith, e, f, g, h, l, few, all) in
-    sum ∙ sym (interleaved_length (merged_of (navs_of (items_of reads))) (ranked_of by_rank by_place (rows_of (items_of reads))))
+    h (omega (arith, e, f, g, few, all)) ∙ (λ i. e i + f i)
+    ∙ sym (interleaved_length (merged_of (navs_of (items_of reads))) (ranked_of by_rank by_place (rows_of (items_of reads))))
 
 pub counts_are : (to : Target) (reads : List LineRead) (c : SystemCounts) (kept : ℕ) → c ≡ counts_of to reads → kept ≡ length (merged_items (items_of reads))
     → record { records = c.records; refused = c.refused; passed = c.passed; items = c.items; kept = kept; unwritten = c.unwritten; times = c.times } ≡ merge_counts to reads

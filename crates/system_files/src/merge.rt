@@ -1,6 +1,6 @@
 //! The run that merges navigation files of all systems.
 
-ghost use Rattle.std.specs.Prelude.{◌≡◌, ◌∷◌, ◌++◌, true, List, [], IfErr, OnErr, OnOk};
+ghost use Rattle.std.specs.Prelude.{◌≡◌, ◌+◌, ◌≤◌, ◌∷◌, ◌++◌, true, List, [], IfErr, OnErr, OnOk};
 ghost use Rattle.std.specs.Prelude.{if◌then◌else◌};
 ghost use Rattle.std.specs.List.{flat_map};
 ghost use Rattle.std.specs.Io.KnownBytes.{Appends};
@@ -171,6 +171,13 @@ fn is_written(to: Version, given: &Given) -> bool
     }
 }
 
+// The sum of both, where it is not above the limit.
+fn sum_within(a: usize, b: usize, limit: u64) -> u64
+    ensures { a + b ≤ limit → result ≡ a + b }
+{
+    (a as u64).saturating_add(b as u64).min(limit)
+}
+
 // Nothing but the header is written before the end.
 impl Taker<RecordRead> for SystemsMerging {
     type State = SystemsMerged;
@@ -216,12 +223,13 @@ impl Taker<RecordRead> for SystemsMerging {
     }
 
     fn counts(&self, state: &SystemsMerged) -> SystemMergeCounts {
+        let records = state.counts.records;
         SystemMergeCounts {
-            records: state.counts.records,
+            records,
             refused: state.counts.refused,
             passed: state.counts.passed,
             items: state.counts.items,
-            kept: (state.navs.len() as u64).saturating_add(state.rows.len() as u64),
+            kept: sum_within(state.navs.len(), state.rows.len(), records),
             unwritten: state.counts.unwritten,
             times: state.counts.times,
         }
