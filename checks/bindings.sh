@@ -62,7 +62,10 @@ lives() { # language, command
   LD_LIBRARY_PATH=$stage/usr/lib/tried timeout 300 "$@" 2295 < "$at" > "$at.rnx" 2> "$at.said" &
   exec 3> "$at"
   head -c 69 examples/ephemerides.rtcm3 >&3
-  for _ in $(seq 600); do [ "$(wc -l < "$at.rnx")" -lt 12 ] || break; sleep 0.1; done
+  for _ in $(seq 600); do
+    if [ "$(wc -l < "$at.rnx")" -ge 12 ] && [ "$(wc -l < "$at.said")" -ge 1 ]; then break; fi
+    sleep 0.1
+  done
   [ "$(wc -l < "$at.said"),$(grep -c '^> EPH' "$at.rnx")" = 1,1 ] || differs "examples/live, $language: not the first ephemeris alone before the end"
   tail -c +70 examples/ephemerides.rtcm3 >&3
   exec 3>&-

@@ -178,12 +178,13 @@ def conversions(_):
     of = {}
     for it in re.finditer(r"^\.It (\w+) Ta ([^\n]*?) Ta", read("docs/navbridge.1"), re.M):
         of.setdefault(it[1], set()).update(it[2].split(", "))
-    names = [("RTCM 3 stream", "stream"), ("RINEX 4", "rinex"), ("RINEX 3.02 to 3.05", "rinex3"), ("capture", "capture")]
+    names = [("RTCM 3 stream", "stream"), ("RINEX 4", "rinex"), ("RINEX 3.02 to 3.05", "rinex3"), ("RINEX 2", "rinex2"), ("capture", "capture")]
     columns = ["rinex", "rinex3", "rtcm", "list", "merged", "cover", "capture", "count", "frames"]
     # navconvert converts streams and files of all systems, also to these
     of["stream"] |= {"list", "count"}
     of["rinex"] |= {"count"}
     of["rinex3"] |= {"count"}
+    of["rinex2"] = of["rinex3"]
     # a log is read as its capture
     rows = [("u-blox or Septentrio log", of["capture"] | {"capture"})] + [(name, of[it]) for name, it in names]
     made = table(["From, to", *(f"`{it}`" for it in columns)], [[name, *("x" if it in targets else "" for it in columns)] for name, targets in rows])

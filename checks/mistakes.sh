@@ -42,7 +42,6 @@ all() {
   echo "some text" > notes.txt
   printf '\357\273\277' | cat - orbits.rnx > marked.rnx
   gzip -c station.navcap > station.navcap.gz
-  sed '1s/4.01/2.11/' orbits.rnx > two.rnx
   printf '     3.05           OBSERVATION DATA    M: MIXED            RINEX VERSION / TYPE\n' > observed.rnx
   printf '1.0                 COMPACT RINEX FORMAT                    CRINEX VERS   / TYPE\n' > packed.crx
   # shellcheck disable=SC2016
@@ -86,7 +85,6 @@ all() {
   try "packed by xz" packed.xz
   try "precise orbits" orbits.sp3
   try "an archive" archive.zip
-  try "RINEX 2" two.rnx
   try "observations" observed.rnx
   try "observations, compact" packed.crx
   try "NMEA" position.nmea
@@ -95,7 +93,6 @@ all() {
   try "a stream as a capture" -f capture ephemerides.rtcm3
   try "a capture as RINEX" -f rinex station.navcap
   try "RINEX to RINEX, without a name" orbits.rnx
-  try "RINEX 3 as RINEX 4" -f rinex version3.nav
   try "RINEX 4 as RINEX 3" -f rinex3 -o r.rnx orbits.rnx
   try "a log of the other receiver" -f sbf log.ubx
   try "frames of a capture" -t frames station.navcap

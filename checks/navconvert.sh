@@ -181,7 +181,7 @@ page = lambda name: open(f"{top}/{name}").read()
 man, completion, readme = page("docs/navconvert.1"), page("packaging/navconvert.bash"), page("README.md")
 values = [it.split(", ") for it in re.findall(r"possible values: ([^]]*)", help_text)]
 columns = re.search(r"^\|From, to\|(.*)\|$", readme, re.M)[1].replace("`", "").split("|")
-rows = {"u-blox or Septentrio log": ("ubx", "sbf"), "RTCM 3 stream": ("stream",), "RINEX 4": ("rinex",), "RINEX 3.02 to 3.05": ("rinex3",), "capture": ("capture",)}
+rows = {"u-blox or Septentrio log": ("ubx", "sbf"), "RTCM 3 stream": ("stream",), "RINEX 4": ("rinex",), "RINEX 3.02 to 3.05": ("rinex3",), "RINEX 2": ("rinex2",), "capture": ("capture",)}
 for what, found, wanted in [
     ("--help, --from", set(values[0]), {"auto", *of}),
     ("--help, --to", set(values[1]), made),
@@ -191,7 +191,7 @@ for what, found, wanted in [
     ("man page, --to", set(re.findall(r"^\.It Cm (\w+)$", re.search(r"Fl t , -to.*?\n\.El", man, re.S)[0], re.M)), made),
     *((f"README, {label}", {to for to, mark in zip(columns, re.search(rf"^\|{label}\|(.*)\|$", readme, re.M)[1].split("|")) if mark},
        # navbridge merges RINEX 4 alone, and to it
-       of[name] - {"merged3"} - ({"merged", "cover"} if name == "rinex3" else set())) for label, names in rows.items() for name in names),
+       of[name] - {"merged3"} - ({"merged", "cover"} if name in ("rinex3", "rinex2") else set())) for label, names in rows.items() for name in names),
 ]:
     if found != wanted:
         print(f"{what}: {' '.join(sorted(found))}; --list-forms: {' '.join(sorted(wanted))}")
@@ -312,6 +312,52 @@ is_same "all systems of a file, a long name" in/SYST00CCC_R_20240020000_01D_MN.r
 run "the command for all systems of a file" 0 - -n "${date[@]}" -o shown4.rnx every3.rnx
 PATH=$PWD/path:$PATH sh ./out 2> said || differs "the command for all systems of a file" "it fails"
 is_same "the command for all systems of a file" shown4.rnx every4.rnx
+
+# ---- RINEX 2
+cat > older.py << 'END'
+# The records of a system in a file of RINEX 3 as a file of RINEX 2 (RINEX 2.11, tables A3, A4, A10, A11, A15 and A16).
+import sys
+letter, kind, path = sys.argv[1:]
+print(f"     2.11           {kind}".ljust(60) + "RINEX VERSION / TYPE\n" + " " * 60 + "END OF HEADER")
+of, body = "", False
+for line in open(path):
+    line = line.rstrip("\n")
+    if not body:
+        body = "END OF HEADER" in line
+        continue
+    if line[0] == " ":
+        line = line[1:]
+    else:
+        of, third = line[0], line[61:]
+        # the second of the day of a GLONASS frame
+        if of == "R":
+            third = f"{float(third.replace('D', 'E')) % 86400:19.12E}".replace("E", "D")
+        date = " ".join(f"{int(line[at : at + 2]):2}" for at in (9, 12, 15, 18))
+        line = f"{int(line[1:3]):2} {line[6:8]} {date} {int(line[21:23]):2}.0{line[23:61]}{third}"
+    if of == letter:
+        print(line)
+END
+for it in "G24nN: GPS NAV DATA" "R24gGLONASS NAV DATA" "S24hH: GEO NAV MSG DATA"; do
+  letter=${it:0:1} older=older.${it:1:3}
+  python3 older.py "$letter" "${it:4}" every3.rnx > "$older"
+  awk -v of="$letter" '/END OF HEADER/ { body = 1; print; next } !body { print; next } /^[A-Z]/ { on = substr($0, 1, 1) == of } on' every3.rnx > newer.rnx
+  run "RINEX 2 of $letter to RINEX 3" 0 "; nothing rejected, nothing skipped" "${date[@]}" -t rinex3 --overwrite -o older.rnx "$older"
+  is_same "RINEX 2 of $letter to RINEX 3" older.rnx newer.rnx
+  for to in rinex rtcm list count merged; do
+    run "RINEX 3 of $letter to $to" 0 - "${date[@]}" -t $to --overwrite -o newer.out newer.rnx
+    run "RINEX 2 of $letter to $to" 0 - "${date[@]}" -t $to -f rinex --overwrite -o older.out "$older"
+    is_same "RINEX 2 of $letter to $to" <(sed 's/^[0-9]* EPH/EPH/' older.out) <(sed 's/^[0-9]* EPH/EPH/' newer.out)
+  done
+done
+run "RINEX 3 as RINEX 2" 5 "line 1 does not name RINEX 2 navigation data" -f rinex2 -t list -o n.list every3.rnx
+run "RINEX 2 as RINEX 3" 5 "line 1 does not name RINEX 3.02 to 3.05 navigation data" -f rinex3 -t list -o n.list older.24n
+sed 's/^\(.. 24 .\{14\}\)\.0/\1.5/' older.24n > amiss.24n
+run "RINEX 2 with a fraction of a second" 1 "record" --check amiss.24n
+grep -q "^amiss.24n: line 3: number$" out || differs "RINEX 2 with a fraction of a second" "$(cat out)"
+run "the command for RINEX 2" 0 - -n "${date[@]}" -o shown2.rnx older.24n
+PATH=$PWD/path:$PATH sh ./out 2> said || differs "the command for RINEX 2" "it fails"
+run "RINEX 2" 0 - "${date[@]}" -o older.rnx --overwrite older.24n
+is_same "the command for RINEX 2" shown2.rnx older.rnx
 
 # ---- what is skipped
 cp "$examples/rtklib_style.nav" .

@@ -13,7 +13,8 @@
 # them with its own, number by number: all are equal but the transmission time, which no message has and convbin takes from its
 # clock. Of the log of a ZED-F9P it counts the subframes and pages that navlog writes: 5 and 27, each page in two lines. Two more
 # pages come after the last time message of the log, and have no time. Of the stream with messages of all systems it does the
-# same with the 74 ephemerides that navconvert writes.
+# same with the 74 ephemerides that navconvert writes. Of four files of RINEX 2 it compares the numbers of each record with those
+# that navconvert writes in RINEX 3; nine records of GLONASS, with 253 for the frequency -3, are rejected.
 #
 # Exit status: 0 all correct, or skipped with a reason; 1 something differs; 2 the arguments are wrong, or a program is missing.
 set -u
@@ -25,7 +26,7 @@ built navlog navlog
 built navconvert navconvert
 command -v python3 > /dev/null || skip "python3 is not installed"
 work_folder
-names=(rtcm3.2.log GMSD7_20121014.rtcm3 testglo.rtcm3 ublox-zed-f9p-sfrbx.log)
+names=(rtcm3.2.log GMSD7_20121014.rtcm3 testglo.rtcm3 ublox-zed-f9p-sfrbx.log 07590920.05n 30400920.05n brdc1820.10n brdc0910.09g)
 # whether all are in a folder
 has_all() {
   local name
@@ -117,6 +118,53 @@ other = [key for key, each in ours.items() for it in each if not any(equal(it, t
 sys.exit(f"{len(other)} differ: {other[:3]}" if other else 0)
 END
 fi
+
+# RINEX 2: a file, the letter of its system, how many records are read and rejected
+cat > "$work/older.py" << 'END'
+import sys
+
+
+def records(path, start):
+    """The records of a file, each as its satellite and date, and its numbers; those of the first line begin at this column."""
+    found, body = [], False
+    for line in open(path, encoding="ascii", errors="replace"):
+        line = line.rstrip("\r\n")
+        if not body:
+            body = "END OF HEADER" in line
+        elif line[:2].strip():
+            date = [int(float(it)) for it in line[start - 19 : start].split()]
+            numbers = [line[at : at + 19] for at in (start, start + 19, start + 38)]
+            found.append(((int(line[start - 22 : start - 20]), date[0] % 100, *date[1:]), numbers))
+        else:
+            found[-1][1].extend(line[at : at + 19] for at in range(start - 19, start + 57, 19))
+    return [(key, [float(it.replace("D", "E")) if it.strip() else 0.0 for it in each]) for key, each in found]
+
+
+def equal(older, newer, glonass):
+    """Whether the numbers are those of the older file, of which some have seven digits; but for URA, which is a class, and fit."""
+    if glonass:
+        newer = [*newer[:2], newer[2] % 86400, *newer[3:15]]
+    count = 15 if glonass else 28
+    return all(at == 23 or abs(a - b) <= 1e-6 * max(abs(a), abs(b)) for at, (a, b) in enumerate(zip(older[:count], newer)))
+
+
+older, newer, glonass, read = records(sys.argv[1], 22), records(sys.argv[2], 23), sys.argv[3] == "R", int(sys.argv[4])
+got = [key for key, each in newer if any(key == it and equal(that, each, glonass) for it, that in older)]
+sys.exit(0 if len(newer) == len(got) == read else f"{len(newer)} records, of which {len(got)} are those of the file, not {read}")
+END
+older() {
+  local file said
+  file=$(find "$folder" -name "$1" | head -n 1)
+  tried=$((tried + 1))
+  "$navconvert" -q --overwrite -t rinex3 -o "$work/newer.nav" --report "$work/report" "$file" < /dev/null || differs "$1: it is not converted"
+  said=$(grep -c "^line " "$work/report")
+  [ "$said" = "$4" ] || differs "$1: $said records rejected, not $4"
+  python3 "$work/older.py" "$file" "$work/newer.nav" "$2" "$3" > "$work/found" 2>&1 || differs "$1: $(cat "$work/found")"
+}
+older 07590920.05n G 162 0
+older 30400920.05n G 164 0
+older brdc1820.10n G 421 0
+older brdc0910.09g R 903 9
 
 tried=$((tried + 1)) got=0
 "$navlog" --from ubx < "$(find "$folder" -name ublox-zed-f9p-sfrbx.log | head -n 1)" > "$work/navcap" 2> "$work/report" || got=$?

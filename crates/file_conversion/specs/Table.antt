@@ -69,7 +69,7 @@ file4_task plan Cover = Some (Does jobs.Cover)
 file4_task plan Capture = Some (Does (jobs.SendRinex (week_of plan)))
 file4_task plan target = system_task plan Four target
 
--- and one of RINEX 3
+-- and one of RINEX 3 or 2
 abbrev pub file3_task : Plan → Target → Option Task
 file3_task plan Capture = Some (Does (jobs.SendRinex3 (week_of plan)))
 file3_task plan target = system_task plan Three target
@@ -83,6 +83,7 @@ task_for plan kinds.Capture2 = capture_task plan plan.week
 task_for plan kinds.Stream = stream_task plan plan.target
 task_for plan kinds.Rinex4 = file4_task plan plan.target
 task_for plan kinds.Rinex3 = file3_task plan plan.target
+task_for plan kinds.Rinex2 = file3_task plan plan.target
 task_for plan kinds.Ubx = log_task plan plan.target
 task_for plan kinds.Sbf = log_task plan plan.target
 task_for plan _ = None

@@ -38,6 +38,7 @@ kind_named word =
     else if bytes_eq word (codes "stream") then Some kinds.Stream
     else if bytes_eq word (codes "rinex") then Some kinds.Rinex4
     else if bytes_eq word (codes "rinex3") then Some kinds.Rinex3
+    else if bytes_eq word (codes "rinex2") then Some kinds.Rinex2
     else if bytes_eq word (codes "ubx") then Some kinds.Ubx
     else if bytes_eq word (codes "sbf") then Some kinds.Sbf
     else None

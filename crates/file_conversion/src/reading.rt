@@ -8,11 +8,14 @@ ghost use Rattle.file_conversion.specs.Logs.{read_as};
 use nav_io::{Failed, Source};
 use receiver_frames::{SbfJudge, UbxJudge};
 use receiver_log::{LogCounts, LogParts, LogSource, Receiver, Refused};
+use rinex2_lines::{Rinex2Parts, Rinex2Source};
 use whole_file::{Counted, Kind, Peeked, Progress};
 
-/// An input as it is read: of a log its capture, and of any other its bytes.
+/// An input as it is read: of a log its capture, of a file of RINEX 2 that of RINEX 3 with the same
+/// records, and of any other its bytes.
 pub(crate) enum Reading<A: Source, N: Refused + Drop> {
     Plain(A),
+    Rinex2(Rinex2Source<A>),
     Ubx(LogSource<UbxJudge, A, N>),
     Sbf(LogSource<SbfJudge, A, N>),
 }
@@ -31,22 +34,26 @@ pub(crate) struct Taken<S: Source> {
 }
 
 impl<A: Source, N: Refused + Drop> Source for Reading<A, N> {
-    ghost use Rattle.file_conversion.specs.declared.reading.Reading.TheVariants.{Plain, Ubx, Sbf};
+    ghost use Rattle.file_conversion.specs.declared.reading.Reading.TheVariants.{Plain, Rinex2};
+    ghost use Rattle.file_conversion.specs.declared.reading.Reading.TheVariants.{Ubx, Sbf};
 
     ghost left = { elim [
       | Plain input ↦ A.left input
+      | Rinex2 file ↦ ⟦<Rinex2Source<A> as Source>⟧.left file
       | Ubx log ↦ ⟦<LogSource<UbxJudge, A, N> as Source>⟧.left log
       | Sbf log ↦ ⟦<LogSource<SbfJudge, A, N> as Source>⟧.left log
     ] };
 
     ghost faults = { elim [
       | Plain input ↦ A.faults input
+      | Rinex2 file ↦ ⟦<Rinex2Source<A> as Source>⟧.faults file
       | Ubx log ↦ ⟦<LogSource<UbxJudge, A, N> as Source>⟧.faults log
       | Sbf log ↦ ⟦<LogSource<SbfJudge, A, N> as Source>⟧.faults log
     ] };
 
     ghost never_fails = { elim [
       | Plain input ↦ A.never_fails input
+      | Rinex2 file ↦ ⟦<Rinex2Source<A> as Source>⟧.never_fails file
       | Ubx log ↦ ⟦<LogSource<UbxJudge, A, N> as Source>⟧.never_fails log
       | Sbf log ↦ ⟦<LogSource<SbfJudge, A, N> as Source>⟧.never_fails log
     ] };
@@ -55,6 +62,7 @@ impl<A: Source, N: Refused + Drop> Source for Reading<A, N> {
     fn read(&mut self, into: &mut [u8]) -> Result<usize, Failed> {
         match self {
             Reading::Plain(input) => input.read(into),
+            Reading::Rinex2(file) => file.read(into),
             Reading::Ubx(log) => log.read(into),
             Reading::Sbf(log) => log.read(into),
         }
@@ -76,6 +84,7 @@ pub(crate) fn reading_of<S: Source, N: Refused + Drop, P: Progress>(
     match kind {
         Kind::Ubx => Reading::Ubx(LogSource::new(input, refusals)),
         Kind::Sbf => Reading::Sbf(LogSource::new(input, refusals)),
+        Kind::Rinex2 => Reading::Rinex2(Rinex2Source::new(input)),
         _ => Reading::Plain(input),
     }
 }
@@ -93,8 +102,24 @@ pub(crate) fn taken_of<S: Source, N: Refused + Drop, P: Progress>(input: Input<S
             counts: None,
             source: source_of(input),
         },
+        Reading::Rinex2(file) => taken_of_file(file),
         Reading::Ubx(log) => taken_of_log(log),
         Reading::Sbf(log) => taken_of_log(log),
+    }
+}
+
+// What is left of a file of RINEX 2.
+fn taken_of_file<S: Source, P: Progress>(file: Rinex2Source<Counted<Peeked<S>, P>>) -> Taken<S>
+    ensures few { result.count < too_many
+        → ⟦<Rinex2Source<Counted<Peeked<S>, P>> as Source>⟧.faults file ≡ S.faults result.source }
+    ensures most { S.faults result.source
+        ≤ ⟦<Rinex2Source<Counted<Peeked<S>, P>> as Source>⟧.faults file }
+{
+    let Rinex2Parts { source, taken } = file.into_parts();
+    Taken {
+        source: source_of(source),
+        count: taken,
+        counts: None,
     }
 }
 

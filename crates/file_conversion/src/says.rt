@@ -136,7 +136,7 @@ pub fn kind_text(kind: Kind) -> &'static str
         Kind::Rinex2 => "a navigation file of RINEX 2",
         Kind::Observations => "an observation file of RINEX",
         Kind::Hatanaka => "an observation file in Hatanaka's compact format",
-        Kind::OtherRinex => "a RINEX file, but no navigation file of version 3 or 4",
+        Kind::OtherRinex => "a RINEX file, but no navigation file of version 2 to 4",
         Kind::Stream => "an RTCM 3 stream",
         Kind::Ubx => "a receiver's log of UBX messages",
         Kind::Sbf => "a receiver's log of SBF blocks",
@@ -152,7 +152,6 @@ pub fn kind_text(kind: Kind) -> &'static str
 // How to make a file of this form one that can be converted, where it is none.
 fn advice_of(kind: Kind) -> &'static str {
     match kind {
-        Kind::Rinex2 => "only versions 3 and 4 are read",
         Kind::OtherRinex => "only those are read",
         Kind::Observations | Kind::Hatanaka => "it has no orbits to convert",
         Kind::Nmea => "if it has UBX messages or SBF blocks too, name the format with --from",
@@ -191,6 +190,7 @@ fn header_text(kind: Kind) -> &'static str {
         Kind::Capture2 => "its first line names another week than --week",
         Kind::Ubx | Kind::Sbf => "no message in it has a time, or its week is another than --week",
         Kind::Rinex4 => "line 1 does not name RINEX 4 navigation data, or no END OF HEADER follows",
+        Kind::Rinex2 => "line 1 does not name RINEX 2 navigation data, or no END OF HEADER follows",
         Kind::Rinex3 => {
             "line 1 does not name RINEX 3.02 to 3.05 navigation data, or no END OF HEADER follows"
         }

@@ -101,15 +101,16 @@ fn row_of(plan: &Plan, kind: Kind) -> Option<Task>
         Kind::Stream => stream_task(plan),
         Kind::Rinex4 => file4_task(plan),
         Kind::Rinex3 => file3_task(plan),
+        Kind::Rinex2 => file3_task(plan),
         _ => None,
     }
 }
 
 /// Whether a file of this format, which can be read again, is converted to the target: one of RINEX
-/// 3 is merged as the file of RINEX 4 to which it is converted.
+/// 3 or 2 is merged as the file of RINEX 4 to which it is converted.
 pub fn is_converted(kind: Kind, target: Target) -> bool {
     let kind = match kind {
-        Kind::Rinex3 if target.takes_several() => Kind::Rinex4,
+        Kind::Rinex3 | Kind::Rinex2 if target.takes_several() => Kind::Rinex4,
         _ => kind,
     };
     match RefWeek::new(1024) {
@@ -202,7 +203,7 @@ fn file4_task(plan: &Plan) -> Option<Task>
     }
 }
 
-// What is done with a navigation file of RINEX 3.
+// What is done with a navigation file of RINEX 3, and with one as which RINEX 2 is read.
 fn file3_task(plan: &Plan) -> Option<Task>
     ensures { result ≡ file3_task plan.now plan.now.target }
 {

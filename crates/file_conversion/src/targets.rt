@@ -110,6 +110,7 @@ pub fn kind_named(word: &str) -> Option<Kind>
         "stream" => Some(Kind::Stream),
         "rinex" => Some(Kind::Rinex4),
         "rinex3" => Some(Kind::Rinex3),
+        "rinex2" => Some(Kind::Rinex2),
         "ubx" => Some(Kind::Ubx),
         "sbf" => Some(Kind::Sbf),
         _ => None,

@@ -15,7 +15,7 @@ use Rattle.rinex_read.specs.Files.{is_navigation}
 use Rattle.rinex_read.specs.Forms.{is_four, is_version, rinex4}
 use Rattle.rinex_read.specs.Form3.{is_three, rinex3}
 use Rattle.rinex_read.specs.Lines.{columns, lines_of, stands_at}
-use Rattle.whole_file.specs.Kinds.{binary_kind, first_char, is_head, kind_of, or_else, prefix_kind, rinex_kind, text_kind, told_by, version_of}
+use Rattle.whole_file.specs.Kinds.{binary_kind, first_char, is_head, kind_of, or_else, other_kind, prefix_kind, rinex_kind, text_kind, told_by, version_of}
 use Rattle.whole_file.specs.Units.{first_unit}
 use Rattle.whole_file.specs.declared.kinds.Kind.{Kind}
 use Rattle.whole_file.specs.declared.kinds.Kind.TheVariants.{Capture1, Capture2, Empty, Hatanaka, Observations, OtherRinex, Rinex2, Rinex3, Rinex4, Unknown}
@@ -232,7 +232,7 @@ typed : (prefix : List ℕ) → take 1 (drop 20 prefix) ≡ codes "N" → rinex_
 unfolding rinex_kind by_version
 typed prefix is =
     subst (λ (x : List ℕ). cond (pointwise nat_eq (codes "O") x) Observations
-    (cond (pointwise nat_eq (codes "N") x) (by_version (version_of prefix)) OtherRinex) ≡ by_version (version_of prefix)) (sym is) refl
+    (cond (pointwise nat_eq (codes "N") x) (by_version (version_of prefix)) (other_kind prefix)) ≡ by_version (version_of prefix)) (sym is) refl
 
 -- the first character is a blank, or that of the version
 lead_char : (c digit : ℕ) (more : List ℕ) → first_char (c ∷ more) ≡ digit → (c ≡ 32) ⊎ (c ≡ digit)

@@ -13,7 +13,7 @@ struct Prefix {
     kind: Kind,
 }
 
-static PREFIXES: [Prefix; 24] = [
+static PREFIXES: [Prefix; 26] = [
     Prefix {
         name: "no byte",
         bytes: b"",
@@ -120,6 +120,16 @@ static PREFIXES: [Prefix; 24] = [
     Prefix {
         name: "RINEX 2.10 of GLONASS",
         bytes: b"     2.10           GLONASS NAV DATA                        RINEX VERSION / TYPE",
+        kind: Kind::Rinex2,
+    },
+    Prefix {
+        name: "RINEX 2.11 of SBAS",
+        bytes: b"     2.11           H: GEO NAV MSG DATA                     RINEX VERSION / TYPE",
+        kind: Kind::Rinex2,
+    },
+    Prefix {
+        name: "RINEX 3 of GLONASS by its type, which has none",
+        bytes: b"     3.04           GLONASS NAV DATA                        RINEX VERSION / TYPE",
         kind: Kind::OtherRinex,
     },
     Prefix {

@@ -22,6 +22,8 @@ mod large_rows;
 #[cfg(test)]
 mod looks;
 #[cfg(test)]
+mod older;
+#[cfg(test)]
 mod over_memory;
 #[cfg(test)]
 mod played;

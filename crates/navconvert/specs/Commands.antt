@@ -14,7 +14,8 @@ use Rattle.navconvert.specs.declared.command.Row.{Row as OptionRow}
 -- the values of `--from`
 abbrev pub form_words : List Text
 form_words =
-    codes "auto" ∷ codes "capture" ∷ codes "stream" ∷ codes "rinex" ∷ codes "rinex3" ∷ codes "ubx" ∷ codes "sbf" ∷ []
+    codes "auto" ∷ codes "capture" ∷ codes "stream" ∷ codes "rinex" ∷ codes "rinex3" ∷ codes "rinex2" ∷ codes "ubx" ∷ codes "sbf"
+    ∷ []
 
 -- the values of `--to`
 abbrev pub target_words : List Text

@@ -117,10 +117,10 @@ fn convert_staged<'a>(settings: &Settings<'a>, files: &'a [&'a str]) -> u8 {
     }
 }
 
-// What is asked of files that are merged: those of RINEX 3 are of RINEX 4 now.
+// What is asked of files that are merged: those of RINEX 3 and 2 are of RINEX 4 now.
 fn merging(wanted: Wanted) -> Wanted {
     match wanted.form {
-        Some(Kind::Rinex3) if wanted.target.takes_several() => Wanted {
+        Some(Kind::Rinex3 | Kind::Rinex2) if wanted.target.takes_several() => Wanted {
             form: None,
             ..wanted
         },

@@ -132,7 +132,9 @@ static OPTIONS: [Row; 15] = [
     Row {
         name: "from",
         short: Some('f'),
-        parser: ValueParser::Names(&["auto", "capture", "stream", "rinex", "rinex3", "ubx", "sbf"]),
+        parser: ValueParser::Names(&[
+            "auto", "capture", "stream", "rinex", "rinex3", "rinex2", "ubx", "sbf",
+        ]),
         defaults: &["auto"],
         values: &["FORMAT"],
         help: "The format of the files; auto recognises it by their content",

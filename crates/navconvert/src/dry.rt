@@ -4,7 +4,7 @@
 use crate::files::Settings;
 use crate::forms::{format_word, input_kind};
 use crate::inputs::{Inputs, opened};
-use crate::staged::{is_three, wanted_before};
+use crate::staged::{older_kind, wanted_before};
 use crate::telling::tell_file;
 use crate::values::Wanted;
 use bridge_engine::Job;
@@ -22,7 +22,7 @@ pub(crate) fn show_files(
     name: Option<&str>,
 ) -> u8 {
     for file in files {
-        if settings.wanted.target.takes_several() && is_three(settings, file) {
+        if settings.wanted.target.takes_several() && older_kind(settings, file).is_some() {
             return show_before(settings, files, name);
         }
     }
@@ -36,14 +36,14 @@ pub(crate) fn show_files(
     }
 }
 
-// Prints the command that converts the files of RINEX 3 first.
+// Prints the command that converts the files of RINEX 3 and 2 first.
 fn show_before(settings: &Settings, files: &[&str], name: Option<&str>) -> u8 {
     let mut line = Line::new(settings.rt);
     line.text("{");
     for file in files {
-        if is_three(settings, file) {
+        if let Some(kind) = older_kind(settings, file) {
             line.text(" navconvert -o - -");
-            line.job(&wanted_before(settings), Kind::Rinex3);
+            line.job(&wanted_before(settings, kind), kind);
             line.word(" < ", file);
         } else {
             line.word(" cat -- ", file);
@@ -52,7 +52,7 @@ fn show_before(settings: &Settings, files: &[&str], name: Option<&str>) -> u8 {
     }
     line.text(" } | ");
     line.text(match task_for(&settings.wanted.plan(), Kind::Rinex4) {
-        Some(task) => program_of(&task),
+        Some(task) => program_of(&task, Kind::Rinex4),
         None => "navbridge",
     });
     line.job(&settings.wanted, Kind::Rinex4);
@@ -77,12 +77,12 @@ fn show_kind(
             line.files(mark, files);
             if !matches!(task, Task::Copied) {
                 line.text(" | ");
-                line.text(program_of(&task));
+                line.text(program_of(&task, kind));
                 line.job(&settings.wanted, kind);
             }
         }
         None => {
-            line.text(program_of(&task));
+            line.text(program_of(&task, kind));
             line.job(&settings.wanted, kind);
             line.files(" < ", files);
         }
@@ -90,11 +90,19 @@ fn show_kind(
     line.end(name)
 }
 
-// The program that does a task from its input to its output.
-fn program_of(task: &Task) -> &'static str {
+// The program that does a task from its input, of this form, to its output.
+fn program_of(task: &Task, kind: Kind) -> &'static str {
     match task {
         Task::Systems(_) | Task::SystemFile(_) | Task::SystemMerge(_) => "navconvert -o - -",
-        Task::Does(_) | Task::Copied => "navbridge",
+        Task::Does(_) | Task::Copied => program_before(kind),
+    }
+}
+
+// The program that converts a file of this form where navbridge does if it reads the form.
+fn program_before(kind: Kind) -> &'static str {
+    match kind {
+        Kind::Rinex2 => "navconvert -o - -",
+        _ => "navbridge",
     }
 }
 

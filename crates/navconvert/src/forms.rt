@@ -15,7 +15,7 @@ struct Format {
     mark: &'static str,
 }
 
-static FORMATS: [Format; 6] = [
+static FORMATS: [Format; 7] = [
     Format {
         name: "capture",
         suffix: ".navcap",
@@ -35,6 +35,11 @@ static FORMATS: [Format; 6] = [
         name: "rinex3",
         suffix: ".rnx",
         mark: "header of RINEX 3 navigation",
+    },
+    Format {
+        name: "rinex2",
+        suffix: ".24n",
+        mark: "header of RINEX 2 navigation",
     },
     Format {
         name: "ubx",
@@ -86,6 +91,7 @@ pub(crate) fn format_word(kind: Kind) -> &'static str {
         Kind::Stream => "stream",
         Kind::Rinex4 => "rinex",
         Kind::Rinex3 => "rinex3",
+        Kind::Rinex2 => "rinex2",
         Kind::Ubx => "ubx",
         Kind::Sbf => "sbf",
         _ => "capture",

@@ -1,4 +1,4 @@
-//! Files of RINEX 3 that are merged: they are converted to RINEX 4 first, in memory, as
+//! Files of RINEX 3 and 2 that are merged: they are converted to RINEX 4 first, in memory, as
 //! `navconvert` converts each alone.
 
 use crate::files::Settings;
@@ -48,7 +48,7 @@ impl Before {
     }
 }
 
-/// The bytes that replace those of the files which are of RINEX 3, if they are merged, and what was
+/// The bytes that replace those of the files which are of RINEX 3 or 2, if they are merged, and what was
 /// rejected and skipped of them; the status, if one was not converted.
 pub(crate) fn staged_of<'a>(
     settings: &Settings<'a>,
@@ -60,10 +60,9 @@ pub(crate) fn staged_of<'a>(
         return Ok((all, before));
     }
     for file in files {
-        let staged = if is_three(settings, file) {
-            Some(converted_bytes(settings, file, &mut before)?)
-        } else {
-            None
+        let staged = match older_kind(settings, file) {
+            Some(kind) => Some(converted_bytes(settings, file, kind, &mut before)?),
+            None => None,
         };
         if all.push(staged).is_err() {
             return Err(tell_file(settings, file, &Refusal::NoMemory));
@@ -72,27 +71,32 @@ pub(crate) fn staged_of<'a>(
     Ok((all, before))
 }
 
-/// Whether a file that can be read again is of RINEX 3, by its bytes, whatever format is named.
-pub(crate) fn is_three(settings: &Settings, file: &str) -> bool {
+/// RINEX 3 or 2, if a file that can be read again is of that by its bytes, whatever is named.
+pub(crate) fn older_kind(settings: &Settings, file: &str) -> Option<Kind> {
     if file == "-" || is_read_once(settings.rt, file) {
-        return false;
+        return None;
     }
-    matches!(file_kind(settings, None, file), Ok(Kind::Rinex3))
+    match file_kind(settings, None, file) {
+        Ok(Kind::Rinex3) => Some(Kind::Rinex3),
+        Ok(Kind::Rinex2) => Some(Kind::Rinex2),
+        _ => None,
+    }
 }
 
-/// What is asked of a file of RINEX 3 that is merged: to convert it to RINEX 4.
-pub(crate) fn wanted_before(settings: &Settings) -> Wanted {
+/// What is asked of a file of RINEX 3 or 2 that is merged: to convert it to RINEX 4.
+pub(crate) fn wanted_before(settings: &Settings, kind: Kind) -> Wanted {
     Wanted {
-        form: Some(Kind::Rinex3),
+        form: Some(kind),
         target: Target::Rinex,
         ..settings.wanted
     }
 }
 
-// What is made of a file of RINEX 3; the status, where it is not converted.
+// What is made of a file of RINEX 3 or 2; the status, where it is not converted.
 fn converted_bytes<'a>(
     settings: &Settings<'a>,
     file: &'a &'a str,
+    kind: Kind,
     before: &mut Before,
 ) -> Result<Vec<u8>, u8> {
     if !is_headed(settings, file) {
@@ -100,14 +104,20 @@ fn converted_bytes<'a>(
     }
     let alloc = settings.rt.alloc();
     match (String::from_str(alloc, file), part_name(alloc, file)) {
-        (Ok(name), Ok(part)) => convert_by(settings, file, Given::new(name), part.as_str(), before),
+        (Ok(name), Ok(part)) => {
+            let first = Settings {
+                wanted: wanted_before(settings, kind),
+                ..*settings
+            };
+            convert_by(&first, file, Given::new(name), part.as_str(), before)
+        }
         _ => Err(tell_file(settings, file, &Refusal::NoMemory)),
     }
 }
 
 // The same under a name, with a part, which are never made.
 fn convert_by<'a>(
-    settings: &Settings<'a>,
+    first: &Settings<'a>,
     file: &'a &'a str,
     name: Given,
     part: &str,
@@ -117,14 +127,10 @@ fn convert_by<'a>(
         names: from_ref(file),
         staged: &[],
     };
-    let first = Settings {
-        wanted: wanted_before(settings),
-        ..*settings
-    };
-    let mut place = Place::new(&first, inputs, Goal::Memory);
+    let mut place = Place::new(first, inputs, Goal::Memory);
     let mut name = name;
-    let meter = Meter::off(settings.rt);
-    let outcome = converted(&first, &mut place, meter, file, part, &mut name);
+    let meter = Meter::off(first.rt);
+    let outcome = converted(first, &mut place, meter, file, part, &mut name);
     let Outcome {
         done,
         report: _,
@@ -135,13 +141,13 @@ fn convert_by<'a>(
     match done {
         Err(stop) => {
             let refusal = place.other().unwrap_or(refusal_of(stop, file, file));
-            Err(tell_file(settings, file, &refusal))
+            Err(tell_file(first, file, &refusal))
         }
         Ok(made) => {
             before.add(&made.done, &place.seen(kind, false));
             match place.bytes {
                 Some(bytes) => Ok(bytes),
-                None => Err(tell_file(settings, file, &Refusal::NoMemory)),
+                None => Err(tell_file(first, file, &Refusal::NoMemory)),
             }
         }
     }

@@ -387,7 +387,7 @@ fn write_member<W: fmt::Write>(
 fn units_of(kind: Option<Kind>) -> (&'static str, &'static str) {
     match kind {
         Some(Kind::Stream) => ("frame", "message"),
-        Some(Kind::Rinex4 | Kind::Rinex3) => ("record", "record"),
+        Some(Kind::Rinex4 | Kind::Rinex3 | Kind::Rinex2) => ("record", "record"),
         _ => ("line", "message"),
     }
 }

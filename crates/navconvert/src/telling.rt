@@ -63,6 +63,10 @@ fn form_refusal(settings: &Settings, file: &str, kind: Kind) -> Refusal<'static>
             let what = "a navigation file of RINEX 3 and read only once; convert it first";
             Refusal::Unready(what, "navconvert -o - - < FILE", target)
         }
+        Kind::Rinex2 if target.takes_several() => {
+            let what = "a navigation file of RINEX 2 and read only once; convert it first";
+            Refusal::Unready(what, "navconvert -o - - < FILE", target)
+        }
         Kind::Unknown => unknown_refusal(settings, file).unwrap_or(Refusal::NoSuchConversion(kind)),
         _ => Refusal::NoSuchConversion(kind),
     }

@@ -1,5 +1,5 @@
 -- The format of a file, from its first bytes.
-use Rattle.std.specs.Prelude.{◌==◌, nat_eq, nat_lt, ◌&&◌, ℕ, Bool, true, false, if◌then◌else◌, List, [], ◌∷◌, length, take, drop, codes, slice_index, Option, None, Some, unwrap_or}
+use Rattle.std.specs.Prelude.{◌==◌, nat_eq, nat_lt, ◌&&◌, ◌||◌, ℕ, Bool, true, false, if◌then◌else◌, List, [], ◌∷◌, length, take, drop, codes, slice_index, Option, None, Some, unwrap_or}
 use Rattle.std.specs.List.{starts_with}
 use Rattle.whole_file.specs.Units.{first_unit}
 use Rattle.whole_file.specs.declared.kinds.Kind.{Kind}
@@ -22,6 +22,11 @@ first_char (x ∷ xs) = if x == 32 then first_char xs else x
 abbrev pub version_of : List ℕ → ℕ
 version_of prefix = first_char (take 9 prefix)
 
+-- of another type: in version 2 `G` is navigation of GLONASS, and `H` of SBAS
+abbrev pub other_kind : List ℕ → Kind
+other_kind prefix =
+    if (stands_at 20 (codes "G") prefix || stands_at 20 (codes "H") prefix) && version_of prefix == 50 then Rinex2 else OtherRinex
+
 -- a RINEX file, by its type in column 21: `O` observations, `N` navigation, and then by its version
 unfoldable pub rinex_kind : List ℕ → Kind
 rinex_kind prefix =
@@ -31,7 +36,7 @@ rinex_kind prefix =
     else if version_of prefix == 51 then Rinex3
     else if version_of prefix == 50 then Rinex2
     else OtherRinex)
-    else OtherRinex
+    else other_kind prefix
 
 -- a text: a capture, a log of SBF or NMEA, one with a UTF-8 byte order mark, or RINEX by the label in columns 61-80
 unfoldable pub text_kind : List ℕ → Kind
@@ -104,8 +109,10 @@ unfoldable pub kind_of : List ℕ → Kind
 kind_of bytes = told_by (prefix_kind (take 80 bytes)) (first_unit (take 65536 bytes))
 
 -- the format that is named, or else the one that the first bytes show; a capture that names its
--- week is read as one that does
+-- week is read as one that does, and where RINEX is named a file by its version
 abbrev pub form_of : Option Kind → Kind → Kind
 form_of None told = told
 form_of (Some Capture1) Capture2 = Capture2
+form_of (Some Rinex4) Rinex3 = Rinex3
+form_of (Some Rinex4) Rinex2 = Rinex2
 form_of (Some named) told = named

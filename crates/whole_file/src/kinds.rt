@@ -5,7 +5,7 @@ ghost use Rattle.std.specs.Prelude.{IfSome};
 ghost use Rattle.std.specs.List.{starts_with};
 ghost use Rattle.whole_file.specs.Kinds.{kind_of, is_head, prefix_kind, binary_kind, text_kind};
 ghost use Rattle.whole_file.specs.Units.{IsPast};
-ghost use Rattle.whole_file.specs.Kinds.{rinex_kind, version_of, first_char, stands_at};
+ghost use Rattle.whole_file.specs.Kinds.{other_kind, rinex_kind, version_of, first_char, stands_at};
 
 use crate::units::find_unit;
 
@@ -198,13 +198,25 @@ fn rinex_kind(prefix: &[u8]) -> Kind
         return Kind::Observations;
     }
     if !stands_at(prefix, 20, b"N") {
-        return Kind::OtherRinex;
+        return other_kind(prefix);
     }
     match version_of(prefix) {
         b'4' => Kind::Rinex4,
         b'3' => Kind::Rinex3,
         b'2' => Kind::Rinex2,
         _ => Kind::OtherRinex,
+    }
+}
+
+// The form of one of another type: RINEX 2 has types for GLONASS and SBAS.
+fn other_kind(prefix: &[u8]) -> Kind
+    ensures { result ≡ other_kind prefix.now }
+{
+    let is_older = stands_at(prefix, 20, b"G") || stands_at(prefix, 20, b"H");
+    if is_older && version_of(prefix) == b'2' {
+        Kind::Rinex2
+    } else {
+        Kind::OtherRinex
     }
 }
 

@@ -44,13 +44,16 @@ pub fn look<S: Source>(named: Option<Kind>, input: &mut Peeked<S>) -> Result<Kin
 }
 
 /// The format under which a file is read: that which is named, or else the one that is recognised.
-/// A capture that names its week is read as one that does.
+/// A capture that names its week is read as one that does, and where RINEX is named a file by its
+/// version.
 pub fn form_of(named: Option<Kind>, told: Kind) -> Kind
     ensures { result ≡ form_of named told }
 {
     match (named, told) {
         (None, _) => told,
         (Some(Kind::Capture1), Kind::Capture2) => Kind::Capture2,
+        (Some(Kind::Rinex4), Kind::Rinex3) => Kind::Rinex3,
+        (Some(Kind::Rinex4), Kind::Rinex2) => Kind::Rinex2,
         (Some(named), _) => named,
     }
 }
