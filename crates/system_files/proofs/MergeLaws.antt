@@ -1,35 +1,21 @@
 -- The merged list of all systems: its parts, and that it depends on the set of the items alone.
-use Rattle.std.proofs.Common.{◌≡◌, ℕ, ◌+◌, Bool, true, false, cond, List, [], ◌∷◌, ◌++◌, ◌↔◌, Contains, length, map, suc, zero, ℤ, refl, sym, ap, subst, ◌∙◌, inl, inr, ◌⊎◌, Ok, Err, arith}
-use Rattle.std.specs.Prelude.{IsOk, Result}
-use Rattle.std.specs.List.{flat_map}
-use Rattle.std.specs.Cmp.Lexicographic.{slice_cmp}
-use Rattle.std.specs.Ordering.{int_cmp, ordering_then}
+use Rattle.std.proofs.Common.{◌≡◌, ℕ, Bool, true, false, cond, List, [], ◌∷◌, ◌++◌, ◌↔◌, Contains, map, suc, zero, refl, sym, ap, subst, ◌∙◌, inl, inr, ◌⊎◌, Ok, Err, arith}
+use Rattle.std.specs.Ordering.{ordering_then}
 use Rattle.std.specs.declared.cmp.Ordering.{Ordering}
 use Rattle.std.specs.declared.cmp.Ordering.TheVariants.{Less, Equal, Greater}
 use Rattle.nav_eph.specs.declared.items.NavItem.{NavItem}
-use Rattle.nav_links.specs.Links.{nth}
 use Rattle.nav_lists.specs.Merging.{IsMerged, merged_of}
-use Rattle.nav_rows.specs.Order.{KindRow, by_place, by_rank, front_of, rank, rank_of, settled}
-use Rattle.nav_rows.specs.declared.kind.Kind.{Kind}
-use Rattle.outlets.specs.Targets.{prefix_text}
-use Rattle.outlets.specs.declared.target.Target.{Target}
-use Rattle.outlets.specs.declared.target.Target.TheVariants.{Rinex}
+use Rattle.nav_rows.specs.Order.{KindRow, by_place, by_rank, rank, rank_of}
 use Rattle.ranked_list.specs.Ranks.{AreTold, IsRankedList, ranked_of}
-use Rattle.rinex_read.specs.Files.{file_reads, items_of as nav_items_of, items_read, records_in}
-use Rattle.rinex_read.specs.Forms.{rinex4}
-use Rattle.rinex_read.specs.declared.judged.HeaderFault.{HeaderFault}
-use Rattle.rinex_read.specs.declared.judged.ItemRead.{ItemRead}
-use Rattle.rinex_write.specs.Texts.{header_lines, text_of as text_lines}
-use Rattle.rinex_write.specs.declared.words.HeaderWords.{HeaderWords}
+use Rattle.rinex_read.specs.Files.{file_reads, items_read, records_in}
 use Rattle.system_streams.specs.Readings.{Item}
 use Rattle.system_streams.specs.Streams.{navs}
 use Rattle.system_streams.specs.declared.kinds.Kinds.{Kinds}
 use Rattle.system_files.specs.Files.{form_of, items_in, nav_form, numbered}
-use Rattle.system_files.specs.Merging.{AreNamed, behind_rows, file_merged, interleaved, is_before, item_of, item_text, items_of, merged_items, navs_of, rows_of}
+use Rattle.system_files.specs.Merging.{AreNamed, behind_rows, file_merged, interleaved, is_before, item_of, items_of, merged_items, navs_of, rows_of}
 use Rattle.system_files.specs.NavOrder.{by_numbers, by_sent}
 use Rattle.system_files.specs.Readings.{LineRead, Reading}
 use Rattle.system_files.specs.declared.version.Version.{Version}
-use Rattle.system_files.specs.declared.version.Version.TheVariants.{Four}
 use Rattle.system_files.proofs.Items.{file_navs}
 use Rattle.system_files.proofs.Merges.{navs_append, rows_append}
 use Rattle.system_files.proofs.NavLaws.{number_at, one_list, same_items, told_items}
