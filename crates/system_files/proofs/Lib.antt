@@ -3,5 +3,7 @@ pub mod Items
 pub mod KeptLines
 pub mod RowOrder
 pub mod Merges
+pub mod Cells
+pub mod NavLaws
 pub mod MergeLaws
 pub mod Wrote

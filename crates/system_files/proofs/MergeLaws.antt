@@ -1,39 +1,24 @@
 -- The merged list of all systems: its parts, and that it depends on the set of the items alone.
-use Rattle.std.proofs.Common.{◌≡◌, ℕ, ◌+◌, Bool, true, false, cond, List, [], ◌∷◌, ◌++◌, ◌↔◌, Contains, length, map, suc, zero, ℤ, pos, get_or, refl, sym, ap, subst, ◌∙◌, inl, inr, ◌⊎◌, Ok, Err, arith}
-use Rattle.std.specs.Prelude.{IsOk, Result}
-use Rattle.std.specs.List.{flat_map}
-use Rattle.std.specs.Cmp.Lexicographic.{slice_cmp}
-use Rattle.std.specs.FinMap.{int_cmp-IsAntisymmetric, slice_cmp-IsAntisymmetric}
-use Rattle.std.specs.Ordering.{int_cmp, ordering_then}
+use Rattle.std.proofs.Common.{◌≡◌, ℕ, Bool, true, false, cond, List, [], ◌∷◌, ◌++◌, ◌↔◌, Contains, map, suc, zero, refl, sym, ap, subst, ◌∙◌, inl, inr, ◌⊎◌, Ok, Err, arith}
+use Rattle.std.specs.Ordering.{ordering_then}
 use Rattle.std.specs.declared.cmp.Ordering.{Ordering}
 use Rattle.std.specs.declared.cmp.Ordering.TheVariants.{Less, Equal, Greater}
 use Rattle.nav_eph.specs.declared.items.NavItem.{NavItem}
-use Rattle.nav_files.specs.Archives.{merge_meaning, merge_text as nav_merge_text}
-use Rattle.nav_files.specs.Files.{text_in}
-use Rattle.nav_links.specs.Links.{nth}
-use Rattle.nav_lists.specs.Merging.{merged_of}
-use Rattle.nav_rows.specs.Order.{KindRow, by_place, by_rank, front_of, rank, rank_of, settled}
-use Rattle.nav_rows.specs.declared.kind.Kind.{Kind}
-use Rattle.outlets.specs.Targets.{prefix_text}
-use Rattle.outlets.specs.declared.target.Target.{Target}
-use Rattle.outlets.specs.declared.target.Target.TheVariants.{Rinex}
-use Rattle.ranked_list.specs.Ranks.{AreTold, ranked_of}
-use Rattle.rinex_read.specs.Files.{file_reads, items_of as nav_items_of, items_read, records_in}
-use Rattle.rinex_read.specs.Forms.{rinex4}
-use Rattle.rinex_read.specs.declared.judged.HeaderFault.{HeaderFault}
-use Rattle.rinex_read.specs.declared.judged.ItemRead.{ItemRead}
-use Rattle.rinex_write.specs.Texts.{header_lines, text_of as text_lines}
-use Rattle.rinex_write.specs.declared.words.HeaderWords.{HeaderWords}
+use Rattle.nav_lists.specs.Merging.{IsMerged, merged_of}
+use Rattle.nav_rows.specs.Order.{KindRow, by_place, by_rank, rank, rank_of}
+use Rattle.ranked_list.specs.Ranks.{AreTold, IsRankedList, ranked_of}
+use Rattle.rinex_read.specs.Files.{file_reads, items_read, records_in}
 use Rattle.system_streams.specs.Readings.{Item}
 use Rattle.system_streams.specs.Streams.{navs}
 use Rattle.system_streams.specs.declared.kinds.Kinds.{Kinds}
 use Rattle.system_files.specs.Files.{form_of, items_in, nav_form, numbered}
-use Rattle.system_files.specs.Merging.{AreNamed, behind_rows, file_merged, interleaved, is_before, item_of, item_text, items_of, merged_items, navs_of, rows_of}
+use Rattle.system_files.specs.Merging.{AreNamed, behind_rows, file_merged, interleaved, is_before, item_of, items_of, merged_items, navs_of, rows_of}
+use Rattle.system_files.specs.NavOrder.{by_numbers, by_sent}
 use Rattle.system_files.specs.Readings.{LineRead, Reading}
 use Rattle.system_files.specs.declared.version.Version.{Version}
-use Rattle.system_files.specs.declared.version.Version.TheVariants.{Four}
 use Rattle.system_files.proofs.Items.{file_navs}
 use Rattle.system_files.proofs.Merges.{navs_append, rows_append}
+use Rattle.system_files.proofs.NavLaws.{number_at, one_list, same_items, told_items}
 
 -- ---- the parts
 
@@ -71,23 +56,23 @@ pub row_part : (is : List NavItem) (xs : List KindRow) → rows_of (interleaved 
 row_part [] xs = all_rows xs
 row_part (item ∷ is) xs = behind_rows_are item is xs (row_part is)
 
-pub merged_navs : (items : List Item) → navs_of (merged_items items) ≡ merged_of (navs_of items)
-merged_navs items = nav_part (merged_of (navs_of items)) (ranked_of by_rank by_place (rows_of items))
+pub merged_navs : (items : List Item) → navs_of (merged_items items) ≡ ranked_of by_numbers by_sent (navs_of items)
+merged_navs items = nav_part (ranked_of by_numbers by_sent (navs_of items)) (ranked_of by_rank by_place (rows_of items))
 
 pub merged_rows : (items : List Item) → rows_of (merged_items items) ≡ ranked_of by_rank by_place (rows_of items)
-merged_rows items = row_part (merged_of (navs_of items)) (ranked_of by_rank by_place (rows_of items))
+merged_rows items = row_part (ranked_of by_numbers by_sent (navs_of items)) (ranked_of by_rank by_place (rows_of items))
 
 -- ---- in several steps
 
-pub merged_again : ((some more : List NavItem) → merged_of (merged_of some ++ more) ≡ merged_of (some ++ more))
+pub merged_again : ((some more : List NavItem) → ranked_of by_numbers by_sent (ranked_of by_numbers by_sent some ++ more) ≡ ranked_of by_numbers by_sent (some ++ more))
     → ((some more : List KindRow) → ranked_of by_rank by_place (ranked_of by_rank by_place some ++ more) ≡ ranked_of by_rank by_place (some ++ more))
     → (some more : List Item) → merged_items (merged_items some ++ more) ≡ merged_items (some ++ more)
 merged_again of_navs of_rows some more = λ i. interleaved (nav_side i) (row_side i)
   where
-    nav_side : merged_of (navs_of (merged_items some ++ more)) ≡ merged_of (navs_of (some ++ more))
+    nav_side : ranked_of by_numbers by_sent (navs_of (merged_items some ++ more)) ≡ ranked_of by_numbers by_sent (navs_of (some ++ more))
     nav_side =
-        ap merged_of (navs_append (merged_items some) more ∙ ap (λ (l : List NavItem). l ++ navs_of more) (merged_navs some))
-        ∙ of_navs (navs_of some) (navs_of more) ∙ ap merged_of (sym (navs_append some more))
+        ap (ranked_of by_numbers by_sent) (navs_append (merged_items some) more ∙ ap (λ (l : List NavItem). l ++ navs_of more) (merged_navs some))
+        ∙ of_navs (navs_of some) (navs_of more) ∙ ap (ranked_of by_numbers by_sent) (sym (navs_append some more))
 
     row_side : ranked_of by_rank by_place (rows_of (merged_items some ++ more)) ≡ ranked_of by_rank by_place (rows_of (some ++ more))
     row_side =
@@ -166,21 +151,11 @@ both_equal Less b e = absurd (cc)
 both_equal Equal b e = (refl, e)
 both_equal Greater b e = absurd (cc)
 
-one_list : (xs ys : List ℤ) → slice_cmp int_cmp xs ys ≡ Equal → xs ≡ ys
-one_list xs ys e = slice_cmp-IsAntisymmetric int_cmp-IsAntisymmetric xs ys e
-
-number_at : ℕ → List ℤ → ℕ
-number_at k xs = number (get_or xs k (pos 0))
-  where
-    number : ℤ → ℕ
-    number (pos n) = n
-    number _ = 0
-
 same_number : (k : ℕ) (x y : KindRow) → rank x ≡ rank y → number_at k (rank x) ≡ number_at k (rank y)
 same_number k x y e = ap (number_at k) e
 
 pub told_rows : (xs : List KindRow) → AreNamed xs → AreTold by_rank by_place (Contains xs)
-unfolding rank_of number_at
+unfolding rank_of
 told_rows xs named x y h k e f =
     let same : rank x ≡ rank y = one_list (rank x) (rank y) e in
     let system : x.kind.system ≡ y.kind.system = ap (number_at 1) same in
@@ -191,11 +166,11 @@ told_rows xs named x y h k e f =
     let columns : x.row.columns ≡ y.row.columns = one_list x.row.columns y.row.columns (both_equal _ _ (both_equal _ _ f).1).1 in
     λ i. record { kind = kind i; row = record { number = satellite i; moment = epoch i; columns = columns i } }
 
-pub merged_set : ((some other : List NavItem) → ((i : NavItem) → Contains some i ↔ Contains other i) → merged_of some ≡ merged_of other)
+pub merged_set : ((some other : List NavItem) → AreTold by_numbers by_sent (Contains some) → ((i : NavItem) → Contains some i ↔ Contains other i) → ranked_of by_numbers by_sent some ≡ ranked_of by_numbers by_sent other)
     → ((some other : List KindRow) → AreTold by_rank by_place (Contains some) → ((i : KindRow) → Contains some i ↔ Contains other i) → ranked_of by_rank by_place some ≡ ranked_of by_rank by_place other)
     → (some other : List Item) → AreNamed (rows_of some) → ((i : Item) → Contains some i ↔ Contains other i) → merged_items some ≡ merged_items other
 merged_set of_navs of_rows some other named s =
-    λ i. interleaved (of_navs (navs_of some) (navs_of other) (same_navs some other s) i) (of_rows (rows_of some) (rows_of other) (told_rows (rows_of some) named) (same_rows some other s) i)
+    λ i. interleaved (of_navs (navs_of some) (navs_of other) (told_items (Contains (navs_of some))) (same_navs some other s) i) (of_rows (rows_of some) (rows_of other) (told_rows (rows_of some) named) (same_rows some other s) i)
 
 -- ---- of a file
 
@@ -208,22 +183,19 @@ navs_same (r ∷ rs) = at (navs_same rs) r.reading
     at h (Ok (inr x)) = h
     at h (Err fault) = h
 
-pub file_merge : (ks : Kinds) (v : Version) (bytes : List ℕ) → navs_of (file_merged ks v bytes) ≡ merged_of (items_read (file_reads (nav_form v) bytes))
-file_merge ks v bytes = merged_navs (items_of (records_in (file_reads (form_of ks v) bytes))) ∙ ap merged_of (navs_same (records_in (file_reads (form_of ks v) bytes)) ∙ file_navs ks v bytes)
+-- those of their own merge
+pub merged_nav_set : ((items : List NavItem) → IsRankedList by_numbers by_sent (Contains items) (ranked_of by_numbers by_sent items))
+    → ((items : List NavItem) → IsMerged (Contains items) (merged_of items))
+    → (items : List Item) (item : NavItem) → Contains (navs_of (merged_items items)) item ↔ Contains (merged_of (navs_of items)) item
+merged_nav_set ranked merged items item =
+    let is = navs_of items in
+    subst (λ (l : List NavItem). Contains l item ↔ Contains (merged_of is) item) (sym (merged_navs items))
+    (same_items is (ranked_of by_numbers by_sent is) (merged_of is) (ranked is) (merged is) item)
 
-texts_of : (to : Target) (is : List NavItem) → flat_map (item_text to) (map inl is) ≡ flat_map (λ item. item_text to (inl item)) is
-texts_of to [] = refl
-texts_of to (item ∷ is) = ap (λ (l : List ℕ). item_text to (inl item) ++ l) (texts_of to is)
-
-read_text : (words : HeaderWords) (r : Result (List ItemRead) HeaderFault) → IsOk r
-    → text_in (λ reads. text_lines (header_lines words) ++ nav_merge_text (nav_items_of reads)) r
-    ≡ prefix_text (Rinex words) ++ flat_map (λ item. item_text (Rinex words) (inl item)) (merged_of (items_read r))
-read_text words (Ok reads) ok = refl
-read_text words (Err fault) ok = absurd (cc)
-
-pub file_merge_text : (ks : Kinds) (words : HeaderWords) (bytes : List ℕ) → IsOk (file_reads rinex4 bytes)
-    → (merge_meaning words).whole.output bytes ≡ prefix_text (Rinex words) ++ flat_map (item_text (Rinex words)) (map inl (navs_of (file_merged ks Four bytes)))
-file_merge_text ks words bytes ok =
-    read_text words (file_reads rinex4 bytes) ok
-    ∙ ap (λ (is : List NavItem). prefix_text (Rinex words) ++ flat_map (λ item. item_text (Rinex words) (inl item)) is) (sym (file_merge ks Four bytes))
-    ∙ ap (λ (l : List ℕ). prefix_text (Rinex words) ++ l) (sym (texts_of (Rinex words) (navs_of (file_merged ks Four bytes))))
+pub file_merge : ((items : List Item) (item : NavItem) → Contains (navs_of (merged_items items)) item ↔ Contains (merged_of (navs_of items)) item)
+    → (ks : Kinds) (v : Version) (bytes : List ℕ) (item : NavItem)
+    → Contains (navs_of (file_merged ks v bytes)) item ↔ Contains (merged_of (items_read (file_reads (nav_form v) bytes))) item
+file_merge same ks v bytes item =
+    let reads = records_in (file_reads (form_of ks v) bytes) in
+    subst (λ (l : List NavItem). Contains (navs_of (merged_items (items_of reads))) item ↔ Contains (merged_of l) item)
+    (navs_same reads ∙ file_navs ks v bytes) (same (items_of reads) item)

@@ -1,6 +1,6 @@
 -- Merged items: which comes next, how many there are, and what an item more adds.
-use Rattle.std.proofs.Common.{◌≡◌, ℕ, ◌+◌, ◌-◌, ◌^◌, ◌≤◌, ◌<◌, min, Bool, true, false, cond, List, [], ◌∷◌, ◌++◌, length, map, refl, sym, ap, subst, ◌∙◌, inl, inr, arith, append_assoc, append-nil, length-append}
-use Rattle.std.specs.Prelude.{OnOk, Option, None, Some, Result, Ok, Err, MatchOption}
+use Rattle.std.proofs.Common.{◌≡◌, ℕ, ◌+◌, ◌≤◌, Bool, true, false, cond, List, [], ◌∷◌, ◌++◌, length, map, refl, sym, ap, subst, ◌∙◌, inl, inr, arith, append_assoc, append-nil, length-append}
+use Rattle.std.specs.Prelude.{OnOk, Option, None, Some, Result, Ok, Err}
 use Rattle.std.specs.Borrow.{Bor}
 use Rattle.std.specs.Iterator.{YieldsFirstRef}
 use Rattle.std.specs.List.{fold}
@@ -8,7 +8,6 @@ use Rattle.std.specs.Ordering.{match_ordering}
 use Rattle.std.specs.declared.cmp.Ordering.{Ordering}
 use Rattle.std.specs.declared.cmp.Ordering.TheVariants.{Less, Equal, Greater}
 use Rattle.nav_eph.specs.declared.items.NavItem.{NavItem}
-use Rattle.nav_lists.specs.Merging.{by_rank as nav_rank, merged_of, with_item, earlier_of}
 use Rattle.nav_rows.specs.Order.{KindRow, by_place, by_rank}
 use Rattle.outlets.specs.declared.target.Target.{Target}
 use Rattle.ranked_list.specs.Ranks.{first_of, ranked_of, with_value}
@@ -16,6 +15,7 @@ use Rattle.system_streams.specs.Readings.{Item}
 use Rattle.system_files.specs.MergeMirrors.{IsNext, held}
 use Rattle.system_files.specs.Merging.{behind_rows, interleaved, is_before, item_of, items_of, merge_counts, merged_items, navs_of, rows_of}
 use Rattle.system_files.specs.Files.{counts_of}
+use Rattle.system_files.specs.NavOrder.{by_numbers, by_sent}
 use Rattle.system_files.specs.Readings.{LineRead, Reading, readings}
 use Rattle.system_files.specs.declared.counts.SystemCounts.{SystemCounts}
 use Rattle.system_files.specs.declared.next.Next.{Next}
@@ -56,40 +56,23 @@ pub interleaved_length : (is : List NavItem) (xs : List KindRow) → length (int
 interleaved_length [] xs = let e : length xs ≡ 0 + length xs = omega arith in rows_length xs ∙ e
 interleaved_length (item ∷ is) xs = omega (arith, behind_length item is xs (interleaved_length is))
 
-with_length : (is : List NavItem) (x : NavItem) → length (with_item is x) ≤ length is + 1
-with_length [] x = omega arith
-with_length (y ∷ ys) x = at (nav_rank x y) (with_length ys x)
+with_length : {X : Type 0} (by choice : X → X → Ordering) (xs : List X) (x : X) → length (with_value by choice xs x) ≤ length xs + 1
+with_length by choice [] x = omega arith
+with_length {X} by choice (y ∷ ys) x = at (by x y) (with_length by choice ys x)
   where
-    at : (o : Ordering) → length (with_item ys x) ≤ length ys + 1 → length (match_ordering o (x ∷ y ∷ ys) (earlier_of x y ∷ ys) (y ∷ with_item ys x)) ≤ length (y ∷ ys) + 1
+    at : (o : Ordering) → length (with_value by choice ys x) ≤ length ys + 1
+        → length (match_ordering o (x ∷ y ∷ ys) (first_of by choice x y ∷ ys) (y ∷ with_value by choice ys x)) ≤ length (y ∷ ys) + 1
     at Less h = omega arith
     at Equal h = omega arith
     at Greater h = omega (arith, h)
 
-fold_length : (held is : List NavItem) → length (fold with_item held is) ≤ length held + length is
-fold_length held [] = omega arith
-fold_length held (x ∷ xs) = omega (arith, fold_length (with_item held x) xs, with_length held x)
+fold_length : {X : Type 0} (by choice : X → X → Ordering) (held xs : List X) → length (fold (with_value by choice) held xs) ≤ length held + length xs
+fold_length by choice held [] = omega arith
+fold_length by choice held (x ∷ xs) = omega (arith, fold_length by choice (with_value by choice held x) xs, with_length by choice held x)
 
-merged_length : (is : List NavItem) → length (merged_of is) ≤ length is
-unfolding merged_of
-merged_length is = omega (arith, fold_length [] is)
-
-row_with_length : (xs : List KindRow) (x : KindRow) → length (with_value by_rank by_place xs x) ≤ length xs + 1
-row_with_length [] x = omega arith
-row_with_length (y ∷ ys) x = at (by_rank x y) (row_with_length ys x)
-  where
-    at : (o : Ordering) → length (with_value by_rank by_place ys x) ≤ length ys + 1
-        → length (match_ordering o (x ∷ y ∷ ys) (first_of by_rank by_place x y ∷ ys) (y ∷ with_value by_rank by_place ys x)) ≤ length (y ∷ ys) + 1
-    at Less h = omega arith
-    at Equal h = omega arith
-    at Greater h = omega (arith, h)
-
-row_fold_length : (held xs : List KindRow) → length (fold (with_value by_rank by_place) held xs) ≤ length held + length xs
-row_fold_length held [] = omega arith
-row_fold_length held (x ∷ xs) = omega (arith, row_fold_length (with_value by_rank by_place held x) xs, row_with_length held x)
-
-ranked_length : (xs : List KindRow) → length (ranked_of by_rank by_place xs) ≤ length xs
+ranked_length : {X : Type 0} (by choice : X → X → Ordering) (xs : List X) → length (ranked_of by choice xs) ≤ length xs
 unfolding ranked_of
-ranked_length xs = omega (arith, row_fold_length [] xs)
+ranked_length by choice xs = let few : length (fold (with_value by choice) [] xs) ≤ length xs = omega (arith, fold_length by choice [] xs) in few
 
 parts_length : (items : List Item) → length (navs_of items) + length (rows_of items) ≡ length items
 parts_length [] = refl
@@ -104,9 +87,9 @@ items_length : (reads : List LineRead) → length (items_of reads) ≤ length re
 items_length [] = omega arith
 items_length (r ∷ rs) = omega (arith, length-append (item_of r.reading) (items_of rs), one_length r.reading, items_length rs)
 
-pub kept_length : (reads : List LineRead) → length (merged_of (navs_of (items_of reads))) + length (ranked_of by_rank by_place (rows_of (items_of reads))) ≤ length reads
+pub kept_length : (reads : List LineRead) → length (ranked_of by_numbers by_sent (navs_of (items_of reads))) + length (ranked_of by_rank by_place (rows_of (items_of reads))) ≤ length reads
 kept_length reads =
-    omega (arith, merged_length (navs_of (items_of reads)), ranked_length (rows_of (items_of reads)), parts_length (items_of reads), items_length reads)
+    omega (arith, ranked_length by_numbers by_sent (navs_of (items_of reads)), ranked_length by_rank by_place (rows_of (items_of reads)), parts_length (items_of reads), items_length reads)
 
 -- ---- an item more
 
@@ -132,9 +115,10 @@ pub same_rows : (items more : List Item) → rows_of more ≡ [] → rows_of (it
 same_rows items more e = rows_append items more ∙ ap (λ (l : List KindRow). rows_of items ++ l) e ∙ append-nil (rows_of items)
 
 -- the next one is an item, or a row
-pub nav_next : (item : Option (Bor NavItem)) (x : Option (Bor KindRow)) (r : Option Next) (n : Next) (i : Bor NavItem) → IsNext item x r → r ≡ Some n → n ≡ Nav i
-    → (is : List NavItem) (xs : List KindRow) → interleaved (held item is) (held x xs) ≡ inl i.now ∷ interleaved is (held x xs)
-nav_next item x r n i h e f = subst (IsNext item x) (e ∙ ap Some f) h
+pub nav_next : (item : Option (Bor NavItem)) (x : Option (Bor KindRow)) (r : Option Next) (n : Next) (i : Bor NavItem) (j : NavItem) → IsNext item x r → r ≡ Some n → n ≡ Nav i → j ≡ i.now
+    → (is : List NavItem) (xs : List KindRow) → interleaved (held item is) (held x xs) ≡ inl j ∷ interleaved is (held x xs)
+nav_next item x r n i j h e f g is xs =
+    subst (IsNext item x) (e ∙ ap Some f) h is xs ∙ ap (λ (y : NavItem). inl y ∷ interleaved is (held x xs)) (sym g)
 
 pub row_next : (item : Option (Bor NavItem)) (x : Option (Bor KindRow)) (r : Option Next) (n : Next) (y : Bor KindRow) → IsNext item x r → r ≡ Some n → n ≡ Further y
     → (is : List NavItem) (xs : List KindRow) → interleaved (held item is) (held x xs) ≡ inr y.now ∷ interleaved (held item is) xs
@@ -145,11 +129,11 @@ pub none_next : (item : Option (Bor NavItem)) (x : Option (Bor KindRow)) (r : Op
 none_next item x r h e = subst (IsNext item x) e h
 
 -- what is left once the next one is taken
-pub nav_left : (item : Option (Bor NavItem)) (x : Option (Bor KindRow)) (r : Option Next) (n : Next) (i : Bor NavItem) (old new : List NavItem) (xs : List KindRow) (next : Option (Bor NavItem))
-    → IsNext item x r → r ≡ Some n → n ≡ Nav i → YieldsFirstRef (λ s. s) old next new
-    → interleaved (held item old) (held x xs) ≡ inl i.now ∷ interleaved (held next new) (held x xs)
-nav_left item x r n i old new xs next h e f s =
-    nav_next item x r n i h e f old xs ∙ ap (λ (l : List NavItem). inl i.now ∷ interleaved l (held x xs)) (sym (held_is old new next s))
+pub nav_left : (item : Option (Bor NavItem)) (x : Option (Bor KindRow)) (r : Option Next) (n : Next) (i : Bor NavItem) (j : NavItem) (old new : List NavItem) (xs : List KindRow)
+    (next : Option (Bor NavItem)) → IsNext item x r → r ≡ Some n → n ≡ Nav i → j ≡ i.now → YieldsFirstRef (λ s. s) old next new
+    → interleaved (held item old) (held x xs) ≡ inl j ∷ interleaved (held next new) (held x xs)
+nav_left item x r n i j old new xs next h e f g s =
+    nav_next item x r n i j h e f g old xs ∙ ap (λ (l : List NavItem). inl j ∷ interleaved l (held x xs)) (sym (held_is old new next s))
 
 pub row_left : (item : Option (Bor NavItem)) (x : Option (Bor KindRow)) (r : Option Next) (n : Next) (y : Bor KindRow) (is : List NavItem) (old new : List KindRow) (next : Option (Bor KindRow))
     → IsNext item x r → r ≡ Some n → n ≡ Further y → YieldsFirstRef (λ s. s) old next new
@@ -164,11 +148,11 @@ on_ok (Ok x) f h = f h
 on_ok (Err x) f h = tt
 
 pub given_nav : {T E : Type 0} (r : Result T E) (item : NavItem) (x : Reading) (old new : List NavItem) → x ≡ Ok (inl item)
-    → OnOk r ((is : List NavItem) → old ≡ merged_of is → new ≡ merged_of (is ++ item ∷ []))
-    → OnOk r ((items : List Item) → old ≡ merged_of (navs_of items) → new ≡ merged_of (navs_of (items ++ item_of x)))
+    → OnOk r ((is : List NavItem) → old ≡ ranked_of by_numbers by_sent is → new ≡ ranked_of by_numbers by_sent (is ++ item ∷ []))
+    → OnOk r ((items : List Item) → old ≡ ranked_of by_numbers by_sent (navs_of items) → new ≡ ranked_of by_numbers by_sent (navs_of (items ++ item_of x)))
 given_nav r item x old new e =
     on_ok r (λ h items k.
-    h (navs_of items) k ∙ ap merged_of (sym (navs_append items (inl item ∷ []))) ∙ ap (λ y. merged_of (navs_of (items ++ item_of y))) (sym e))
+    h (navs_of items) k ∙ ap (ranked_of by_numbers by_sent) (sym (navs_append items (inl item ∷ []))) ∙ ap (λ y. ranked_of by_numbers by_sent (navs_of (items ++ item_of y))) (sym e))
 
 pub given_row : {T E : Type 0} (r : Result T E) (row : KindRow) (x : Reading) (old new : List KindRow) → x ≡ Ok (inr row)
     → OnOk r ((xs : List KindRow) → old ≡ ranked_of by_rank by_place xs → new ≡ ranked_of by_rank by_place (xs ++ row ∷ []))
@@ -182,8 +166,8 @@ all_ok (Ok x) p = p
 all_ok (Err x) p = tt
 
 pub navs_stay : {T E : Type 0} (r : Result T E) (x : Reading) (old new : List NavItem) → new ≡ old → navs_of (item_of x) ≡ []
-    → OnOk r ((items : List Item) → old ≡ merged_of (navs_of items) → new ≡ merged_of (navs_of (items ++ item_of x)))
-navs_stay r x old new e none = all_ok r (λ items k. e ∙ k ∙ ap merged_of (sym (same_navs items (item_of x) none)))
+    → OnOk r ((items : List Item) → old ≡ ranked_of by_numbers by_sent (navs_of items) → new ≡ ranked_of by_numbers by_sent (navs_of (items ++ item_of x)))
+navs_stay r x old new e none = all_ok r (λ items k. e ∙ k ∙ ap (ranked_of by_numbers by_sent) (sym (same_navs items (item_of x) none)))
 
 pub rows_stay : {T E : Type 0} (r : Result T E) (x : Reading) (old new : List KindRow) → new ≡ old → rows_of (item_of x) ≡ []
     → OnOk r ((items : List Item) → old ≡ ranked_of by_rank by_place (rows_of items) → new ≡ ranked_of by_rank by_place (rows_of (items ++ item_of x)))
@@ -196,13 +180,13 @@ readings_length [] = refl
 readings_length (r ∷ rs) = omega (arith, readings_length rs)
 
 -- the number of the items of both lists
-pub kept_is : (reads : List LineRead) (a b n k : ℕ) → a ≡ length (merged_of (navs_of (items_of reads))) → b ≡ length (ranked_of by_rank by_place (rows_of (items_of reads)))
+pub kept_is : (reads : List LineRead) (a b n k : ℕ) → a ≡ length (ranked_of by_numbers by_sent (navs_of (items_of reads))) → b ≡ length (ranked_of by_rank by_place (rows_of (items_of reads)))
     → n ≡ length (readings reads) → (a + b ≤ n → k ≡ a + b) → k ≡ length (merged_items (items_of reads))
 kept_is reads a b n k e f g h =
     let few = kept_length reads in
     let all = readings_length reads in
     h (omega (arith, e, f, g, few, all)) ∙ (λ i. e i + f i)
-    ∙ sym (interleaved_length (merged_of (navs_of (items_of reads))) (ranked_of by_rank by_place (rows_of (items_of reads))))
+    ∙ sym (interleaved_length (ranked_of by_numbers by_sent (navs_of (items_of reads))) (ranked_of by_rank by_place (rows_of (items_of reads))))
 
 pub counts_are : (to : Target) (reads : List LineRead) (c : SystemCounts) (kept : ℕ) → c ≡ counts_of to reads → kept ≡ length (merged_items (items_of reads))
     → record { records = c.records; refused = c.refused; passed = c.passed; items = c.items; kept = kept; unwritten = c.unwritten; times = c.times } ≡ merge_counts to reads

@@ -1,10 +1,12 @@
--- Where what comes first in the rank of rows differs, it decides their order.
+-- Where what comes first in the rank of rows or items differs, it decides their order.
 use Rattle.std.proofs.Common.{◌≡◌, ℤ, List, [], ◌∷◌, ◌++◌, length, suc, sym, ap, ◌∙◌, refl, arith}
 use Rattle.std.specs.Cmp.Lexicographic.{slice_cmp}
 use Rattle.std.specs.Ordering.{int_cmp, ordering_then}
 use Rattle.std.specs.declared.cmp.Ordering.{Ordering}
 use Rattle.std.specs.declared.cmp.Ordering.TheVariants.{Less, Equal, Greater}
+use Rattle.nav_eph.specs.declared.items.NavItem.{NavItem}
 use Rattle.nav_rows.specs.Order.{KindRow, by_rank, front_of, rank_of, settled}
+use Rattle.system_files.specs.NavOrder.{by_numbers, nav_front, nav_numbers}
 
 then_then : (a b c : Ordering) → ordering_then (ordering_then a b) c ≡ ordering_then a (ordering_then b c)
 then_then Less b c = refl
@@ -29,3 +31,10 @@ pub fronts : (x y : KindRow) (p q : List ℤ) (o : Ordering) → p ≡ front_of 
     → by_rank x y ≡ ordering_then o (slice_cmp int_cmp (settled x.kind x.row.columns) (settled y.kind y.row.columns))
 fronts x y p q o e f g =
     by_front x y ∙ ap (λ r. ordering_then r (slice_cmp int_cmp (settled x.kind x.row.columns) (settled y.kind y.row.columns))) ((λ i. slice_cmp int_cmp (sym e i) (sym f i)) ∙ sym g)
+
+-- the order of items whose fronts are compared first
+pub nav_fronts : (x y : NavItem) (p q : List ℤ) (o : Ordering) → p ≡ nav_front x → q ≡ nav_front y → o ≡ slice_cmp int_cmp p q
+    → by_numbers x y ≡ ordering_then o (slice_cmp int_cmp (nav_numbers x) (nav_numbers y))
+nav_fronts x y p q o e f g =
+    behind (nav_front x) (nav_front y) (nav_numbers x) (nav_numbers y) refl
+    ∙ ap (λ r. ordering_then r (slice_cmp int_cmp (nav_numbers x) (nav_numbers y))) ((λ i. slice_cmp int_cmp (sym e i) (sym f i)) ∙ sym g)

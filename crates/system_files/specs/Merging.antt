@@ -1,17 +1,13 @@
 -- The merged list of the items of all systems: of duplicates the one sent first, in order of time; and what a run that
 -- merges files writes and counts.
-use Rattle.std.specs.Prelude.{◌≡◌, ℕ, true, Bool, List, [], ◌∷◌, ◌++◌, codes, cond, length, map, ℤ, pos, Option, Ok, Err}
+use Rattle.std.specs.Prelude.{◌≡◌, ℕ, true, Bool, List, [], ◌∷◌, ◌++◌, codes, cond, length, map, Ok, Err}
 use Rattle.std.proofs.Common.{inl, inr}
 use Rattle.std.specs.Cmp.Lexicographic.{slice_cmp}
 use Rattle.std.specs.List.{Contains, flat_map}
 use Rattle.std.specs.Ordering.{int_cmp, is_lt}
 use Rattle.nav_eph.specs.declared.items.NavItem.{NavItem}
-use Rattle.nav_eph.specs.declared.items.NavItem.TheVariants.{Gps, Gal, Ion}
-use Rattle.nav_eph.specs.declared.ion.IonContent.{IonContent}
-use Rattle.nav_eph.specs.declared.ion.IonContent.TheVariants.{Gps as OfGps, Gal as OfGal}
 use Rattle.nav_files.specs.Files.{file_meaning}
-use Rattle.nav_lists.specs.Merging.{merged_of, moment_of}
-use Rattle.nav_rows.specs.Order.{KindRow, by_place, by_rank, moment_by}
+use Rattle.nav_rows.specs.Order.{KindRow, by_place, by_rank, front_of}
 use Rattle.one_run.specs.Reports.{count_line}
 use Rattle.one_run.specs.Runs.{Meaning}
 use Rattle.outlets.specs.Targets.{prefix_text}
@@ -24,6 +20,7 @@ use Rattle.system_streams.specs.Readings.{Item}
 use Rattle.system_streams.specs.Streams.{text_of}
 use Rattle.system_streams.specs.declared.kinds.Kinds.{Kinds}
 use Rattle.system_files.specs.Files.{counts_of, form_of, told_by}
+use Rattle.system_files.specs.NavOrder.{by_numbers, by_sent, nav_front}
 use Rattle.system_files.specs.Readings.{LineRead, Reading}
 use Rattle.system_files.specs.declared.merge_counts.SystemMergeCounts.{SystemMergeCounts}
 use Rattle.system_files.specs.declared.version.Version.{Version}
@@ -54,23 +51,9 @@ rows_of (inr x ∷ is) = x ∷ rows_of is
 
 -- ---- their order
 
--- what comes first in the order of items: GPS time (of GLONASS and BeiDou the time in their own scale); the system, and behind all
--- ephemerides the ionospheres; the satellite; the message type
-abbrev pub ion_front : IonContent → ℤ
-ion_front (OfGps x) = pos 7
-ion_front (OfGal x) = pos 8
-
-abbrev pub nav_front : NavItem → List ℤ
-nav_front (Gps e) = pos (moment_of (Gps e)) ∷ pos 0 ∷ pos e.sat.number ∷ pos 0 ∷ []
-nav_front (Gal e) = pos (moment_of (Gal e)) ∷ pos 1 ∷ pos e.sat.number ∷ pos 1 ∷ []
-nav_front (Ion e) = pos e.moment ∷ ion_front e.content ∷ pos e.sat.number ∷ pos 0 ∷ []
-
-abbrev pub row_front : KindRow → List ℤ
-row_front x = pos (moment_by x.kind.clock x.row) ∷ pos x.kind.system ∷ pos x.row.number ∷ pos x.kind.message ∷ []
-
 -- the row comes before the item
 abbrev pub is_before : KindRow → NavItem → Bool
-is_before x item = is_lt (slice_cmp int_cmp (row_front x) (nav_front item))
+is_before x item = is_lt (slice_cmp int_cmp (front_of x.kind x.row) (nav_front item))
 
 -- an item and others, with the rows that come before it in front
 abbrev pub behind_rows : NavItem → (List KindRow → List Item) → List KindRow → List Item
@@ -84,7 +67,7 @@ interleaved (item ∷ is) xs = behind_rows item (interleaved is) xs
 
 -- the merged list of the items
 abbrev pub merged_items : List Item → List Item
-merged_items items = interleaved (merged_of (navs_of items)) (ranked_of by_rank by_place (rows_of items))
+merged_items items = interleaved (ranked_of by_numbers by_sent (navs_of items)) (ranked_of by_rank by_place (rows_of items))
 
 -- the merged list of the items of files of a version, concatenated
 abbrev pub file_merged : Kinds → Version → List ℕ → List Item

@@ -22,6 +22,8 @@ mod laws;
 mod merge;
 mod merge_counts;
 mod merge_laws;
+mod nav_key;
+mod nav_numbers;
 mod next;
 mod read;
 mod row_key;

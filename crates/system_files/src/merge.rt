@@ -6,7 +6,6 @@ ghost use Rattle.std.specs.List.{flat_map};
 ghost use Rattle.std.specs.Io.KnownBytes.{Appends};
 ghost use Rattle.nav_io.specs.Prefix.{AppendsPrefix};
 ghost use Rattle.nav_eph.specs.declared.items.NavItem.{NavItem};
-ghost use Rattle.nav_lists.specs.Merging.{merged_of};
 ghost use Rattle.nav_rows.specs.Kinds.{IsKind};
 ghost use Rattle.nav_rows.specs.Order.{KindRow, by_place, by_rank};
 ghost use Rattle.nav_rows.specs.Rows.{value};
@@ -21,12 +20,14 @@ ghost use Rattle.system_files.specs.Files.{counts_of, is_unwritten, told_by};
 ghost use Rattle.system_files.specs.Merging.{item_of, items_of, merge_counts, merge_report};
 ghost use Rattle.system_files.specs.Merging.{merge_text, navs_of, outlet_of, rows_of};
 ghost use Rattle.system_files.specs.Merging.{system_merge_meaning};
+ghost use Rattle.system_files.specs.NavOrder.{by_numbers, by_sent};
 ghost use Rattle.system_files.specs.Mirrors.{AreCounted, HasFields, view_given};
 ghost use Rattle.system_files.specs.Readings.{reading_report};
 
 use crate::counts::{SystemCounts, count_read};
 use crate::form::SystemForm;
 use crate::merge_counts::{SystemMergeCounts, merge_counts_text};
+use crate::nav_key::NavKey;
 use crate::next::write_merged;
 use crate::read::{Given, RecordRead};
 use crate::row_key::RowKey;
@@ -35,7 +36,6 @@ use crate::version::Version;
 use nav_eph::NavItem;
 use nav_files::{Taker, reason_word, run_file};
 use nav_io::{Failed, Sink, Source};
-use nav_lists::{Merge, merging};
 use nav_rows::{Kind, Row};
 use one_run::{BridgeFault, Text, report_text};
 use outlets::Target;
@@ -48,7 +48,7 @@ use system_streams::Kinds;
 #[derive(Drop)]
 struct SystemsMerged {
     alloc: Global,
-    navs: Merge,
+    navs: RankedList<NavKey>,
     rows: RankedList<RowKey>,
     counts: SystemCounts,
 }
@@ -95,13 +95,20 @@ fn report_given<U: Sink>(line: u32, given: &Given, report: &mut U) -> Result<(),
 }
 
 // Adds an item of GPS or Galileo.
-fn merge_nav(item: &NavItem, navs: &mut Merge) -> Result<(), BridgeFault>
-    ensures kept { OnOk result ((items : List NavItem) → navs.old ≡ merged_of items
-        → navs.new ≡ merged_of (items ++ item.now ∷ [])) }
+fn merge_nav(
+    alloc: Global,
+    item: &NavItem,
+    navs: &mut RankedList<NavKey>,
+) -> Result<(), BridgeFault>
+    ensures kept { OnOk result ((items : List NavItem) → navs.old ≡ ranked_of by_numbers by_sent items
+        → navs.new ≡ ranked_of by_numbers by_sent (items ++ item.now ∷ [])) }
     ensures fault { IfErr result (λ fault. fault ≡ BridgeFault.NoMemory) }
 {
-    merging();
-    match navs.add(item) {
+    ranking::<NavKey>();
+    let Ok(key) = NavKey::new(alloc, item) else {
+        return Err(BridgeFault::NoMemory);
+    };
+    match navs.add(key) {
         Ok(()) => Ok(()),
         Err(AllocError) => Err(BridgeFault::NoMemory),
     }
@@ -135,12 +142,12 @@ fn merge_row(
 fn merge_given(
     alloc: Global,
     given: &Given,
-    navs: &mut Merge,
+    navs: &mut RankedList<NavKey>,
     rows: &mut RankedList<RowKey>,
 ) -> Result<(), BridgeFault>
     requires { HasFields given.now }
-    ensures navs { OnOk result ((items : List Item) → navs.old ≡ merged_of (navs_of items)
-        → navs.new ≡ merged_of (navs_of (items ++ item_of (view_given given.now)))) }
+    ensures navs { OnOk result ((items : List Item) → navs.old ≡ ranked_of by_numbers by_sent (navs_of items)
+        → navs.new ≡ ranked_of by_numbers by_sent (navs_of (items ++ item_of (view_given given.now)))) }
     ensures rows { OnOk result ((items : List Item)
         → rows.old ≡ ranked_of by_rank by_place (rows_of items)
         → rows.new ≡ ranked_of by_rank by_place
@@ -148,7 +155,7 @@ fn merge_given(
     ensures fault { IfErr result (λ fault. fault ≡ BridgeFault.NoMemory) }
 {
     match given {
-        Given::Nav(item) => merge_nav(item, navs),
+        Given::Nav(item) => merge_nav(alloc, item, navs),
         Given::Further(kind, row) => merge_row(alloc, kind, row, rows),
         Given::Refused(_) => Ok(()),
         Given::Passed => Ok(()),
@@ -199,7 +206,7 @@ impl Taker<RecordRead> for SystemsMerging {
     ghost memory = { true };
 
     ghost holds = { λ m s reads. (s.counts ≡ counts_of (outlet_of m.to m.words) reads)
-        × AreCounted s.counts × (s.navs ≡ merged_of (navs_of (items_of reads)))
+        × AreCounted s.counts × (s.navs ≡ ranked_of by_numbers by_sent (navs_of (items_of reads)))
         × (s.rows ≡ ranked_of by_rank by_place (rows_of (items_of reads))) };
 
     fn begins(&self) {}
@@ -272,7 +279,7 @@ pub fn run_system_merge<S: Source, T: Sink, U: Sink>(
 {
     let mut state = SystemsMerged {
         alloc,
-        navs: Merge::new(alloc),
+        navs: RankedList::new(alloc),
         rows: RankedList::new(alloc),
         counts: SystemCounts::new(),
     };

@@ -6,10 +6,9 @@ ghost use Rattle.nav_io.specs.Writes.{Writes};
 ghost use Rattle.system_files.specs.MergeMirrors.{IsNext};
 ghost use Rattle.system_files.specs.Merging.{interleaved, item_text};
 
+use crate::nav_key::NavKey;
 use crate::row_key::RowKey;
-use nav_eph::NavItem;
 use nav_io::{Failed, Sink};
-use nav_lists::Merge;
 use outlets::Target;
 use ranked_list::RankedList;
 
@@ -17,13 +16,13 @@ use ranked_list::RankedList;
 #[derive(Clone, Copy)]
 pub(crate) enum Next<'a> {
     // An item of GPS or Galileo.
-    Nav(&'a NavItem),
+    Nav(&'a NavKey),
     // An ephemeris of a further kind.
     Further(&'a RowKey),
 }
 
 // The first of an item and a row.
-fn next_of<'a>(item: Option<&'a NavItem>, row: Option<&'a RowKey>) -> Option<Next<'a>>
+fn next_of<'a>(item: Option<&'a NavKey>, row: Option<&'a RowKey>) -> Option<Next<'a>>
     ensures { IsNext item.entry row.entry result }
 {
     match item {
@@ -39,7 +38,7 @@ fn next_of<'a>(item: Option<&'a NavItem>, row: Option<&'a RowKey>) -> Option<Nex
 }
 
 // The same, where both are left.
-fn first_of<'a>(nav: &'a NavItem, key: &'a RowKey) -> Next<'a>
+fn first_of<'a>(nav: &'a NavKey, key: &'a RowKey) -> Next<'a>
     ensures { IsNext (Some nav.entry) (Some key.entry) (Some result) }
 {
     if key.is_before(nav) {
@@ -52,21 +51,21 @@ fn first_of<'a>(nav: &'a NavItem, key: &'a RowKey) -> Next<'a>
 /// Writes the items of both lists, in order.
 pub(crate) fn write_merged<T: Sink>(
     to: &Target,
-    navs: &Merge,
+    navs: &RankedList<NavKey>,
     rows: &RankedList<RowKey>,
     out: &mut T,
 ) -> Result<(), Failed>
     ensures { Writes (T.written out.old) (T.written out.new) (T.faults out.old) (T.faults out.new)
         result (flat_map (item_text to.now) (interleaved navs.now rows.now)) }
 {
-    let mut navs_left = navs.items();
+    let mut navs_left = navs.values();
     let mut rows_left = rows.values();
     let mut nav = navs_left.next();
     let mut row = rows_left.next();
     'items: while let Some(next) = next_of(nav, row) {
         match next {
             Next::Nav(item) => {
-                to.put(0, item, out)?;
+                to.put(0, item.item(), out)?;
                 nav = navs_left.next();
             }
             Next::Further(key) => {

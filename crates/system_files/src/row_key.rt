@@ -15,10 +15,10 @@ ghost use Rattle.nav_rows.specs.Rows.{value};
 ghost use Rattle.rinex_write.specs.Columns.{AreFields};
 ghost use Rattle.system_streams.specs.Streams.{row_text};
 ghost use Rattle.system_files.specs.KeptRows.{IsKept, kept_row};
-ghost use Rattle.system_files.specs.Merging.{is_before, nav_front};
+ghost use Rattle.system_files.specs.Merging.{is_before};
 
+use crate::nav_key::NavKey;
 use arrayvec::ArrayVec;
-use nav_eph::{IonContent, NavItem};
 use nav_io::{Failed, Sink};
 use nav_rows::{Kind, Row, compare_rows, rank_of};
 use outlets::Target;
@@ -115,20 +115,6 @@ fn compare(a: &RowKey, b: &RowKey) -> Ordering
     }
 }
 
-// What comes first in the order of items.
-fn nav_front(item: &NavItem) -> [i64; 4]
-    ensures { result ≡ nav_front item.now }
-{
-    match item {
-        NavItem::Gps(e) => [e.toe().value() as i64, 0, e.sat.number() as i64, 0],
-        NavItem::Gal(e) => [e.toe().value() as i64, 1, e.sat.number() as i64, 1],
-        NavItem::Ion(e) => match &e.content {
-            IonContent::Gps(_) => [e.moment.value() as i64, 7, e.sat.number() as i64, 0],
-            IonContent::Gal(_) => [e.moment.value() as i64, 8, e.sat.number() as i64, 0],
-        },
-    }
-}
-
 impl RowKey {
     // A copy of a row.
     pub(crate) fn new(alloc: Global, kind: &Kind, row: &Row) -> Result<RowKey, AllocError>
@@ -147,10 +133,10 @@ impl RowKey {
     }
 
     // It comes before an item of GPS or Galileo.
-    pub(crate) fn is_before(&self, item: &NavItem) -> bool
-        ensures { result ≡ is_before self.now item.now }
+    pub(crate) fn is_before(&self, other: &NavKey) -> bool
+        ensures { result ≡ is_before self.now other.now }
     {
-        self.front[..4].cmp(&nav_front(item)[..]).is_lt()
+        self.front.cmp(other.front()).is_lt()
     }
 
     // Writes its record.

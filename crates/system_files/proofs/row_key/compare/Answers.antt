@@ -1,5 +1,5 @@
 use Rattle.std.proofs.Common.{ap, sym, ◌∙◌}
-use Rattle.std.specs.declared.cmp.Ordering.TheVariants.{Less, Equal, Greater}
+use Rattle.std.specs.declared.cmp.Ordering.TheVariants.{Less, Greater}
 use Rattle.nav_rows.specs.Order.{by_rank, front_of}
 use Rattle.system_files.specs.KeptRows.{kept_row}
 use Rattle.system_files.proofs.RowOrder.{fronts}

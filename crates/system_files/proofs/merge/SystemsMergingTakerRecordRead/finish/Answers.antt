@@ -1,7 +1,6 @@
-use Rattle.std.proofs.Common.{ap, ◌∙◌}
 use Rattle.std.specs.List.{flat_map}
 use Rattle.nav_files.proofs.Surface.{finish_as}
-use Rattle.system_files.specs.Merging.{interleaved, item_text, outlet_of}
+use Rattle.system_files.specs.Merging.{interleaved, item_text}
 use Rattle.system_files.proofs.merge.SystemsMergingTakerRecordRead.finish.Goals as goal
 
 pub returns-clause-output : goal.returns-clause-output

@@ -2,7 +2,6 @@ use Rattle.std.proofs.Common.{[], ◌∷◌, ◌++◌, List, ℕ, ap, subst, sym
 use Rattle.std.proofs.lemmas.Result.{err_from_is_err_and}
 use Rattle.std.specs.Io.KnownBytes.{Appends}
 use Rattle.nav_io.specs.Prefix.{AppendsPrefix}
-use Rattle.nav_lists.specs.Merging.{merged_of}
 use Rattle.nav_rows.specs.Order.{by_place, by_rank}
 use Rattle.ranked_list.specs.Ranks.{ranked_of}
 use Rattle.one_run.proofs.Surface.{between_whole}
@@ -11,6 +10,7 @@ use Rattle.system_streams.specs.Readings.{Item}
 use Rattle.system_files.specs.Files.{is_unwritten, read_report}
 use Rattle.system_files.specs.Merging.{item_of, items_of, navs_of, outlet_of, rows_of}
 use Rattle.system_files.specs.Mirrors.{counted}
+use Rattle.system_files.specs.NavOrder.{by_numbers, by_sent}
 use Rattle.system_files.proofs.Merges.{items_more}
 use Rattle.system_files.proofs.Records.{counts_more, same_report}
 use Rattle.system_files.proofs.Wrote.{between_all}
@@ -56,8 +56,8 @@ returns-clause-held g c =
           ∙ counts_more (outlet_of s.to s.words) reads c.args.read.now written (c.is_written.ensures s.words ∙ ap (is_unwritten (outlet_of s.to s.words)) c.given-given.ensures.same),
       c.count_read.ensures.counted,
       c.in_ok-merge_given.ensures.navs (items_of reads) held.2
-          ∙ ap (λ x. merged_of (navs_of (items_of reads ++ item_of x))) c.given-given.ensures.same
-          ∙ ap (λ (l : List Item). merged_of (navs_of l)) (sym (items_more reads c.args.read.now)),
+          ∙ ap (λ x. ranked_of by_numbers by_sent (navs_of (items_of reads ++ item_of x))) c.given-given.ensures.same
+          ∙ ap (λ (l : List Item). ranked_of by_numbers by_sent (navs_of l)) (sym (items_more reads c.args.read.now)),
       c.in_ok-merge_given.ensures.rows (items_of reads) held.3
           ∙ ap (λ x. ranked_of by_rank by_place (rows_of (items_of reads ++ item_of x))) c.given-given.ensures.same
           ∙ ap (λ (l : List Item). ranked_of by_rank by_place (rows_of l)) (sym (items_more reads c.args.read.now)),
