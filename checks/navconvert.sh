@@ -344,8 +344,8 @@ for it in "G24nN: GPS NAV DATA" "R24gGLONASS NAV DATA" "S24hH: GEO NAV MSG DATA"
   run "RINEX 2 of $letter to RINEX 3" 0 "; nothing rejected, nothing skipped" "${date[@]}" -t rinex3 --overwrite -o older.rnx "$older"
   is_same "RINEX 2 of $letter to RINEX 3" older.rnx newer.rnx
   for to in rinex rtcm list count merged; do
-    run "RINEX 3 of $letter to $to" 0 - "${date[@]}" -t $to --overwrite -o newer.out newer.rnx
-    run "RINEX 2 of $letter to $to" 0 - "${date[@]}" -t $to -f rinex --overwrite -o older.out "$older"
+    run "RINEX 3 of $letter to $to" 0 - -q "${date[@]}" -t $to --overwrite -o newer.out newer.rnx
+    run "RINEX 2 of $letter to $to" 0 - -q "${date[@]}" -t $to -f rinex --overwrite -o older.out "$older"
     is_same "RINEX 2 of $letter to $to" <(sed 's/^[0-9]* EPH/EPH/' older.out) <(sed 's/^[0-9]* EPH/EPH/' newer.out)
   done
 done
@@ -356,7 +356,7 @@ run "RINEX 2 with a fraction of a second" 1 "record" --check amiss.24n
 grep -q "^amiss.24n: line 3: number$" out || differs "RINEX 2 with a fraction of a second" "$(cat out)"
 run "the command for RINEX 2" 0 - -n "${date[@]}" -o shown2.rnx older.24n
 PATH=$PWD/path:$PATH sh ./out 2> said || differs "the command for RINEX 2" "it fails"
-run "RINEX 2" 0 - "${date[@]}" -o older.rnx --overwrite older.24n
+run "RINEX 2" 0 - -q "${date[@]}" -o older.rnx --overwrite older.24n
 is_same "the command for RINEX 2" shown2.rnx older.rnx
 
 # ---- what is skipped

@@ -8,8 +8,9 @@
 #
 # It installs the package on this machine, updates and removes it, so it needs root and a machine without the package. systemd is
 # simulated by a mount namespace whose /run has its marks, with a systemctl that records its arguments. Debian packages that it
-# uses: lintian, man-db, mandoc, systemd (for systemd-analyze), util-linux (taskset, unshare). Exit status: 0 all correct; 1
-# something differs; 2 it cannot be tried.
+# uses: lintian, man-db, mandoc, systemd (for systemd-analyze), util-linux (taskset, unshare).
+#
+# Exit status: 0 all correct, or skipped with a reason; 1 something differs; 2 the arguments are wrong, or a program is missing.
 set -uo pipefail
 . "$(dirname "$(readlink -f "$0")")/lib.sh"
 program=() archive=''
@@ -22,10 +23,10 @@ given=()
 for name in "${names[@]}"; do given+=(--program "${chosen[$name]}"); done
 archive=$(path_of "${archive:-$top/crates/navbridge_c/out/libnavbridge_c.a}")
 cd "$top" || exit 2
-[ "$(id -u)" = 0 ] || fail "only root may install a package"
-! dpkg -s navbridge > /dev/null 2>&1 || fail "a package navbridge is there already"
+[ "$(id -u)" = 0 ] || skip "only root may install a package"
+! dpkg -s navbridge > /dev/null 2>&1 || skip "a package navbridge is installed already"
 for it in dpkg lintian man mandoc systemd-analyze taskset unshare deb-systemd-invoke; do
-  command -v "$it" > /dev/null || fail "$it is not there"
+  command -v "$it" > /dev/null || skip "$it is not installed"
 done
 work=$(mktemp -d)
 installed=

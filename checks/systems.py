@@ -5,7 +5,7 @@
 
   --program FILE  navconvert (NAVCONVERT, or crates/navconvert/out/navconvert)
   --records N     records of each kind in each file (20)
-  --files N       files that are merged (0)
+  --files N       files that are merged too (0: none, since navconvert merges GPS and Galileo alone)
   --seed N        of the random numbers (1)
   --convbin FILE  RTKLIB's convbin (the one of the path)
 
@@ -46,7 +46,7 @@ KINDS = {
     "G LNAV": KEPLER + "s14 pi^-43, u2z, week, u1z\nura, u6, s8 ^-31, u10\nsent, fit",
     "E INAV": GALILEO + "s14 pi^-43, =517, week\nsisa, &455, s10 ^-32, s10 ^-32\nsent",
     "E FNAV": GALILEO + "s14 pi^-43, =258, week\nsisa, u9, s10 ^-32, =0\nsent",
-    "R FDMA": """-2097151..2097151 -1^-30, -1023..1023 ^-40, 0..604799
+    "R FDMA": """-2097151..2097151 -1^-30, -1023..1023 ^-40, frame
 -67108863..67108863 ^-11, -8388607..8388607 ^-20, -15..15 ^-30, u3
 -67108863..67108863 ^-11, -8388607..8388607 ^-20, -15..15 ^-30, -7..13
 -67108863..67108863 ^-11, -8388607..8388607 ^-20, -15..15 ^-30, u5
@@ -74,6 +74,7 @@ s30 8e-5, s17 625e-9, s10 125e-10, ura
 s25 4e-4, s18 4e-6, s10 625e-10, u8""",
 }
 KINDS["C D2"] = KINDS["C D1"]
+OLDER = {"G": "N: GPS NAV DATA", "R": "G: GLONASS NAV DATA", "S": "H: GEO NAV MSG DATA"}
 SATELLITES = {"G": range(1, 33), "E": range(1, 37), "R": range(1, 28), "C": range(1, 64), "J": range(1, 11), "I": range(1, 15), "S": range(20, 59)}
 STEPS = {"R": 900, "E": 60, "C": 8}
 GEOSTATIONARY = (*range(1, 6), *range(59, 64))
@@ -150,7 +151,9 @@ class Record:
             row = []
             for column in line.split(", "):
                 rule, _, unit = column.partition(" ")
-                row.append(self.column(rule, unit, known, {"toe": toe, "week": week - weeks}))
+                # within half a day of the epoch, since RINEX 2 has the second of the day
+                frame = (epoch + draw.randrange(-43199, 43201)) % WEEK
+                row.append(self.column(rule, unit, known, {"toe": toe, "week": week - weeks, "frame": frame}))
             self.lines.append(row)
         self.known = known
         # the moment by which files are ordered, in the scale of the kind
@@ -245,9 +248,23 @@ class Record:
         return "\n".join(out) + "\n"
 
 
-def header(version):
+    def older(self):
+        """The record, and its text in RINEX 2, which has no fifth line of GLONASS, and of its frame the second of the day."""
+        lines = [[it[0] for it in row] for row in self.lines]
+        if self.system == "R":
+            self.lines[4] = [(UNKNOWN, UNKNOWN)] * 4
+            second = Fraction(lines[0][2].replace("D", "E").strip()) % 86400
+            lines = [[*lines[0][:2], text(second)], *lines[1:4]]
+        at = self.epoch
+        out = [f"{self.satellite:2} {at.year % 100:02} {at.month:2} {at.day:2} {at.hour:2} {at.minute:2}{at.second:5.1f}"]
+        out += ["   "] * (len(lines) - 1)
+        numbers = ["".join(spelled(self.draw, it) if it.strip() else it for it in row) for row in lines]
+        return "".join(f"{a}{b}".rstrip() + "\n" for a, b in zip(out, numbers))
+
+
+def header(version, kind="N: GNSS NAV DATA    M: MIXED"):
     """The shortest header."""
-    return (f"{version:>9}           N: GNSS NAV DATA    M: MIXED            RINEX VERSION / TYPE\n"
+    return (f"{version:>9}           {kind:40}RINEX VERSION / TYPE\n"
             f"{'':60}END OF HEADER\n")
 
 
@@ -391,6 +408,13 @@ def main():
                 check.same(f"RINEX {named} to 3", body(check.converted(named, source, "rinex3")), three)
             if options.convbin:
                 beside(check, options.convbin, header("3.05") + three)
+        for version in ("2", "2.10", "2.11", "2.12"):
+            for system, kind in OLDER.items():
+                records = [Record(draw, next(it for it in KINDS if it[0] == system)) for _ in range(options.records)]
+                data = header(version, kind) + "".join(it.older() for it in records)
+                for target, to in (("rinex", "4.01"), ("rinex3", "3.05")):
+                    wanted = "".join(it.of(to, 1) for it in records)
+                    check.same(f"RINEX {version} of {system} to {to}", body(check.converted(f"RINEX {version}", data, target)), wanted)
         if options.files:
             merge(check, draw, options.records)
         print(f"systems: {check.tried} tried, {check.wrong} differ")

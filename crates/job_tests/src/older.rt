@@ -152,7 +152,7 @@ fn source_of(alloc: Global, lines: &[Line]) -> Result<Rinex2Source<MemSource>, A
 fn is_next<S: Source>(source: &mut S, line: &[u8; 80]) -> bool {
     let mut piece = [0; 100];
     match source.read(&mut piece) {
-        Ok(count) => count == 81 && piece[..80] == *line && piece[80] == b'\n',
+        Ok(count) => count == 81 && &piece[..80] == line.as_slice() && piece[80] == b'\n',
         Err(_) => false,
     }
 }
