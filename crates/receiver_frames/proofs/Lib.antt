@@ -19,3 +19,4 @@ mod SbfEntryLemmas
 mod SbfLookupLemmas
 mod SbfCrcSteps
 mod SbfSizes
+mod UbxBlockSums

@@ -35,6 +35,7 @@ mod sbf_register;
 mod sbf_states;
 mod search;
 mod ubx;
+mod ubx_blocks;
 mod ubx_laws;
 mod ubx_sums;
 

@@ -7,6 +7,7 @@ ghost use Rattle.arrayvec.specs.ArrayVec.{array_vec_len};
 ghost use Rattle.receiver_frames.specs.UbxForm.{total, running, has_right_sums as are_right};
 ghost use Rattle.receiver_frames.specs.UbxSums.{AreSums};
 
+use crate::ubx_blocks::sums_by_16;
 use arrayvec::ArrayVec;
 
 // CK_A and CK_B of the bytes, before reduction modulo 256.
@@ -15,10 +16,9 @@ pub fn sums_of(bytes: &[u8]) -> (u64, u64)
     ensures sum { result.0 ≡ total bytes.now }
     ensures running { result.1 ≡ running 0 bytes.now }
 {
-    let mut total: u64 = 0;
-    let mut run: u64 = 0;
-    for byte in bytes {
-        total += u64::from(*byte);
+    let (mut total, mut run) = sums_by_16(bytes);
+    for place in 16 * (bytes.len() / 16)..bytes.len() {
+        total += u64::from(bytes[place]);
         run += total;
     }
     (total, run)
