@@ -11,6 +11,7 @@
 //! ```
 #![tactic(auto)]
 
+mod far_tables;
 mod laws;
 mod message;
 mod mover;
