@@ -183,7 +183,7 @@ def conversions(_):
     # navconvert converts streams and files of all systems, also to these
     of["stream"] |= {"list", "count"}
     of["rinex"] |= {"count"}
-    of["rinex3"] |= {"merged", "cover", "count"}
+    of["rinex3"] |= {"count"}
     of["rinex2"] = of["rinex3"]
     # a log is read as its capture
     rows = [("u-blox or Septentrio log", of["capture"] | {"capture"})] + [(name, of[it]) for name, it in names]

@@ -181,7 +181,7 @@ silent "completion of navlog's option" offered "--from" navlog ""
 silent "completion of navlog's forms" offered "sbf ubx" navlog --from ""
 silent "completion of navlog's forms behind =" offered "sbf ubx" navlog --from =
 silent "completion of a form that is begun" offered "ubx" navlog --from = u
-silent "completion of navconvert's forms" offered "auto capture stream rinex rinex3 ubx sbf" navconvert --from ""
+silent "completion of navconvert's forms" offered "auto capture stream rinex rinex3 rinex2 ubx sbf" navconvert --from ""
 silent "completion of the station's jobs" offered "files record run --help --version" navbridge-station ""
 silent "completion of the station's options" offered "--leap --letter" navbridge-station run --source x --le
 
