@@ -64,7 +64,8 @@ class Station:
         draw, lines = random.Random(7), header("navbridge", "4.01")
         gps = written + LEAP - EPOCH
         for satellite, step in (("G05", 7200), ("G12", 7200), ("E11", 600), ("G24", 7200)):
-            toe = gps // step * step - (21600 if satellite == "G24" else 0)
+            # the nearest, so that none becomes too old meanwhile
+            toe = (gps + step // 2) // step * step - (21600 if satellite == "G24" else 0)
             sent = gps - DELAY - toe // WEEK * WEEK
             lines += record(changed(ephemeris(draw, satellite, toe), 7, 0, float(sent)), "4.01")
         path = os.path.join(self.folder, "live", f"{STATION}_S_{stamp(self.now, '%Y%j')}0000_01D_MN.rnx")
