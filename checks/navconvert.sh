@@ -76,7 +76,7 @@ half=$(grep -n "RINEX VERSION / TYPE" "$examples/expected/twice.rnx" | sed -n '2
 head -n $((half - 1)) "$examples/expected/twice.rnx" > one.rnx
 tail -n "+$half" "$examples/expected/twice.rnx" > two.rnx
 run "several files to one" 0 "m.rnx" "${date[@]}" -t merged -o m.rnx one.rnx two.rnx
-is_same "several files to one" m.rnx "$examples/merged.rnx"
+is_same "several files to one" <(bridged_part m.rnx) "$examples/merged.rnx"
 run "the cover of several files" 0 "m.cover" -t cover -o m.cover one.rnx two.rnx
 is_same "the cover of several files" m.cover "$examples/merged.cover"
 run "several files to one, of which one is none" 2 "log.ubx: it is" -t merged -o n.rnx one.rnx log.ubx
@@ -134,7 +134,7 @@ is_same "the command for the frames of a stream" shown.frames "$examples/expecte
 cp one.rnx ./-one.rnx
 run "the command for a name with a dash in front" 0 - -n "${date[@]}" -t merged -o dash.rnx -- -one.rnx two.rnx
 PATH=$PWD/path:$PATH sh ./out 2> said || differs "the command for a name with a dash in front" "it fails"
-is_same "the command for a name with a dash in front" dash.rnx "$examples/merged.rnx"
+is_same "the command for a name with a dash in front" <(bridged_part dash.rnx) "$examples/merged.rnx"
 run "the command for a long name" 0 - -n "${date[@]}" --long-name STAT00CCC -o in --report d.report station.navcap
 grep -qF "> 'in/STAT00CCC_R_20233650200_01H_MN.rnx'" out || differs "the command for a long name" "$(cat out)"
 is_gone "the command for a long name" d.report
@@ -190,8 +190,8 @@ for what, found, wanted in [
     ("man page, --from", set(re.search(r"Fl f , -from.*?\n\.Cm ([^\n]*) ,\n", man, re.S)[1].split(" , ")), set(of)),
     ("man page, --to", set(re.findall(r"^\.It Cm (\w+)$", re.search(r"Fl t , -to.*?\n\.El", man, re.S)[0], re.M)), made),
     *((f"README, {label}", {to for to, mark in zip(columns, re.search(rf"^\|{label}\|(.*)\|$", readme, re.M)[1].split("|")) if mark},
-       # navbridge merges RINEX 4 alone
-       of[name] - ({"merged", "cover"} if name in ("rinex3", "rinex2") else set())) for label, names in rows.items() for name in names),
+       # navbridge merges RINEX 4 alone, and to it
+       of[name] - {"merged3"} - ({"merged", "cover"} if name in ("rinex3", "rinex2") else set())) for label, names in rows.items() for name in names),
 ]:
     if found != wanted:
         print(f"{what}: {' '.join(sorted(found))}; --list-forms: {' '.join(sorted(wanted))}")
@@ -402,10 +402,10 @@ run "other systems in a log" 0 "skipped: 4 GLONASS, 1 BeiDou, 1 QZSS, 1 NavIC, 1
 
 # ---- RINEX 3 that is merged, and joined files
 run "RINEX 3 to RINEX 4" 0 "four.rnx: 4 ephemerides" "${date[@]}" -o four.rnx version3.nav
-run "what merging that gives" 0 "four.merged: 2 ephemerides; 1 record rejected, 2 repeated;" "${date[@]}" -t merged -o four.merged one.rnx four.rnx
-run "RINEX 3 among files that are merged" 0 "three.merged: 2 ephemerides; 1 record rejected, 2 repeated; skipped: 2 GLONASS, 1 BeiDou, 2 Galileo F/NAV records" "${date[@]}" -t merged -o three.merged one.rnx version3.nav
+run "what merging that gives" 0 "four.merged: 4 ephemerides; 3 records rejected, 3 repeated" "${date[@]}" -t merged -o four.merged one.rnx four.rnx
+run "RINEX 3 among files that are merged" 0 "three.merged: 4 ephemerides; 3 records rejected, 3 repeated" "${date[@]}" -t merged -o three.merged one.rnx version3.nav
 is_same "RINEX 3 among files that are merged" three.merged four.merged
-run "RINEX 3 that is merged alone" 0 "alone.merged: 2 ephemerides; skipped: 1 GLONASS, 1 Galileo F/NAV records" "${date[@]}" -t merged -o alone.merged version3.nav
+run "RINEX 3 that is merged alone" 0 "alone.merged: 4 ephemerides; nothing rejected, nothing skipped" "${date[@]}" -t merged -o alone.merged version3.nav
 run "the cover of RINEX 3" 0 "three.cover" -t cover -o three.cover version3.nav
 run "the cover of that as RINEX 4" 0 "four.cover" -t cover -o four.cover four.rnx
 is_same "the cover of RINEX 3" three.cover four.cover

@@ -5,7 +5,7 @@
 
   --program FILE  navconvert (NAVCONVERT, or crates/navconvert/out/navconvert)
   --records N     records of each kind in each file (20)
-  --files N       files that are merged too (0: none, since navconvert merges GPS and Galileo alone)
+  --files N       files that are merged too (0: none)
   --seed N        of the random numbers (1)
   --convbin FILE  RTKLIB's convbin (the one of the path)
 

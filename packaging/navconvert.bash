@@ -12,7 +12,7 @@ _navconvert() {
   local words=
   case $before in
     -f | --from) words='auto capture stream rinex rinex3 rinex2 ubx sbf' ;;
-    -t | --to) words='rinex rinex3 rtcm list count frames merged cover capture' ;;
+    -t | --to) words='rinex rinex3 rtcm list count frames merged merged3 cover capture' ;;
     --week | --leap | --date | --long-name) return ;;
     *)
       case $current in

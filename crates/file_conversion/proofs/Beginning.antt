@@ -42,6 +42,7 @@ log_reads plan targets.List = capture_reads plan plan.week
 log_reads plan targets.Count = capture_reads plan plan.week
 log_reads plan targets.Frames = capture_reads plan plan.week
 log_reads plan targets.Merged = capture_reads plan plan.week
+log_reads plan targets.Merged3 = capture_reads plan plan.week
 log_reads plan targets.Cover = capture_reads plan plan.week
 log_reads plan targets.Capture = refl
 
@@ -53,6 +54,7 @@ stream_reads plan targets.List = refl
 stream_reads plan targets.Count = refl
 stream_reads plan targets.Frames = refl
 stream_reads plan targets.Merged = tt
+stream_reads plan targets.Merged3 = tt
 stream_reads plan targets.Cover = tt
 stream_reads plan targets.Capture = tt
 
@@ -64,21 +66,19 @@ file4_reads plan targets.List = refl
 file4_reads plan targets.Count = refl
 file4_reads plan targets.Frames = tt
 file4_reads plan targets.Merged = refl
+file4_reads plan targets.Merged3 = refl
 file4_reads plan targets.Cover = refl
 file4_reads plan targets.Capture = refl
 
-either_reads : (b : Bool) (one other : Option Task) → Reads one → Reads other → Reads (if b then one else other)
-either_reads true one other first second = first
-either_reads false one other first second = second
-
 file3_reads : (plan : Plan) (target : Target) → Reads (file3_task plan target)
-file3_reads plan targets.Rinex = either_reads plan.merges _ _ refl refl
+file3_reads plan targets.Rinex = refl
 file3_reads plan targets.Rinex3 = refl
 file3_reads plan targets.Rtcm = refl
 file3_reads plan targets.List = refl
 file3_reads plan targets.Count = refl
 file3_reads plan targets.Frames = tt
 file3_reads plan targets.Merged = tt
+file3_reads plan targets.Merged3 = tt
 file3_reads plan targets.Cover = tt
 file3_reads plan targets.Capture = refl
 

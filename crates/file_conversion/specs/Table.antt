@@ -1,11 +1,10 @@
 -- The conversions of files: what is done with a file of a format, for each target.
-use Rattle.std.specs.Prelude.{ℕ, Option, None, Some, option_map, unwrap_or, if◌then◌else◌}
+use Rattle.std.specs.Prelude.{ℕ, Option, None, Some, option_map, unwrap_or}
 use Rattle.rinex_write.specs.declared.words.HeaderWords.{HeaderWords}
 use Rattle.captures.specs.declared.target.CaptureTo.{CaptureTo}
 use Rattle.captures.specs.declared.target.CaptureTo.TheVariants as captures
 use Rattle.outlets.specs.declared.target.Target.{Target as Outlet}
 use Rattle.outlets.specs.declared.target.Target.TheVariants as outlets
-use Rattle.nav_files.specs.declared.target.RinexTo.TheVariants as files
 use Rattle.bridge_engine.specs.declared.job.Job.TheVariants as jobs
 use Rattle.system_files.specs.declared.version.Version.{Version}
 use Rattle.system_files.specs.declared.version.Version.TheVariants.{Four, Three}
@@ -13,9 +12,9 @@ use Rattle.whole_file.specs.declared.kinds.Kind.{Kind}
 use Rattle.whole_file.specs.declared.kinds.Kind.TheVariants as kinds
 use Rattle.file_conversion.specs.declared.table.Plan.{Plan}
 use Rattle.file_conversion.specs.declared.table.Task.{Task}
-use Rattle.file_conversion.specs.declared.table.Task.TheVariants.{Copied, Does, Systems, SystemFile}
+use Rattle.file_conversion.specs.declared.table.Task.TheVariants.{Copied, Does, Systems, SystemFile, SystemMerge}
 use Rattle.file_conversion.specs.declared.targets.Target.{Target}
-use Rattle.file_conversion.specs.declared.targets.Target.TheVariants.{Rinex, Rinex3, Rtcm, List as ToList, Count, Frames, Merged, Cover, Capture}
+use Rattle.file_conversion.specs.declared.targets.Target.TheVariants.{Rinex, Rinex3, Rtcm, List as ToList, Count, Frames, Merged, Merged3, Cover, Capture}
 
 -- the targets of a capture, and of the ephemerides of all systems, with this header if they have one
 abbrev pub capture_to : Target → HeaderWords → Option CaptureTo
@@ -58,17 +57,21 @@ abbrev pub system_task : Plan → Version → Target → Option Task
 system_task plan version target =
     option_map (λ to. SystemFile (record { kinds = plan.kinds; version = version; to = to })) (systems_to target plan.header)
 
+-- several, which are merged to one of this version
+abbrev pub merge_task : Plan → Version → Option Task
+merge_task plan to = Some (SystemMerge (record { kinds = plan.kinds; to = to; header = plan.header }))
+
 -- one of RINEX 4
 abbrev pub file4_task : Plan → Target → Option Task
-file4_task plan Merged = Some (Does (jobs.Merge plan.header))
+file4_task plan Merged = merge_task plan Four
+file4_task plan Merged3 = merge_task plan Three
 file4_task plan Cover = Some (Does jobs.Cover)
 file4_task plan Capture = Some (Does (jobs.SendRinex (week_of plan)))
 file4_task plan target = system_task plan Four target
 
--- and one of RINEX 3 or 2, of which GPS LNAV and Galileo I/NAV alone are merged
+-- and one of RINEX 3 or 2
 abbrev pub file3_task : Plan → Target → Option Task
 file3_task plan Capture = Some (Does (jobs.SendRinex3 (week_of plan)))
-file3_task plan Rinex = if plan.merges then Some (Does (jobs.Rinex3 (files.Rinex plan.header))) else system_task plan Three Rinex
 file3_task plan target = system_task plan Three target
 
 -- What is done with a file that is read under a format, if there is a conversion of it. A capture

@@ -3,7 +3,7 @@ use Rattle.std.specs.Prelude.{ℕ, List, Option, None, Some, codes, bytes_eq, if
 use Rattle.whole_file.specs.declared.kinds.Kind.{Kind}
 use Rattle.whole_file.specs.declared.kinds.Kind.TheVariants as kinds
 use Rattle.file_conversion.specs.declared.targets.Target.{Target}
-use Rattle.file_conversion.specs.declared.targets.Target.TheVariants.{Rinex, Rinex3, Rtcm, List as ToList, Count, Frames, Merged, Cover, Capture}
+use Rattle.file_conversion.specs.declared.targets.Target.TheVariants.{Rinex, Rinex3, Rtcm, List as ToList, Count, Frames, Merged, Merged3, Cover, Capture}
 
 -- the value of `--to`
 abbrev pub to_word : Target → List ℕ
@@ -14,6 +14,7 @@ to_word ToList = codes "list"
 to_word Count = codes "count"
 to_word Frames = codes "frames"
 to_word Merged = codes "merged"
+to_word Merged3 = codes "merged3"
 to_word Cover = codes "cover"
 to_word Capture = codes "capture"
 
@@ -26,6 +27,7 @@ ending_of ToList = codes "list"
 ending_of Count = codes "count"
 ending_of Frames = codes "frames"
 ending_of Merged = codes "merged.rnx"
+ending_of Merged3 = codes "merged.rnx"
 ending_of Cover = codes "cover"
 ending_of Capture = codes "navcap"
 
@@ -51,6 +53,7 @@ target_named word =
     else if bytes_eq word (codes "count") then Some Count
     else if bytes_eq word (codes "frames") then Some Frames
     else if bytes_eq word (codes "merged") then Some Merged
+    else if bytes_eq word (codes "merged3") then Some Merged3
     else if bytes_eq word (codes "cover") then Some Cover
     else if bytes_eq word (codes "capture") then Some Capture
     else None

@@ -5,7 +5,7 @@ ghost use Rattle.file_conversion.specs.Counted.{times_in};
 
 use outlets::Times;
 use streams::StreamCounts;
-use system_files::SystemCounts;
+use system_files::{SystemCounts, SystemMergeCounts};
 
 /// What a conversion that is done has counted.
 #[derive(Clone, Copy)]
@@ -16,6 +16,8 @@ pub enum Done {
     Stream(StreamCounts),
     /// Those in a navigation file.
     File(SystemCounts),
+    /// Those in several that were merged.
+    Merged(SystemMergeCounts),
 }
 
 impl Done {
@@ -28,6 +30,7 @@ impl Done {
             Done::Job(done) => done.times(),
             Done::Stream(counts) => counts.times,
             Done::File(counts) => counts.times,
+            Done::Merged(counts) => counts.times,
         }
     }
 }

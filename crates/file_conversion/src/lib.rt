@@ -57,7 +57,9 @@ pub use crate::refusals::refusal_of;
 pub use crate::says::{Refusal, STANDARD_OUTPUT, kind_text};
 pub use crate::shown::Shown;
 pub use crate::stops::{Made, Stop};
-pub use crate::table::{Plan, SystemFileJob, SystemsJob, Task, is_converted, task_for};
+pub use crate::table::{
+    Plan, SystemFileJob, SystemMergeJob, SystemsJob, Task, is_converted, task_for,
+};
 pub use crate::targets::{Target, ending_of, kind_named, target_named, to_word};
 pub use crate::telling::{Teller, finish};
 pub use system_streams::Kinds;

@@ -2,12 +2,12 @@
 
 ghost use Rattle.std.specs.Prelude.{◌≡◌, IfSome, true};
 ghost use Rattle.file_conversion.specs.Table.{capture_task, capture_to, file3_task, file4_task};
-ghost use Rattle.file_conversion.specs.Table.{log_task, stream_task, system_task, systems_to};
-ghost use Rattle.file_conversion.specs.Table.{task_for, week_of};
+ghost use Rattle.file_conversion.specs.Table.{log_task, merge_task, stream_task, system_task};
+ghost use Rattle.file_conversion.specs.Table.{systems_to, task_for, week_of};
 ghost use Rattle.file_conversion.specs.Tasks.{reads_input};
 
 use crate::targets::Target;
-use bridge_engine::{CaptureJob, CaptureTo, Job, RinexTo};
+use bridge_engine::{CaptureJob, CaptureTo, Job};
 use gnss_week::RefWeek;
 use rinex_write::HeaderWords;
 use system_files::Version;
@@ -29,8 +29,6 @@ pub struct Plan {
     pub header: HeaderWords,
     /// The kinds of ephemerides that are read of a stream or a navigation file.
     pub kinds: Kinds,
-    /// Whether what is made of a file of RINEX 3 is merged: it has GPS LNAV and Galileo I/NAV alone.
-    pub merges: bool,
 }
 
 /// A conversion of the ephemerides of all systems in a stream.
@@ -55,6 +53,17 @@ pub struct SystemFileJob {
     pub to: outlets::Target,
 }
 
+/// A merge of the ephemerides of all systems in navigation files of RINEX 4.
+#[derive(Clone, Copy)]
+pub struct SystemMergeJob {
+    /// The kinds of ephemerides.
+    pub kinds: Kinds,
+    /// The version of the merged file.
+    pub to: Version,
+    /// The date and the leap seconds of its header.
+    pub header: HeaderWords,
+}
+
 /// What is done with a file.
 #[derive(Clone, Copy)]
 pub enum Task {
@@ -66,6 +75,8 @@ pub enum Task {
     Systems(SystemsJob),
     /// Those in a navigation file are.
     SystemFile(SystemFileJob),
+    /// Those in several are merged.
+    SystemMerge(SystemMergeJob),
 }
 
 /// What is done with a file that is read under this format, if there is a conversion of it.
@@ -115,7 +126,6 @@ pub fn is_converted(kind: Kind, target: Target) -> bool {
                     leap: 0,
                 },
                 kinds: Kinds::all(),
-                merges: false,
             };
             task_for(&plan, kind).is_some()
         }
@@ -169,12 +179,24 @@ fn stream_task(plan: &Plan) -> Option<Task>
     }
 }
 
+// What is done with navigation files that are merged to one of a version.
+fn merge_task(plan: &Plan, to: Version) -> Option<Task>
+    ensures { result ≡ merge_task plan.now to }
+{
+    Some(Task::SystemMerge(SystemMergeJob {
+        kinds: plan.kinds,
+        to,
+        header: plan.header,
+    }))
+}
+
 // What is done with a navigation file of RINEX 4.
 fn file4_task(plan: &Plan) -> Option<Task>
     ensures { result ≡ file4_task plan.now plan.now.target }
 {
     match plan.target {
-        Target::Merged => Some(Task::Does(Job::Merge(plan.header))),
+        Target::Merged => merge_task(plan, Version::Four),
+        Target::Merged3 => merge_task(plan, Version::Three),
         Target::Cover => Some(Task::Does(Job::Cover)),
         Target::Capture => Some(Task::Does(Job::SendRinex(week_of(plan)))),
         _ => system_task(plan, Version::Four),
@@ -187,7 +209,6 @@ fn file3_task(plan: &Plan) -> Option<Task>
 {
     match plan.target {
         Target::Capture => Some(Task::Does(Job::SendRinex3(week_of(plan)))),
-        Target::Rinex if plan.merges => Some(Task::Does(Job::Rinex3(RinexTo::Rinex(plan.header)))),
         _ => system_task(plan, Version::Three),
     }
 }
@@ -216,7 +237,7 @@ fn capture_to(target: Target, header: HeaderWords) -> Option<CaptureTo>
         Target::Rtcm => Some(CaptureTo::Rtcm),
         Target::List => Some(CaptureTo::ToList),
         Target::Count => Some(CaptureTo::Count),
-        Target::Frames | Target::Merged | Target::Cover | Target::Capture => None,
+        Target::Frames | Target::Merged | Target::Merged3 | Target::Cover | Target::Capture => None,
     }
 }
 

@@ -20,8 +20,10 @@ pub enum Target {
     Count,
     /// A line for each frame.
     Frames,
-    /// One navigation file merged from several.
+    /// One navigation file of RINEX 4 merged from several.
     Merged,
+    /// One of RINEX 3 merged from several.
+    Merged3,
     /// The times for which there is an ephemeris.
     Cover,
     /// A capture.
@@ -30,7 +32,7 @@ pub enum Target {
 
 impl Target {
     /// All of them: those of a file, and then those of several.
-    pub const ALL: [Target; 9] = [
+    pub const ALL: [Target; 10] = [
         Target::Rinex,
         Target::Rinex3,
         Target::Rtcm,
@@ -39,12 +41,13 @@ impl Target {
         Target::Frames,
         Target::Capture,
         Target::Merged,
+        Target::Merged3,
         Target::Cover,
     ];
 
     /// Whether several files make one output of it.
     pub fn takes_several(self) -> bool {
-        matches!(self, Target::Merged | Target::Cover)
+        matches!(self, Target::Merged | Target::Merged3 | Target::Cover)
     }
 }
 
@@ -60,6 +63,7 @@ pub fn to_word(target: Target) -> &'static str
         Target::Count => "count",
         Target::Frames => "frames",
         Target::Merged => "merged",
+        Target::Merged3 => "merged3",
         Target::Cover => "cover",
         Target::Capture => "capture",
     }
@@ -72,7 +76,7 @@ pub fn ending_of(target: Target) -> &'static str
     match target {
         Target::Rinex | Target::Rinex3 => "rnx",
         Target::Rtcm => "rtcm3",
-        Target::Merged => "merged.rnx",
+        Target::Merged | Target::Merged3 => "merged.rnx",
         Target::Capture => "navcap",
         Target::List | Target::Count | Target::Frames | Target::Cover => to_word(target),
     }
@@ -90,6 +94,7 @@ pub fn target_named(word: &str) -> Option<Target>
         "count" => Some(Target::Count),
         "frames" => Some(Target::Frames),
         "merged" => Some(Target::Merged),
+        "merged3" => Some(Target::Merged3),
         "cover" => Some(Target::Cover),
         "capture" => Some(Target::Capture),
         _ => None,

@@ -7,16 +7,16 @@ ghost use Rattle.nav_io.specs.Causes.{Rose};
 ghost use Rattle.whole_file.specs.Steps.{EndsFor, error_counts};
 ghost use Rattle.bridge_engine.specs.Meanings.{done_of, meaning_of};
 ghost use Rattle.file_conversion.specs.Tasks.{breaks_by, cause_in, reads_input};
-ghost use Rattle.file_conversion.specs.Tasks.{system_file_of, systems_of};
+ghost use Rattle.file_conversion.specs.Tasks.{system_file_of, system_merge_of, systems_of};
 ghost use Rattle.file_conversion.specs.declared.done.Done.TheVariants as dones;
 
 use crate::copies::copy;
 use crate::done::Done;
-use crate::table::{SystemFileJob, SystemsJob, Task};
+use crate::table::{SystemFileJob, SystemMergeJob, SystemsJob, Task};
 use bridge_engine::{BridgeFault, Job, run_job};
 use nav_io::{Sink, Source};
 use std::alloc::Global;
-use system_files::run_system_file;
+use system_files::{Version, run_system_file, run_system_merge};
 use system_streams::run_systems;
 use whole_file::Conversion;
 
@@ -62,6 +62,13 @@ impl<U: Sink> Conversion for TaskRun<U> {
             Task::Does(job) => do_job(self.alloc, job, input, output, &mut self.report),
             Task::Systems(job) => do_systems(self.alloc, job, input, output, &mut self.report),
             Task::SystemFile(job) => do_system_file(job, input, output, &mut self.report),
+            Task::SystemMerge(job) => do_system_merge(
+                self.alloc,
+                job,
+                input,
+                output,
+                &mut self.report,
+            ),
             Task::Copied => copy(input, output),
         }
     }
@@ -162,6 +169,49 @@ fn do_system_file<S: Source, T: Sink, U: Sink>(
 {
     match run_system_file(&job.kinds, job.version, &job.to, input, output, report) {
         Ok(counts) => Ok(Some(Done::File(counts))),
+        Err(fault) => Err(fault),
+    }
+}
+
+// Merges those in several.
+fn do_system_merge<S: Source, T: Sink, U: Sink>(
+    alloc: Global,
+    job: &SystemMergeJob,
+    input: &mut S,
+    output: &mut T,
+    report: &mut U,
+) -> Result<Option<Done>, BridgeFault>
+    ensures text { OnOk result (IfSome (S.left input.old) (λ bytes.
+        Appends (T.written output.old) (T.written output.new)
+        ((system_merge_of job.now).whole.output bytes))) }
+    ensures counts { IfOk result (λ done. IfSome (S.left input.old) (λ bytes.
+        done ≡ option_map dones.Merged ((system_merge_of job.now).counts bytes))) }
+    ensures complete { IfSome (S.left input.old) (λ bytes.
+        IsSome ((system_merge_of job.now).counts bytes) × (length bytes < 2 ^ 32)
+        → ¬ Rose (S.faults input.old) (S.faults input.new)
+        → ¬ Rose (T.faults output.old) (T.faults output.new)
+        → ¬ Rose (U.faults report.old) (U.faults report.new)
+        → IfErr result (λ fault. fault ≡ BridgeFault.NoMemory)) }
+    ensures accepts { OnOk result (IfSome (S.left input.old) (λ bytes.
+        IsSome ((system_merge_of job.now).counts bytes) × (length bytes < 2 ^ 32))) }
+    ensures causes { EndsFor cause_in
+        (error_counts (S.faults input.old) (T.faults output.old) (U.faults report.old))
+        (error_counts (S.faults input.new) (T.faults output.new) (U.faults report.new)) result }
+    ensures breaks { IfErr result (λ fault. IfSome (S.left input.old) (λ bytes.
+        breaks_by (IsSome ((system_merge_of job.now).counts bytes)) bytes fault)) }
+{
+    let merged = run_system_merge(
+        alloc,
+        &job.kinds,
+        Version::Four,
+        job.to,
+        &job.header,
+        input,
+        output,
+        report,
+    );
+    match merged {
+        Ok(counts) => Ok(Some(Done::Merged(counts))),
         Err(fault) => Err(fault),
     }
 }

@@ -249,7 +249,6 @@ fn ends_so(alloc: Global, case: &Case) -> Result<bool, Fail> {
         clock_week,
         header,
         kinds: Kinds::all(),
-        merges: false,
     };
     let mut folder = folder_of(alloc, case)?;
     let observers = observers(alloc)?;
@@ -312,7 +311,6 @@ fn source_ends_so(
         clock_week,
         header,
         kinds: Kinds::all(),
-        merges: false,
     };
     let observers = observers(alloc)?;
     let source = source_of(alloc, fails)?;

@@ -144,7 +144,8 @@ static OPTIONS: [Row; 15] = [
         name: "to",
         short: Some('t'),
         parser: ValueParser::Names(&[
-            "rinex", "rinex3", "rtcm", "list", "count", "frames", "merged", "cover", "capture",
+            "rinex", "rinex3", "rtcm", "list", "count", "frames", "merged", "merged3", "cover",
+            "capture",
         ]),
         defaults: &["rinex"],
         values: &["FORMAT"],

@@ -42,8 +42,7 @@ fn show_before(settings: &Settings, files: &[&str], name: Option<&str>) -> u8 {
     line.text("{");
     for file in files {
         if let Some(kind) = older_kind(settings, file) {
-            line.text(" ");
-            line.text(program_before(kind));
+            line.text(" navconvert -o - -");
             line.job(&wanted_before(settings, kind), kind);
             line.word(" < ", file);
         } else {
@@ -51,7 +50,11 @@ fn show_before(settings: &Settings, files: &[&str], name: Option<&str>) -> u8 {
         }
         line.text(";");
     }
-    line.text(" } | navbridge");
+    line.text(" } | ");
+    line.text(match task_for(&settings.wanted.plan(), Kind::Rinex4) {
+        Some(task) => program_of(&task, Kind::Rinex4),
+        None => "navbridge",
+    });
     line.job(&settings.wanted, Kind::Rinex4);
     line.end(name)
 }
@@ -73,7 +76,8 @@ fn show_kind(
             line.text(program);
             line.files(mark, files);
             if !matches!(task, Task::Copied) {
-                line.text(" | navbridge");
+                line.text(" | ");
+                line.text(program_of(&task, kind));
                 line.job(&settings.wanted, kind);
             }
         }
@@ -89,7 +93,7 @@ fn show_kind(
 // The program that does a task from its input, of this form, to its output.
 fn program_of(task: &Task, kind: Kind) -> &'static str {
     match task {
-        Task::Systems(_) | Task::SystemFile(_) => "navconvert -o - -",
+        Task::Systems(_) | Task::SystemFile(_) | Task::SystemMerge(_) => "navconvert -o - -",
         Task::Does(_) | Task::Copied => program_before(kind),
     }
 }
@@ -105,7 +109,7 @@ fn program_before(kind: Kind) -> &'static str {
 /// The reference week of a task.
 pub(crate) fn week_in(task: &Task) -> Option<RefWeek> {
     match task {
-        Task::Copied | Task::SystemFile(_) => None,
+        Task::Copied | Task::SystemFile(_) | Task::SystemMerge(_) => None,
         Task::Systems(job) => Some(job.week),
         Task::Does(Job::Capture(job)) => job.week,
         Task::Does(Job::Stream(job)) => Some(job.week),
@@ -176,7 +180,7 @@ impl<'a> Line<'a> {
                 self.whole = self.whole && print!(self.rt; " '--week={week}'").is_ok();
             }
         }
-        if let Target::Rinex | Target::Rinex3 | Target::Merged = wanted.target {
+        if let Target::Rinex | Target::Rinex3 | Target::Merged | Target::Merged3 = wanted.target {
             let leap = wanted.header.leap;
             self.whole = self.whole && print!(self.rt; " '--leap={leap}'").is_ok();
             self.option("--date=", from_utf8(&wanted.header.date).unwrap_or(""));

@@ -75,7 +75,7 @@ fn is_named(settings: &Settings, first: &str) -> bool {
     is_placed
         && matches!(
             settings.wanted.target,
-            Target::Rinex | Target::Rinex3 | Target::Merged
+            Target::Rinex | Target::Rinex3 | Target::Merged | Target::Merged3
         )
 }
 

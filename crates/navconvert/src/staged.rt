@@ -83,13 +83,11 @@ pub(crate) fn older_kind(settings: &Settings, file: &str) -> Option<Kind> {
     }
 }
 
-/// What is asked of a file of RINEX 3 or 2 that is merged: to convert what is merged of it to RINEX
-/// 4.
+/// What is asked of a file of RINEX 3 or 2 that is merged: to convert it to RINEX 4.
 pub(crate) fn wanted_before(settings: &Settings, kind: Kind) -> Wanted {
     Wanted {
         form: Some(kind),
         target: Target::Rinex,
-        merges: true,
         ..settings.wanted
     }
 }

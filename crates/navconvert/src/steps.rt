@@ -92,7 +92,7 @@ pub(crate) fn converted<'a, A: Namer<Option<Done>>>(
 // Whether all systems of a navigation file were read.
 fn is_of_all(done: &Result<Made, Stop>) -> bool {
     match done {
-        Ok(made) => matches!(made.done, Some(Done::File(_))),
+        Ok(made) => matches!(made.done, Some(Done::File(_) | Done::Merged(_))),
         Err(_) => false,
     }
 }

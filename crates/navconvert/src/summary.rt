@@ -42,6 +42,14 @@ pub(crate) fn counted(done: &Option<Done>) -> JobCounts {
             unwritten: Some(c.unwritten),
             ..counts_of(Some(c.items), rejected(c.refused), c.passed)
         },
+        Some(Done::Merged(c)) => {
+            let again = c.items.saturating_sub(c.kept);
+            let amiss = [c.refused, 0, 0, 0, 0, 0, again, 0];
+            JobCounts {
+                unwritten: Some(c.unwritten),
+                ..counts_of(Some(c.kept), amiss, c.passed)
+            }
+        }
     }
 }
 

@@ -24,8 +24,6 @@ pub(crate) struct Wanted {
     pub clock_week: RefWeek,
     /// The date and the leap seconds of a header.
     pub header: HeaderWords,
-    /// Whether what is made of a file of RINEX 3 is merged.
-    pub merges: bool,
 }
 
 impl Wanted {
@@ -38,7 +36,6 @@ impl Wanted {
             clock_week: self.clock_week,
             header: self.header,
             kinds: Kinds::all(),
-            merges: self.merges,
         }
     }
 }
@@ -69,7 +66,6 @@ pub(crate) fn wanted_of<'a>(rt: &HostRuntime, asked: &Asked<'a>) -> Result<Wante
             week,
             clock_week,
             header: HeaderWords { date, leap },
-            merges: false,
         }),
     }
 }

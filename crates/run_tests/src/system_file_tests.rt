@@ -7,7 +7,7 @@ use outlets::{Target, Times};
 use rinex_write::{HeaderWords, write_header, write_header3};
 use std::alloc::{AllocError, Global};
 use std::test::Fail;
-use system_files::{SystemCounts, Version, run_system_file};
+use system_files::{SystemCounts, Version, run_system_file, run_system_merge};
 use system_streams::Kinds;
 
 // What the header of a file says.
@@ -285,5 +285,59 @@ fn other_records_are_passed_over_or_refused(rt: HostRuntime) -> Result<(), Fail>
         Err(_) => 0,
     };
     assert!(rt; unwritten == 1);
+    Ok(())
+}
+
+// The places of the samples in a merged file.
+static MERGED: [usize; 9] = [1, 6, 2, 8, 5, 7, 0, 3, 4];
+
+// The file of a version that is merged of the samples.
+fn merged(alloc: Global, version: Version) -> Result<Vec<u8>, AllocError> {
+    let mut header = sink_of(alloc)?;
+    let done = match version {
+        Version::Four => write_header(&WORDS, &mut header),
+        Version::Three => write_header3(&WORDS, &mut header),
+    };
+    let mut text = header.bytes().to_vec(alloc)?;
+    for place in &MERGED {
+        if let (Ok(()), Some(sample)) = (done, SAMPLES.get(*place)) {
+            if version == Version::Four {
+                text.extend_from_slice(sample.title)?;
+            }
+            text.extend_from_slice(sample.lines)?;
+        }
+    }
+    Ok(text)
+}
+
+#[test]
+fn files_are_merged_in_order_without_duplicates(rt: HostRuntime) -> Result<(), Fail> {
+    let _inside: Option<Times> = None;
+    let alloc = rt.alloc();
+    let four = written(alloc, Version::Four)?;
+    let both = [four.as_slice(), four.as_slice()].concat(alloc)?;
+    for to in [Version::Four, Version::Three] {
+        let cuts = vec![in alloc; 7u32; 8000]?;
+        let mut input = MemSource::new(both.to_vec(alloc)?, cuts, Vec::new(alloc));
+        let mut output = sink_of(alloc)?;
+        let mut report = sink_of(alloc)?;
+        let kinds = Kinds::all();
+        let done = run_system_merge(
+            alloc,
+            &kinds,
+            Version::Four,
+            to,
+            &WORDS,
+            &mut input,
+            &mut output,
+            &mut report,
+        );
+        let kept: u64 = match done {
+            Ok(counts) => counts.kept,
+            Err(_) => 0,
+        };
+        let wanted = merged(alloc, to)?;
+        assert!(rt; kept == 9 && output.bytes() == wanted.as_slice());
+    }
     Ok(())
 }

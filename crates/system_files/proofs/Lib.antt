@@ -1,3 +1,9 @@
 pub mod Records
 pub mod Items
 pub mod KeptLines
+pub mod RowOrder
+pub mod Merges
+pub mod Cells
+pub mod NavLaws
+pub mod MergeLaws
+pub mod Wrote

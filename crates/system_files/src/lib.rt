@@ -4,6 +4,7 @@
 //! file, frames or list. Its GPS LNAV and Galileo I/NAV ephemerides, and the ionosphere parameters,
 //! are those of [`nav_files::run_rinex`] and [`nav_files::run_rinex3`], in the same order; the
 //! others come from the tables of [`nav_rows`]. Records of other kinds are skipped and counted.
+//! [`run_system_merge`] writes each once, in order of time.
 //!
 //! ```rust
 //! use outlets::Target;
@@ -18,7 +19,14 @@
 mod counts;
 mod form;
 mod laws;
+mod merge;
+mod merge_counts;
+mod merge_laws;
+mod nav_key;
+mod nav_numbers;
+mod next;
 mod read;
+mod row_key;
 mod run;
 mod select;
 mod text;
@@ -28,6 +36,11 @@ pub use crate::counts::SystemCounts;
 pub use crate::laws::{
     a_file_has_the_same_items_of_gps_and_galileo,
     what_is_written_of_a_file_is_the_text_of_its_items,
+};
+pub use crate::merge::run_system_merge;
+pub use crate::merge_counts::SystemMergeCounts;
+pub use crate::merge_laws::{
+    a_merged_file_has_the_merge_of_gps_and_galileo, merging_of_all_systems,
 };
 pub use crate::run::run_system_file;
 pub use crate::version::Version;

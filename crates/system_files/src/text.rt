@@ -16,7 +16,7 @@ use outlets::Target;
 use system_streams::{put_message, put_row};
 
 // Whether an item is an ephemeris.
-fn is_ephemeris(item: &NavItem) -> bool
+pub(crate) fn is_ephemeris(item: &NavItem) -> bool
     ensures { result ≡ is_ephemeris (inl item.now) }
 {
     match item {

@@ -45,3 +45,15 @@ returns-in-SystemFile-clause-causes g c = c.do_system_file.ensures.causes
 
 pub returns-in-SystemFile-clause-breaks : goal.returns-in-SystemFile-clause-breaks
 returns-in-SystemFile-clause-breaks g c = rw c.in-SystemFile.is c.do_system_file.ensures.breaks
+
+pub returns-in-SystemMerge-clause-complete : goal.returns-in-SystemMerge-clause-complete
+returns-in-SystemMerge-clause-complete g c = rw c.in-SystemMerge.is c.do_system_merge.ensures.complete
+
+pub returns-in-SystemMerge-clause-accepts : goal.returns-in-SystemMerge-clause-accepts
+returns-in-SystemMerge-clause-accepts g c = rw c.in-SystemMerge.is c.do_system_merge.ensures.accepts
+
+pub returns-in-SystemMerge-clause-causes : goal.returns-in-SystemMerge-clause-causes
+returns-in-SystemMerge-clause-causes g c = c.do_system_merge.ensures.causes
+
+pub returns-in-SystemMerge-clause-breaks : goal.returns-in-SystemMerge-clause-breaks
+returns-in-SystemMerge-clause-breaks g c = rw c.in-SystemMerge.is c.do_system_merge.ensures.breaks

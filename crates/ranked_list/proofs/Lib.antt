@@ -1,0 +1,3 @@
+pub mod RankedLemmas
+pub mod HeldLemmas
+pub mod Surface

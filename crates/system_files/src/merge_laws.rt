@@ -1,0 +1,49 @@
+//! Theorems about merged lists of all systems.
+
+ghost use Rattle.std.specs.Prelude.{◌≡◌, ◌↔◌, ◌++◌, ℕ, List};
+ghost use Rattle.std.specs.List.{Contains};
+ghost use Rattle.nav_eph.specs.declared.items.NavItem.{NavItem};
+ghost use Rattle.nav_lists.specs.Merging.{merged_of};
+ghost use Rattle.nav_rows.specs.Order.{by_place, by_rank};
+ghost use Rattle.ranked_list.specs.Ranks.{ranked_of};
+ghost use Rattle.rinex_read.specs.Files.{list_by};
+ghost use Rattle.system_streams.specs.Readings.{Item};
+ghost use Rattle.system_streams.specs.declared.kinds.Kinds.{Kinds};
+ghost use Rattle.system_files.specs.Files.{nav_form};
+ghost use Rattle.system_files.specs.Merging.{AreNamed, file_merged, merged_items};
+ghost use Rattle.system_files.specs.Merging.{navs_of, rows_of};
+ghost use Rattle.system_files.specs.declared.version.Version.{Version};
+
+use crate::nav_key::NavKey;
+use crate::row_key::RowKey;
+use nav_lists::merging;
+use ranked_list::ranking;
+
+/// The merged list has the items of GPS and Galileo of their merged list, and each row once. Items
+/// may be merged in several steps. The list depends on the set of the items alone, not on their
+/// order nor on repetition, if rows of one system and message type are of one kind.
+pub fn merging_of_all_systems()
+    ensures navs { (items : List Item) (item : NavItem) →
+        Contains (navs_of (merged_items items)) item ↔ Contains (merged_of (navs_of items)) item }
+    ensures rows { (items : List Item) →
+        rows_of (merged_items items) ≡ ranked_of by_rank by_place (rows_of items) }
+    ensures again { (some more : List Item) →
+        merged_items (merged_items some ++ more) ≡ merged_items (some ++ more) }
+    ensures set { (some other : List Item) → AreNamed (rows_of some) →
+        ((i : Item) → Contains some i ↔ Contains other i) →
+        merged_items some ≡ merged_items other }
+{
+    merging();
+    ranking::<NavKey>();
+    ranking::<RowKey>();
+}
+
+/// Of any bytes, the items of GPS and Galileo in the merged list are those that
+/// [`nav_files::run_merge`] writes.
+pub fn a_merged_file_has_the_merge_of_gps_and_galileo()
+    ensures { (ks : Kinds) (v : Version) (bytes : List ℕ) (item : NavItem) →
+        Contains (navs_of (file_merged ks v bytes)) item
+        ↔ Contains (merged_of (list_by (nav_form v) bytes)) item }
+{
+    merging_of_all_systems();
+}
