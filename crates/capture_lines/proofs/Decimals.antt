@@ -1,5 +1,5 @@
 -- The decimal digits of a number, in order.
-use Rattle.std.proofs.Common.{◌≡◌, ℕ, ◌+◌, ◌/◌, ◌%◌, ◌^◌, ◌<◌, ◌≤◌, [], ◌∷◌, ◌++◌, length, ap, ◌∙◌, length-append, arith}
+use Rattle.std.proofs.Common.{◌≡◌, ℕ, ◌+◌, ◌/◌, ◌%◌, ◌^◌, ◌<◌, ◌≤◌, [], ◌∷◌, ◌++◌, length, arith}
 use Rattle.std.specs.Prelude.{decimal}
 use Rattle.std.proofs.lemmas.Fmt.{decimal_digit, decimal_step, length-decimal-le}
 
@@ -10,10 +10,6 @@ one_digit n low = decimal_digit n low
 -- a number of more digits
 pub last_digit : (n : ℕ) → 10 ≤ n → n < 2 ^ 32 → decimal n ≡ decimal (n / 10) ++ ((48 + n % 10) ∷ [])
 last_digit n more fits = decimal_step n more (omega arith)
-
--- it has one more digit than without the last
-pub one_digit_more : (n : ℕ) → 10 ≤ n → n < 2 ^ 32 → length (decimal n) ≡ length (decimal (n / 10)) + 1
-one_digit_more n more fits = ap length (last_digit n more fits) ∙ length-append (decimal (n / 10)) ((48 + n % 10) ∷ [])
 
 -- at most ten digits
 pub ten_digits : (n : ℕ) → n < 2 ^ 32 → length (decimal n) ≤ 10

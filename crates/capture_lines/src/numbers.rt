@@ -10,6 +10,8 @@ ghost use Rattle.arrayvec.specs.ArrayVec.{array_vec_len};
 ghost use Rattle.capture_lines.specs.Reading.{number_in};
 
 use crate::LineText;
+use crate::write::push_text;
+use itoa::Buffer;
 
 // The greatest number of digits.
 const MOST_DIGITS: usize = 10;
@@ -55,16 +57,11 @@ fn value_of(line: &[u8], count: usize) -> u64
 }
 
 // Appends the digits of a number, without leading zeros.
-#[tactic(auto, using(crate::proofs::Decimals::one_digit, crate::proofs::Decimals::last_digit, crate::proofs::Decimals::one_digit_more))]
 pub(crate) fn push_decimal(number: u32, into: &mut LineText)
     requires { array_vec_len into.old + length (decimal number) ≤ 2201 }
     ensures text { into.new.items ≡ into.old.items ++ decimal number }
     ensures len { array_vec_len into.new ≡ array_vec_len into.old + length (decimal number) }
 {
-    if number < 10 {
-        into.push(b'0' + number as u8);
-    } else {
-        push_decimal(number / 10, into);
-        into.push(b'0' + (number % 10) as u8);
-    }
+    let mut digits = Buffer::new();
+    push_text(digits.format(number).as_bytes(), into);
 }

@@ -31,7 +31,7 @@ pub fn write_lnav(stamp: u32, sat: Sat, bits: &Bits<38>, into: &mut LineText)
     push_text(b" L G", into);
     push_two_digits(sat.number(), into);
     into.push(b' ');
-    push_hex(bits.bytes(), into);
+    push_hex::<76>(bits.bytes(), into);
     into.push(b'\n');
 }
 
@@ -50,7 +50,7 @@ pub fn write_half_line(stamp: u32, sat: Sat, signal: Signal, bits: &Bits<15>, in
     into.push(b' ');
     into.push(letter_of(signal));
     into.push(b' ');
-    push_hex(bits.bytes(), into);
+    push_hex::<30>(bits.bytes(), into);
     into.push(b'\n');
 }
 
@@ -65,7 +65,7 @@ pub fn write_rtcm(stamp: u32, frame: &[u8], into: &mut LineText)
 {
     begin(stamp, into);
     push_text(b" R ", into);
-    push_hex(frame, into);
+    push_hex::<2058>(frame, into);
     into.push(b'\n');
 }
 
@@ -90,7 +90,7 @@ fn letter_of(signal: Signal) -> u8
 }
 
 // Appends some bytes.
-fn push_text(text: &[u8], into: &mut LineText)
+pub(crate) fn push_text(text: &[u8], into: &mut LineText)
     requires { array_vec_len into.old + length text.now ≤ 2201 }
     ensures text { into.new.items ≡ into.old.items ++ text.now }
     ensures len { array_vec_len into.new ≡ array_vec_len into.old + length text.now }
@@ -111,15 +111,16 @@ fn push_two_digits(number: u8, into: &mut LineText)
     into.push(b'0' + number % 10);
 }
 
-// Appends the hexadecimal digits of bytes.
-fn push_hex(bytes: &[u8], into: &mut LineText)
-    requires few { length bytes.now ≤ 1029 }
+// Appends the hexadecimal digits of bytes, N at most.
+fn push_hex<const N: usize>(bytes: &[u8], into: &mut LineText)
+    requires size { N ≤ 2058 }
+    requires few { 2 * length bytes.now ≤ N }
     requires room { array_vec_len into.old + 2 * length bytes.now ≤ 2201 }
     ensures text { into.new.items ≡ into.old.items ++ encode_lower bytes.now }
     ensures len { array_vec_len into.new ≡ array_vec_len into.old + 2 * length bytes.now }
     ensures bytes { IsBytes bytes.now }
 {
-    let mut digits = [0u8; 2058];
+    let mut digits = [0u8; N];
     let used = 2 * bytes.len();
     if encode_to_slice(bytes, &mut digits[..used]).is_err() {
         unreachable!();

@@ -138,3 +138,33 @@ four_looked_up r a b c d first second third fourth hr ha hb hc hd one two three 
     ∙ ap (bit_xor (shift 24 (bit_xor (r / 2 ^ 8 % 2 ^ 8) b * 2 ^ 16)))
     (ap (λ n. bit_xor n fourth) three_is ∙ ap (bit_xor (shift 16 (bit_xor (r % 2 ^ 8) c * 2 ^ 16))) four))
     ∙ sym (four_bytes r a b c d hr ha hb hc hd)
+
+-- the register after four bytes, advanced by m bits, by four look-ups
+pub four_far : (m r a b c d first second third fourth : ℕ) → r < 2 ^ 24 → a < 2 ^ 8 → b < 2 ^ 8 → c < 2 ^ 8 → d < 2 ^ 8
+    → first ≡ shift (m + 32) (bit_xor (r / 2 ^ 16) a * 2 ^ 16)
+    → second ≡ shift (m + 24) (bit_xor (bit_and (r / 2 ^ 8) 255) b * 2 ^ 16)
+    → third ≡ shift (m + 16) (bit_xor (bit_and r 255) c * 2 ^ 16)
+    → fourth ≡ shift (m + 8) (d * 2 ^ 16)
+    → bit_xor first (bit_xor second (bit_xor third fourth)) ≡ shift m (crc_from r (a ∷ b ∷ c ∷ d ∷ []))
+four_far m r a b c d first second third fourth hr ha hb hc hd one two three four =
+    let middle : bit_and (r / 2 ^ 8) 255 ≡ r / 2 ^ 8 % 2 ^ 8 = and_mask (r / 2 ^ 8) 8 in
+    let low : bit_and r 255 ≡ r % 2 ^ 8 = and_mask r 8 in
+    let x : ℕ = bit_xor (r / 2 ^ 16) a * 2 ^ 16 in
+    let y : ℕ = bit_xor (bit_and (r / 2 ^ 8) 255) b * 2 ^ 16 in
+    let z : ℕ = bit_xor (bit_and r 255) c * 2 ^ 16 in
+    let w : ℕ = d * 2 ^ 16 in
+    let x_lt : shift 32 x < 2 ^ 24 = shift-lt 32 x (head_fits (bit_xor (r / 2 ^ 16) a) (head_of r a hr ha)) in
+    let y_lt : shift 24 y < 2 ^ 24 = shift-lt 24 y (head_fits (bit_xor (bit_and (r / 2 ^ 8) 255) b) (xor_lt 8 (bit_and (r / 2 ^ 8) 255) b (omega (arith, middle)) hb)) in
+    let z_lt : shift 16 z < 2 ^ 24 = shift-lt 16 z (head_fits (bit_xor (bit_and r 255) c) (xor_lt 8 (bit_and r 255) c (omega (arith, low)) hc)) in
+    let w_lt : shift 8 w < 2 ^ 24 = shift-lt 8 w (head_fits d hd) in
+    let zw_lt : bit_xor (shift 16 z) (shift 8 w) < 2 ^ 24 = xor_lt 24 (shift 16 z) (shift 8 w) z_lt w_lt in
+    let yzw_lt : bit_xor (shift 24 y) (bit_xor (shift 16 z) (shift 8 w)) < 2 ^ 24 = xor_lt 24 (shift 24 y) (bit_xor (shift 16 z) (shift 8 w)) y_lt zw_lt in
+    ap (λ n. bit_xor n (bit_xor second (bit_xor third fourth))) (one ∙ shift-add m 32 x)
+    ∙ ap (bit_xor (shift m (shift 32 x)))
+    (ap (λ n. bit_xor n (bit_xor third fourth)) (two ∙ shift-add m 24 y)
+    ∙ ap (bit_xor (shift m (shift 24 y)))
+    (ap (λ n. bit_xor n fourth) (three ∙ shift-add m 16 z) ∙ ap (bit_xor (shift m (shift 16 z))) (four ∙ shift-add m 8 w)
+    ∙ sym (shift-xor m (shift 16 z) (shift 8 w) z_lt w_lt))
+    ∙ sym (shift-xor m (shift 24 y) (bit_xor (shift 16 z) (shift 8 w)) y_lt zw_lt))
+    ∙ sym (shift-xor m (shift 32 x) (bit_xor (shift 24 y) (bit_xor (shift 16 z) (shift 8 w))) x_lt yzw_lt)
+    ∙ ap (shift m) (four_looked_up r a b c d (shift 32 x) (shift 24 y) (shift 16 z) (shift 8 w) hr ha hb hc hd refl refl refl refl)

@@ -1,10 +1,10 @@
 -- One step of each loop: the register over the rest of a list, and the bits of a register that is advanced.
-use Rattle.std.proofs.Common.{◌≡◌, ℕ, zero, suc, ◌+◌, ◌-◌, ◌*◌, ◌/◌, ◌%◌, ◌^◌, ◌<◌, ◌≤◌, List, [], ◌∷◌, length, get_or, drop, sym, ap, subst, ◌∙◌, arith, zero-add}
+use Rattle.std.proofs.Common.{◌≡◌, ℕ, zero, suc, ◌+◌, ◌-◌, ◌*◌, ◌/◌, ◌%◌, ◌^◌, ◌<◌, ◌≤◌, List, [], ◌∷◌, length, get_or, drop, refl, sym, ap, subst, ◌∙◌, arith, zero-add}
 use Rattle.std.proofs.lemmas.List.{drop_more, drop_all}
-use Rattle.std.proofs.lemmas.Nat.{and_mask, shr-shr, shr_le}
+use Rattle.std.proofs.lemmas.Nat.{and_mask, shr-shr, shr_le, xor_lt}
 use Rattle.std.specs.Int.Bits.{bit_and, bit_xor}
 use Rattle.crc24q.specs.Register.{stepped, shift, with_byte_of, crc_from}
-use Rattle.crc24q.proofs.RegisterLaws.{stepped_small, shift-lt, shift-xor, shift-add, shift-zero, crc_from-append}
+use Rattle.crc24q.proofs.RegisterLaws.{stepped_small, shift-lt, shift-xor, shift-add, shift-zero, crc_from-append, crc_from-lt, crc_from-parts}
 use Rattle.crc24q.proofs.LookupLemmas.{next_bits}
 
 pub byte_step : (state next i : ℕ) (xs : List ℕ) → i < length xs → next ≡ with_byte_of state (get_or xs i 0) → crc_from next (drop (i + 1) xs) ≡ crc_from state (drop i xs)
@@ -35,6 +35,97 @@ four_step state next n m xs places inside is =
     ap (λ k. crc_from next (drop k xs)) (sym places) ∙ ap (λ k. crc_from k (drop (n + 4) xs)) is
     ∙ sym (ap (crc_from state) (four_more xs n (omega arith))
     ∙ crc_from-append state (get_or xs n 0 ∷ get_or xs (n + 1) 0 ∷ get_or xs (n + 2) 0 ∷ get_or xs (n + 3) 0 ∷ []) (drop (n + 4) xs))
+
+four_on : (s : ℕ) (xs : List ℕ) → s < 2 ^ 24 → length xs ≡ 4 → crc_from s xs ≡ bit_xor (shift 32 s) (crc_from 0 xs)
+four_on s xs fits long =
+    crc_from-parts s xs fits ∙ ap (λ n. bit_xor (shift (8 * n) s) (crc_from 0 xs)) long
+
+-- the register after four groups of four bytes, each by itself
+pub four_groups : (s : ℕ) (g h k l : List ℕ) → s < 2 ^ 24 → length g ≡ 4 → length h ≡ 4 → length k ≡ 4 → length l ≡ 4
+    → bit_xor (bit_xor (bit_xor (shift 96 (crc_from s g)) (shift 64 (crc_from 0 h))) (shift 32 (crc_from 0 k))) (crc_from 0 l)
+    ≡ crc_from (crc_from (crc_from (crc_from s g) h) k) l
+four_groups s g h k l fits g4 h4 k4 l4 =
+    let one : ℕ = crc_from s g in
+    let one_lt : one < 2 ^ 24 = crc_from-lt s g fits in
+    let h_lt : crc_from 0 h < 2 ^ 24 = crc_from-lt 0 h (omega arith) in
+    let k_lt : crc_from 0 k < 2 ^ 24 = crc_from-lt 0 k (omega arith) in
+    let two_lt : crc_from one h < 2 ^ 24 = crc_from-lt one h one_lt in
+    let three_lt : crc_from (crc_from one h) k < 2 ^ 24 = crc_from-lt (crc_from one h) k two_lt in
+    let two : crc_from one h ≡ bit_xor (shift 32 one) (crc_from 0 h) = four_on one h one_lt h4 in
+    let two_on : shift 32 (crc_from one h) ≡ bit_xor (shift 64 one) (shift 32 (crc_from 0 h)) =
+    ap (shift 32) two ∙ shift-xor 32 (shift 32 one) (crc_from 0 h) (shift-lt 32 one one_lt) h_lt
+    ∙ ap (λ n. bit_xor n (shift 32 (crc_from 0 h))) (sym (shift-add 32 32 one)) in
+    let three : crc_from (crc_from one h) k ≡ bit_xor (bit_xor (shift 64 one) (shift 32 (crc_from 0 h))) (crc_from 0 k) =
+    four_on (crc_from one h) k two_lt k4 ∙ ap (λ n. bit_xor n (crc_from 0 k)) two_on in
+    let parts_lt : bit_xor (shift 64 one) (shift 32 (crc_from 0 h)) < 2 ^ 24 =
+    xor_lt 24 (shift 64 one) (shift 32 (crc_from 0 h)) (shift-lt 64 one one_lt) (shift-lt 32 (crc_from 0 h) h_lt) in
+    let three_on : shift 32 (crc_from (crc_from one h) k)
+    ≡ bit_xor (bit_xor (shift 96 one) (shift 64 (crc_from 0 h))) (shift 32 (crc_from 0 k)) =
+    ap (shift 32) three
+    ∙ shift-xor 32 (bit_xor (shift 64 one) (shift 32 (crc_from 0 h))) (crc_from 0 k) parts_lt k_lt
+    ∙ ap (λ n. bit_xor n (shift 32 (crc_from 0 k)))
+    (shift-xor 32 (shift 64 one) (shift 32 (crc_from 0 h)) (shift-lt 64 one one_lt) (shift-lt 32 (crc_from 0 h) h_lt)
+    ∙ ap (λ n. bit_xor n (shift 32 (shift 32 (crc_from 0 h)))) (sym (shift-add 32 64 one))
+    ∙ ap (bit_xor (shift 96 one)) (sym (shift-add 32 32 (crc_from 0 h)))) in
+    sym (four_on (crc_from (crc_from one h) k) l three_lt l4 ∙ ap (λ n. bit_xor n (crc_from 0 l)) three_on)
+
+-- the four bytes at an offset
+abbrev pub four_at : List ℕ → ℕ → List ℕ
+four_at xs n = get_or xs n 0 ∷ get_or xs (n + 1) 0 ∷ get_or xs (n + 2) 0 ∷ get_or xs (n + 3) 0 ∷ []
+
+four_off : (s n m : ℕ) (xs : List ℕ) → n + 4 ≡ m → m ≤ length xs
+    → crc_from (crc_from s (four_at xs n)) (drop m xs) ≡ crc_from s (drop n xs)
+four_off s n m xs places inside = four_step s (crc_from s (four_at xs n)) n m xs places inside refl
+
+pub sixteen_step : (s next n : ℕ) (xs : List ℕ) → s < 2 ^ 24 → n + 16 ≤ length xs
+    → next ≡ bit_xor (bit_xor (bit_xor (shift 96 (crc_from s (four_at xs n)))
+    (shift 64 (crc_from 0 (get_or xs (n + 4) 0 ∷ get_or xs (n + 5) 0 ∷ get_or xs (n + 6) 0 ∷ get_or xs (n + 7) 0 ∷ []))))
+    (shift 32 (crc_from 0 (get_or xs (n + 8) 0 ∷ get_or xs (n + 9) 0 ∷ get_or xs (n + 10) 0 ∷ get_or xs (n + 11) 0 ∷ []))))
+    (crc_from 0 (get_or xs (n + 12) 0 ∷ get_or xs (n + 13) 0 ∷ get_or xs (n + 14) 0 ∷ get_or xs (n + 15) 0 ∷ []))
+    → crc_from next (drop (n + 16) xs) ≡ crc_from s (drop n xs)
+sixteen_step s next n xs fits inside is =
+    let g : List ℕ = four_at xs n in
+    let h : List ℕ = get_or xs (n + 4) 0 ∷ get_or xs (n + 5) 0 ∷ get_or xs (n + 6) 0 ∷ get_or xs (n + 7) 0 ∷ [] in
+    let k : List ℕ = get_or xs (n + 8) 0 ∷ get_or xs (n + 9) 0 ∷ get_or xs (n + 10) 0 ∷ get_or xs (n + 11) 0 ∷ [] in
+    let l : List ℕ = get_or xs (n + 12) 0 ∷ get_or xs (n + 13) 0 ∷ get_or xs (n + 14) 0 ∷ get_or xs (n + 15) 0 ∷ [] in
+    ap (λ m. crc_from m (drop (n + 16) xs)) (is ∙ four_groups s g h k l fits refl refl refl refl)
+    ∙ at (n + 12) (n + 16) l (crc_from (crc_from (crc_from s g) h) k) (omega arith) (omega arith) (sym (further 12))
+    ∙ at (n + 8) (n + 12) k (crc_from (crc_from s g) h) (omega arith) (omega arith) (sym (further 8))
+    ∙ at (n + 4) (n + 8) h (crc_from s g) (omega arith) (omega arith) (sym (further 4))
+    ∙ four_off s n (n + 4) xs refl (omega arith)
+  where
+    further : (i : ℕ) → four_at xs (n + i)
+        ≡ get_or xs (n + i) 0 ∷ get_or xs (n + (i + 1)) 0 ∷ get_or xs (n + (i + 2)) 0 ∷ get_or xs (n + (i + 3)) 0 ∷ []
+    further i =
+        let one : n + i + 1 ≡ n + (i + 1) = omega arith in
+        let two : n + i + 2 ≡ n + (i + 2) = omega arith in
+        let three : n + i + 3 ≡ n + (i + 3) = omega arith in
+        ap (λ m. get_or xs (n + i) 0 ∷ get_or xs m 0 ∷ get_or xs (n + i + 2) 0 ∷ get_or xs (n + i + 3) 0 ∷ []) one
+        ∙ ap (λ m. get_or xs (n + i) 0 ∷ get_or xs (n + (i + 1)) 0 ∷ get_or xs m 0 ∷ get_or xs (n + i + 3) 0 ∷ []) two
+        ∙ ap (λ m. get_or xs (n + i) 0 ∷ get_or xs (n + (i + 1)) 0 ∷ get_or xs (n + (i + 2)) 0 ∷ get_or xs m 0 ∷ []) three
+
+    at : (p q : ℕ) (ys : List ℕ) (r : ℕ) → p + 4 ≡ q → q ≤ length xs → ys ≡ four_at xs p
+        → crc_from (crc_from r ys) (drop q xs) ≡ crc_from r (drop p xs)
+    at p q ys r places within same =
+        ap (λ zs. crc_from (crc_from r zs) (drop q xs)) same ∙ four_off r p q xs places within
+
+-- the four look-ups, joined
+pub sixteen_is : {p q r s a b c d : ℕ} → p ≡ a → q ≡ b → r ≡ c → s ≡ d
+    → bit_xor (bit_xor (bit_xor p q) r) s ≡ bit_xor (bit_xor (bit_xor a b) c) d
+sixteen_is {p} {q} {r} {s} {a} {b} {c} {d} e f g h =
+    ap (λ n. bit_xor (bit_xor (bit_xor n q) r) s) e ∙ ap (λ n. bit_xor (bit_xor (bit_xor a n) r) s) f
+    ∙ ap (λ n. bit_xor (bit_xor (bit_xor a b) n) s) g ∙ ap (bit_xor (bit_xor (bit_xor a b) c)) h
+
+moved_lt : (m x p : ℕ) → x < 2 ^ 24 → p ≡ shift m x → p < 2 ^ 24
+moved_lt m x p fits is = subst (λ n. n < 2 ^ 24) (sym is) (shift-lt m x fits)
+
+pub sixteen_fits : (p q r s i j k t : ℕ) (g h l : List ℕ) → t < 2 ^ 24 → p ≡ shift i (crc_from t g) → q ≡ shift j (crc_from 0 h) → r ≡ shift k (crc_from 0 l)
+    → s < 2 ^ 24 → bit_xor (bit_xor (bit_xor p q) r) s < 2 ^ 24
+sixteen_fits p q r s i j k t g h l fits e f d last =
+    let p_lt = moved_lt i (crc_from t g) p (crc_from-lt t g fits) e in
+    let q_lt = moved_lt j (crc_from 0 h) q (crc_from-lt 0 h (omega arith)) f in
+    let r_lt = moved_lt k (crc_from 0 l) r (crc_from-lt 0 l (omega arith)) d in
+    xor_lt 24 (bit_xor (bit_xor p q) r) s (xor_lt 24 (bit_xor p q) r (xor_lt 24 p q p_lt q_lt) r_lt) last
 
 -- ---- the register advanced by its bits
 

@@ -35,6 +35,22 @@ image_is f (t ∷ ts) (u ∷ us) right zero h = eqb-true u (f t) (both_true (nat
 image_is f (t ∷ ts) (u ∷ us) right (suc k) h =
     image_is f ts us (both_true (nat_eq u (f t)) (are_images f ts us) right).1 k (omega arith)
 
+pub images_length : (f : ℕ → ℕ) (ts us : List ℕ) → are_images f ts us ≡ true → length us ≡ length ts
+images_length f [] [] right = refl
+images_length f [] (u ∷ us) right = absurd (cc)
+images_length f (t ∷ ts) [] right = absurd (cc)
+images_length f (t ∷ ts) (u ∷ us) right =
+    ap suc (images_length f ts us (both_true (nat_eq u (f t)) (are_images f ts us) right).1)
+
+-- each table has f of the numbers of the one before it, the first those of another table
+abbrev pub are_chain : (ℕ → ℕ) → List ℕ → List (List ℕ) → Bool
+are_chain f ts [] = true
+are_chain f ts (us ∷ rest) = are_images f ts us && are_chain f us rest
+
+pub chain_parts : (f : ℕ → ℕ) (ts us : List ℕ) (rest : List (List ℕ)) → are_chain f ts (us ∷ rest) ≡ true
+    → (are_images f ts us ≡ true) × (are_chain f us rest ≡ true)
+chain_parts f ts us rest right = both_true (are_images f ts us) (are_chain f us rest) right
+
 -- each number but the first is f of the one before it
 abbrev pub steps_from : (ℕ → ℕ) → ℕ → List ℕ → Bool
 steps_from f t [] = true

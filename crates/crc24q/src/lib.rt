@@ -3,7 +3,7 @@
 //!
 //! A message is a polynomial over GF(2), its first bit the highest power. The CRC is the remainder
 //! of x^24 times it divided by the generator 0x1864CFB: initial value 0, no reflection, no final
-//! XOR. Computed by tables, four bytes at a time.
+//! XOR. Computed by tables, sixteen bytes at a time.
 //!
 //! ```rust
 //! let crc = crc24q::crc_bytes(&[0xd3, 0, 0]);
@@ -11,6 +11,7 @@
 //! ```
 #![tactic(auto)]
 
+mod far_tables;
 mod laws;
 mod message;
 mod mover;
