@@ -300,7 +300,7 @@ for from in 4 3; do
   run "$it to a list" 0 "made of 23 ephemerides" -t list -o - "every$from.rnx"
   is_same "$it to a list" <(cut -d' ' -f2- out) <(cut -d' ' -f2- "$examples/expected/systems.list"; echo "EPH S33 SBAS 2295 179968")
   run "$it to counts" 0 "made of 23 ephemerides" -t count -o - "every$from.rnx"
-  is_same "$it to counts" out <(printf '%s\n' "records 23" "refused 0" "passed 0" "items 23" "unwritten 0")
+  is_same "$it to counts" out <(printf '%s\n' "records 23" "refused 0" "passed 0" "carried 0" "items 23" "unwritten 0")
 done
 run "all systems of a file as an object" 0 - --json -t rtcm -o json.rtcm3 every4.rnx
 has "all systems of a file as an object" out format,made,unwritten,rejected,skipped '[["rinex", 23, 1, 0, 0]]'
@@ -363,7 +363,7 @@ is_same "the command for RINEX 2" shown2.rnx older.rnx
 cp "$examples/rtklib_style.nav" .
 run "other systems in RINEX 4" 0 "skip.rnx: 3 ephemerides; 3 records rejected" "${date[@]}" -o skip.rnx rtklib_style.nav
 sed 's/FDMA/L1OC/; s/^> EPH C06 D1/> EPH C06 CNV1/; s/FNAV/XNAV/' rtklib_style.nav > unread.nav
-run "other messages in RINEX 4" 0 "skip.rnx: 2 ephemerides; 1 record rejected; skipped: 1 GLONASS, 1 BeiDou, 1 other records" "${date[@]}" --overwrite -o skip.rnx unread.nav
+run "other messages in RINEX 4" 0 "skip.rnx: 2 ephemerides, 3 other records; 1 record rejected" "${date[@]}" --overwrite -o skip.rnx unread.nav
 run "other systems in RINEX 3" 0 "v.list: made of 4 ephemerides and ionosphere records; nothing rejected, nothing skipped" -t list -o v.list version3.nav
 cat > other.py << 'END'
 import struct, sys

@@ -53,8 +53,8 @@ drop_next (suc k) (x ∷ all) line more e = drop_next k all line more e
 pub next_kept : (all kept : List (List ℕ)) (k : ℕ) (line : List ℕ) (more : List (List ℕ)) → k < 9 → kept ≡ map padded (take k all) → drop k all ≡ line ∷ more
     → kept_with kept line ≡ map padded (take (k + 1) all)
 next_kept all kept k line more few is e =
-    let short : nat_lt (length (map padded (take k all))) 9 ≡ true =
-    lt-ltb (length (map padded (take k all))) 9 (omega (arith, length-map (take k all) padded, length-take k all)) in
+    let short : nat_lt (length (map padded (take k all))) 18 ≡ true =
+    lt-ltb (length (map padded (take k all))) 18 (omega (arith, length-map (take k all) padded, length-take k all)) in
     let next : suc k ≡ k + 1 = omega arith in
     ap (λ (ks : List (List ℕ)). kept_with ks line) is
     ∙ ap (λ (b : Bool). if b then map padded (take k all) ++ padded line ∷ [] else map padded (take k all)) short

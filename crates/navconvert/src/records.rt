@@ -1,7 +1,7 @@
 //! What a navigation file has besides records that are converted: those of other systems, and those
 //! of another version.
 
-use crate::systems::{FNAV, Skips, is_read_title, system_of_letter, system_of_title};
+use crate::systems::{FNAV, Skips, system_of_letter, system_of_title};
 use arrayvec::ArrayVec;
 use memchr::memchr;
 use std::mem;
@@ -22,8 +22,6 @@ pub(crate) struct Records {
     is_galileo: bool,
     /// The records that are skipped if those of GPS and Galileo I/NAV alone are read.
     pub skips: Skips,
-    /// Those that are skipped if those of all systems are.
-    pub unread: Skips,
     /// The first line of another version.
     pub other: Option<u64>,
 }
@@ -39,7 +37,6 @@ impl Records {
             place: 0,
             is_galileo: false,
             skips: Skips::new(),
-            unread: Skips::new(),
             other: None,
         }
     }
@@ -119,9 +116,6 @@ impl Records {
             self.place = 0;
             if let Some(system) = system_of_title(line) {
                 self.skips.add(system, 1);
-                if !is_read_title(line) {
-                    self.unread.add(system, 1);
-                }
             }
         } else {
             self.place = self.place.saturating_add(1);

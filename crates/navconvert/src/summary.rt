@@ -21,9 +21,11 @@ pub(crate) struct JobCounts {
     pub amiss: [u64; KINDS],
     /// The records or messages that were skipped.
     pub skipped: u64,
-    /// Those of `items` for which the output format has no record or message; none, if they are not
-    /// counted.
+    /// Those of `items` and `carried` for which the output format has no record or message; none, if
+    /// they are not counted.
     pub unwritten: Option<u64>,
+    /// The records of other kinds whose lines are written; none, if they are not counted.
+    pub carried: Option<u64>,
     /// The GPS week of their last epoch, if it is known.
     pub last_week: Option<u32>,
 }
@@ -40,6 +42,7 @@ pub(crate) fn counted(done: &Option<Done>) -> JobCounts {
         },
         Some(Done::File(c)) => JobCounts {
             unwritten: Some(c.unwritten),
+            carried: Some(c.carried),
             ..counts_of(Some(c.items), rejected(c.refused), c.passed)
         },
         Some(Done::Merged(c)) => {
@@ -84,6 +87,7 @@ fn counts_of(items: Option<u64>, amiss: [u64; KINDS], skipped: u64) -> JobCounts
         amiss,
         skipped,
         unwritten: None,
+        carried: None,
         last_week: None,
     }
 }
@@ -215,15 +219,10 @@ impl Summary<'_, '_> {
         match (self.parts(), self.counted.items, &self.log) {
             (Some((ephemerides, ionospheres)), _, _) => {
                 write_count(f, ": ", ephemerides, ("ephemeris", "ephemerides"))?;
-                if ionospheres == 0 {
-                    return Ok(());
-                }
-                write_count(
-                    f,
-                    ", ",
-                    ionospheres,
-                    ("ionosphere record", "ionosphere records"),
-                )
+                write_some(f, true, ionospheres, ("ionosphere record", ""))?;
+                let carried = self.counted.carried.unwrap_or(0);
+                write_some(f, true, carried, ("other record", ""))?;
+                Ok(())
             }
             (None, Some(items), _) => {
                 write_count(f, ": made of ", items, ITEMS)?;
@@ -298,6 +297,7 @@ impl Summary<'_, '_> {
         write_member(f, ",", "ephemerides", ephemerides)?;
         write_member(f, ",", "ionospheres", ionospheres)?;
         write_member(f, ",", "unwritten", self.counted.unwritten)?;
+        write_member(f, ",", "carried", self.counted.carried)?;
         for place in 0..KINDS {
             write_member(f, ",", AMISS[place].0, Some(self.amiss(place)))?;
         }

@@ -115,15 +115,19 @@ pub(crate) fn system_in(numbers: &[Numbers], number: u16) -> Option<System> {
     None
 }
 
-// The messages of RINEX 4 whose ephemerides of other systems are read, by the letter of the satellite.
-static READ: [(u8, &[u8]); 7] = [
-    (b'R', b"FDMA"),
-    (b'E', b"FNAV"),
-    (b'C', b"D1"),
-    (b'C', b"D2"),
-    (b'J', b"LNAV"),
-    (b'I', b"LNAV"),
-    (b'S', b"SBAS"),
+// The records of RINEX 4 that are read: their type, the letter of the satellite, and the message.
+static READ: [(&[u8], u8, &[u8]); 11] = [
+    (b"EPH", b'G', b"LNAV"),
+    (b"EPH", b'E', b"INAV"),
+    (b"EPH", b'R', b"FDMA"),
+    (b"EPH", b'E', b"FNAV"),
+    (b"EPH", b'C', b"D1"),
+    (b"EPH", b'C', b"D2"),
+    (b"EPH", b'J', b"LNAV"),
+    (b"EPH", b'I', b"LNAV"),
+    (b"EPH", b'S', b"SBAS"),
+    (b"ION", b'G', b"LNAV"),
+    (b"ION", b'E', b"IFNV"),
 ];
 
 /// The system of a record of RINEX, by the letter of its satellite.
@@ -144,13 +148,14 @@ pub(crate) fn system_of_title(title: &[u8]) -> Option<System> {
     }
 }
 
-/// Whether a record of RINEX 4 is an ephemeris of another system that is read, by its title.
+/// Whether a record of RINEX 4 is of a kind that is read, by its title.
 pub(crate) fn is_read_title(title: &[u8]) -> bool {
-    let Some([b'E', b'P', b'H', _, letter, _, _, _, message @ ..]) = title.get(2..) else {
+    let (Some(class), Some([letter, _, _, _, message @ ..])) = (title.get(2..5), title.get(6..))
+    else {
         return false;
     };
-    for (system, name) in &READ {
-        if letter == system && message.starts_with(name) {
+    for (known, system, name) in &READ {
+        if class == *known && letter == system && message.starts_with(name) {
             return true;
         }
     }

@@ -86,7 +86,7 @@ impl Watch {
             self.tell();
         }
         match &self.records {
-            Some(records) if is_of_all => records.unread,
+            Some(_) if is_of_all => Skips::new(),
             Some(records) => records.skips,
             None => self.messages.skips(kind),
         }

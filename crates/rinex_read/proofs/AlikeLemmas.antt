@@ -154,9 +154,22 @@ looked_alike zero ls = tt
 looked_alike (suc n) [] = tt
 looked_alike (suc n) (l ∷ ls) = (padded_alike l, looked_alike n ls)
 
+-- where more lines are alike, so are fewer
+pub fewer_alike : (n k : ℕ) (ls ms : List (List ℕ)) → n ≤ k → AreAlike k ls ms → AreAlike n ls ms
+fewer_alike zero k ls ms h a = tt
+fewer_alike (suc n) zero ls ms h a = absurd (omega arith)
+fewer_alike (suc n) (suc k) [] [] h a = tt
+fewer_alike (suc n) (suc k) [] (m ∷ ms) h a = absurd a
+fewer_alike (suc n) (suc k) (l ∷ ls) [] h a = absurd a
+fewer_alike (suc n) (suc k) (l ∷ ls) (m ∷ ms) h a = (a.0, fewer_alike n k ls ms (omega arith) a.1)
+
 -- what matters of lines is judged as the lines are
 pub judged_looked_at : (ls : List (List ℕ)) → judged (map padded (take 9 ls)) ≡ judged ls
 judged_looked_at ls = judged_alike (map padded (take 9 ls)) ls (looked_alike 9 ls)
+
+-- and so is what is stored of them
+pub judged_stored : (ls : List (List ℕ)) → judged (map padded (take 18 ls)) ≡ judged ls
+judged_stored ls = judged_alike (map padded (take 18 ls)) ls (fewer_alike 9 18 _ ls (omega arith) (looked_alike 18 ls))
 
 pub are_itself : (n : ℕ) (ls : List (List ℕ)) → AreAlike n ls ls
 are_itself zero ls = tt

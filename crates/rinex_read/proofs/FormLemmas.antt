@@ -34,20 +34,20 @@ same_kept (suc n) (l ∷ ls) (m ∷ ms) a =
     ap (λ t. t ∷ map padded (take n ls)) (columns_alike 80 0 l m a.0 (omega arith)) ∙ ap (λ t. padded m ∷ t) (same_kept n ls ms a.1)
 
 -- and judged alike
-form_alike : {R : Type 0} (f : Form R) → LooksAtKept f → (n : ℕ) (ls ms : List (List ℕ)) → AreAlike 9 ls ms → f.judged n ls ≡ f.judged n ms
-form_alike f law n ls ms a = sym (law n ls) ∙ ap (f.judged n) (same_kept 9 ls ms a) ∙ law n ms
+form_alike : {R : Type 0} (f : Form R) → LooksAtKept f → (n : ℕ) (ls ms : List (List ℕ)) → AreAlike 18 ls ms → f.judged n ls ≡ f.judged n ms
+form_alike f law n ls ms a = sym (law n ls) ∙ ap (f.judged n) (same_kept 18 ls ms a) ∙ law n ms
 
 -- kept lines are judged as the lines are, whatever lines follow
 pub form_kept : {R : Type 0} (f : Form R) → LooksAtKept f → (n : ℕ) (ks : List (List ℕ)) (l : List ℕ) (more : List (List ℕ)) → f.judged n (kept_with ks l ++ more) ≡ f.judged n (ks ++ l ∷ more)
 form_kept f law n ks l more = ⊎_elim
-    (λ (room : length ks < 9).
-    ap (λ b. f.judged n ((if b then ks ++ padded l ∷ [] else ks) ++ more)) (lt-ltb (length ks) 9 room)
+    (λ (room : length ks < 18).
+    ap (λ b. f.judged n ((if b then ks ++ padded l ∷ [] else ks) ++ more)) (lt-ltb (length ks) 18 room)
     ∙ ap (f.judged n) (append_assoc ks (padded l ∷ []) more)
-    ∙ form_alike f law n (ks ++ padded l ∷ more) (ks ++ l ∷ more) (replaced_alike 9 ks (padded l) l more (padded_alike l)))
-    (λ (full : 9 ≤ length ks).
-    ap (λ b. f.judged n ((if b then ks ++ padded l ∷ [] else ks) ++ more)) (le-ltb (length ks) 9 full)
-    ∙ form_alike f law n (ks ++ more) (ks ++ l ∷ more) (behind_alike 9 ks more (l ∷ more) full))
-    (cases_lt (length ks) 9)
+    ∙ form_alike f law n (ks ++ padded l ∷ more) (ks ++ l ∷ more) (replaced_alike 18 ks (padded l) l more (padded_alike l)))
+    (λ (full : 18 ≤ length ks).
+    ap (λ b. f.judged n ((if b then ks ++ padded l ∷ [] else ks) ++ more)) (le-ltb (length ks) 18 full)
+    ∙ form_alike f law n (ks ++ more) (ks ++ l ∷ more) (behind_alike 18 ks more (l ∷ more) full))
+    (cases_lt (length ks) 18)
 
 -- long lines are cut
 abbrev cut : List ℕ → List ℕ
@@ -81,7 +81,7 @@ reads_cut f law n (l ∷ ls) =
     ap (λ b. if b then f.judged (n + 1) (cut l ∷ up_to_next f (map cut ls)) ∷ reads f (n + 1) (map cut ls) else reads f (n + 1) (map cut ls)) (begins_cut f l)
     ∙ ap (λ t. if begins f l then f.judged (n + 1) (cut l ∷ t) ∷ reads f (n + 1) (map cut ls) else reads f (n + 1) (map cut ls)) (up_to_cut f ls)
     ∙ ap (λ j. if begins f l then j ∷ reads f (n + 1) (map cut ls) else reads f (n + 1) (map cut ls))
-    (form_alike f law (n + 1) (cut l ∷ map cut (up_to_next f ls)) (l ∷ up_to_next f ls) (cuts_alike 9 (l ∷ up_to_next f ls)))
+    (form_alike f law (n + 1) (cut l ∷ map cut (up_to_next f ls)) (l ∷ up_to_next f ls) (cuts_alike 18 (l ∷ up_to_next f ls)))
     ∙ ap (λ rs. if begins f l then f.judged (n + 1) (l ∷ up_to_next f ls) ∷ rs else rs) next
 
 pub ends_alike : (l m : List ℕ) → IsAlike l m → ends_header l ≡ ends_header m

@@ -10,15 +10,8 @@ use Rattle.rinex_read.specs.Judging.{judged}
 use Rattle.rinex_read.specs.Forms.{LooksAtKept, GivesWhole, read_at}
 use Rattle.rinex_read.specs.RoundTrip.{IsWholeRead}
 use Rattle.rinex_read.proofs.ListedLemmas.{whole_at}
-use Rattle.rinex_read.proofs.Surface.{IsAlike, columns_alike, alike_itself, AreAlike, all_alike, judged_alike, looked_alike, judged_whole}
+use Rattle.rinex_read.proofs.Surface.{IsAlike, columns_alike, alike_itself, AreAlike, all_alike, fewer_alike, judged_alike, looked_alike, judged_whole}
 use Rattle.rinex_read.specs.Form3.{is_inav, says_inav, whole, titled, judged3, rinex3}
-
-fewer_alike : (n : ℕ) (ls ms : List (List ℕ)) → AreAlike (suc n) ls ms → AreAlike n ls ms
-fewer_alike zero ls ms a = tt
-fewer_alike (suc n) [] [] a = tt
-fewer_alike (suc n) [] (m ∷ ms) a = absurd a
-fewer_alike (suc n) (l ∷ ls) [] a = absurd a
-fewer_alike (suc n) (l ∷ ls) (m ∷ ms) a = (a.0, fewer_alike n ls ms a.1)
 
 line_alike : (n i : ℕ) (ls ms : List (List ℕ)) → i < n → AreAlike n ls ms → IsAlike (get_or ls i []) (get_or ms i [])
 line_alike zero i ls ms h a = absurd (omega arith)
@@ -43,7 +36,7 @@ inav_alike ls ms a =
 titled_judged : (message l m : List ℕ) (ls ms : List (List ℕ)) → AreAlike 9 (l ∷ ls) (m ∷ ms) → judged (titled message l ∷ l ∷ ls) ≡ judged (titled message m ∷ m ∷ ms)
 titled_judged message l m ls ms a =
     let title : IsAlike (titled message l) (titled message m) = subst (IsAlike (titled message l)) (titled_alike message l m a.0) (alike_itself (titled message l)) in
-    judged_alike (titled message l ∷ l ∷ ls) (titled message m ∷ m ∷ ms) (title, fewer_alike 8 (l ∷ ls) (m ∷ ms) a)
+    judged_alike (titled message l ∷ l ∷ ls) (titled message m ∷ m ∷ ms) (title, fewer_alike 8 9 (l ∷ ls) (m ∷ ms) (omega arith) a)
 
 judged3_alike : (ls ms : List (List ℕ)) → AreAlike 9 ls ms → judged3 ls ≡ judged3 ms
 unfolding judged3
@@ -58,7 +51,7 @@ judged3_alike (l ∷ ls) (m ∷ ms) a =
     ∙ ap (λ j. if get_or m 0 32 == 71 then judged (titled (codes "LNAV") m ∷ m ∷ ms) else if get_or m 0 32 == 69 && is_inav (m ∷ ms) then j else judgments.PassedOver) (titled_judged (codes "INAV") l m ls ms a)
 
 pub looks_at_kept3 : LooksAtKept rinex3
-looks_at_kept3 = λ number lines. ap (read_at number) (judged3_alike _ lines (looked_alike 9 lines))
+looks_at_kept3 = λ number lines. ap (read_at number) (judged3_alike _ lines (fewer_alike 9 18 _ lines (omega arith) (looked_alike 18 lines)))
 
 whole_items : (lines : List (List ℕ)) (item : NavItem) → judged3 lines ≡ judgments.Item item → IsItem item
 unfolding judged3

@@ -12,7 +12,7 @@ held_some f [] first n more h = absurd (omega arith)
 held_some f (k ∷ ks) first n more h = refl
 
 some_kept : (k : List ℕ) (ks : List (List ℕ)) (line : List ℕ) → 0 < length (kept_with (k ∷ ks) line)
-some_kept k ks line = go (nat_lt (length (k ∷ ks)) 9)
+some_kept k ks line = go (nat_lt (length (k ∷ ks)) 18)
   where
     go : (b : Bool) → 0 < length (if b then (k ∷ ks) ++ padded line ∷ [] else k ∷ ks)
     go true = omega arith

@@ -18,9 +18,9 @@ pub record Form (R : Type 0) : Type 0 where
   -- what a record gives, by the number of its first line and its lines, the title included
   pub judged : ℕ → List (List ℕ) → R
 
--- only the first nine lines of a record, and of each the first 80 characters, matter
+-- only the first eighteen lines of a record, and of each the first 80 characters, matter
 abbrev pub LooksAtKept : {R : Type 0} → Form R → Type 0
-LooksAtKept f = (number : ℕ) (lines : List (List ℕ)) → f.judged number (map padded (take 9 lines)) ≡ f.judged number lines
+LooksAtKept f = (number : ℕ) (lines : List (List ℕ)) → f.judged number (map padded (take 18 lines)) ≡ f.judged number lines
 
 -- what holds of each value that a record gives
 abbrev pub GivesWhole : {R : Type 0} → Form R → (R → Type 0) → Type 0

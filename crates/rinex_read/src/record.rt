@@ -15,13 +15,14 @@ use crate::title::{RecordKind, is_kind};
 use nav_eph::NavItem;
 use std::marker::Model;
 
-/// The lines of a record as far as they matter: the first nine, of each the first 80 characters.
+/// The lines of a record as far as they matter: the first eighteen, of each the first 80
+/// characters.
 ///
 /// Contracts see the list of these lines, filled with blanks. They are judged as all lines that
 /// were pushed would be.
 #[derive(Drop)]
 pub struct RecordLines {
-    lines: [PaddedLine; 9],
+    lines: [PaddedLine; 18],
     count: usize,
 }
 
@@ -33,7 +34,7 @@ impl Model for RecordLines {
 
     ghost view = { λ r. take r.count r.lines };
 
-    ghost invariant = { λ r. (r.count ≤ 9)
+    ghost invariant = { λ r. (r.count ≤ 18)
         × (map padded (take r.count r.lines) ≡ take r.count r.lines) };
 }
 
@@ -105,7 +106,7 @@ impl RecordLines {
         ensures { result ≡ [] }
     {
         RecordLines {
-            lines: [[b' '; 80]; 9],
+            lines: [[b' '; 80]; 18],
             count: 0,
         }
     }
@@ -128,7 +129,7 @@ impl RecordLines {
     fn keep(&mut self, line: &[u8])
         ensures { self.new ≡ kept_with self.old line.now }
     {
-        if self.count < 9 {
+        if self.count < 18 {
             self.lines[self.count] = padded(line);
             self.count += 1;
         }
@@ -137,7 +138,7 @@ impl RecordLines {
     /// Takes the next line of the record, without its line end; the first one is the title, as `>
     /// EPH G05 LNAV`.
     ///
-    /// Lines after the ninth and characters after the 80th are dropped; they do not matter.
+    /// Lines after the eighteenth and characters after the 80th are dropped; they do not matter.
     pub fn push(&mut self, line: &[u8])
         ensures kept { self.new ≡ kept_with self.old line.now }
 
@@ -157,7 +158,7 @@ impl RecordLines {
 
     /// The stored lines would be stored as they are. It does nothing; its contract is the theorem.
     pub fn are_kept(&self)
-        ensures { map padded (take 9 self.now) ≡ self.now }
+        ensures { map padded (take 18 self.now) ≡ self.now }
     {
         let _kept = &self.lines[..self.count];
     }

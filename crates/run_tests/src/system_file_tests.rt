@@ -158,6 +158,38 @@ const NOT_KNOWN_TOO: &[u8] = b"    \
 const BELOW: &[u8] = b"    \
     \x201.700000000000D+01 1.024454832077D-08 4.000000000000D+00-1.000000000000D+12\n";
 
+// A record of another kind of 11 lines, from an independent writer, and its text.
+const CARRIED: &[u8] = b"\
+    > EPH C20 CNV1\n\
+    C20 2024 01 02 02 00 00 1.000000000000e-04-2.000000000000e-12 0.000000000000e+00\n\
+    \x20    0.000000000000e+00-3.150000000000e+01 4.100000000000e-09 5.000000000000e-01\n\
+    \x20   -1.200000000000e-06 1.500000000000e-03 5.500000000000e-06 5.153600000000e+03\n\
+    \x20    1.728000000000e+05 1.000000000000e-08-2.500000000000e+00-3.000000000000e-08\n\
+    \x20    9.600000000000e-01 2.505000000000e+02 9.000000000000e-01-8.200000000000e-09\n\
+    \x20    1.000000000000e-10 2.000000000000e-14 3.000000000000e+00 1.719000000000e+05\n\
+    \x20    0.000000000000e+00 1.000000000000e+00 1.000000000000e+00 1.000000000000e+00\n\
+    \x20    1.000000000000e-10                   -4.000000000000e-09 2.000000000000e-09\n\
+    \x20    1.500000000000e+01 0.000000000000e+00 0.000000000000e+00 2.000000000000e+01\n\
+    \x20    1.728090000000e+05                                       2.000000000000e+01\n";
+
+const CARRIED_TEXT: &[u8] = b"\
+    > EPH C20 CNV1\n\
+    C20 2024 01 02 02 00 00 1.000000000000D-04-2.000000000000D-12 0.000000000000D+00\n\
+    \x20    0.000000000000D+00-3.150000000000D+01 4.100000000000D-09 5.000000000000D-01\n\
+    \x20   -1.200000000000D-06 1.500000000000D-03 5.500000000000D-06 5.153600000000D+03\n\
+    \x20    1.728000000000D+05 1.000000000000D-08-2.500000000000D+00-3.000000000000D-08\n\
+    \x20    9.600000000000D-01 2.505000000000D+02 9.000000000000D-01-8.200000000000D-09\n\
+    \x20    1.000000000000D-10 2.000000000000D-14 3.000000000000D+00 1.719000000000D+05\n\
+    \x20    0.000000000000D+00 1.000000000000D+00 1.000000000000D+00 1.000000000000D+00\n\
+    \x20    1.000000000000D-10                   -4.000000000000D-09 2.000000000000D-09\n\
+    \x20    1.500000000000D+01 0.000000000000D+00 0.000000000000D+00 2.000000000000D+01\n\
+    \x20    1.728090000000D+05                                       2.000000000000D+01\n";
+
+// One of 12 lines, and one of 13.
+const LONG: &[u8] = b"> EPH R04 L1OC\n\n\n\n\n\n\n\n\n\n\n\n";
+
+const TOO_LONG: &[u8] = b"> EPH R04 L3OC\n\n\n\n\n\n\n\n\n\n\n\n\n";
+
 // An empty sink.
 fn sink_of(alloc: Global) -> Result<MemSink, AllocError> {
     MemSink::new(alloc, 20_000, Vec::new(alloc))
@@ -266,7 +298,7 @@ fn other_records_are_passed_over_or_refused(rt: HostRuntime) -> Result<(), Fail>
         &mut output,
         &mut report,
     )?;
-    let counts: &[u8] = b"records 12\nrefused 2\npassed 1\nitems 9\nunwritten 0\n";
+    let counts: &[u8] = b"records 12\nrefused 2\npassed 0\ncarried 1\nitems 9\nunwritten 0\n";
     let refusals: &[u8] = b"line 81 satellite\nline 83 short\n";
     let told = [refusals, counts].concat(alloc)?;
     assert!(rt; done.is_ok() && output.bytes() == counts && report.bytes() == told.as_slice());
@@ -284,7 +316,22 @@ fn other_records_are_passed_over_or_refused(rt: HostRuntime) -> Result<(), Fail>
         Ok(counts) => counts.unwritten,
         Err(_) => 0,
     };
-    assert!(rt; unwritten == 1);
+    assert!(rt; unwritten == 2);
+    Ok(())
+}
+
+#[test]
+fn records_of_other_kinds_are_carried(rt: HostRuntime) -> Result<(), Fail> {
+    let alloc = rt.alloc();
+    let mut header = sink_of(alloc)?;
+    assert!(rt; write_header(&WORDS, &mut header).is_ok());
+    let given = [header.bytes(), CARRIED, LONG, TOO_LONG, CARRIED].concat(alloc)?;
+    let wanted = [header.bytes(), CARRIED_TEXT, LONG, CARRIED_TEXT].concat(alloc)?;
+    let to = Target::Rinex(WORDS);
+    assert!(rt; becomes(alloc, Version::Four, &to, &given, &wanted)?);
+    assert!(rt; becomes(alloc, Version::Four, &to, &wanted, &wanted)?);
+    let list = Target::ToList;
+    assert!(rt; becomes(alloc, Version::Four, &list, &given, b"")?);
     Ok(())
 }
 

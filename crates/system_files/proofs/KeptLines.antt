@@ -29,14 +29,14 @@ one_judgment PassedOver (Item j) e = cc
 one_judgment PassedOver (Refused s) e = cc
 one_judgment PassedOver PassedOver e = refl
 
-nav_kept : LooksAtKept rinex4 → LooksAtKept rinex3 → (v : Version) (lines : List (List ℕ)) → nav_judged v (map padded (take 9 lines)) ≡ nav_judged v lines
+nav_kept : LooksAtKept rinex4 → LooksAtKept rinex3 → (v : Version) (lines : List (List ℕ)) → nav_judged v (map padded (take 18 lines)) ≡ nav_judged v lines
 nav_kept four three Four lines = one_judgment _ _ (four 0 lines)
 nav_kept four three Three lines = one_judgment _ _ (three 0 lines)
 
-pub reading_kept : LooksAtKept rinex4 → LooksAtKept rinex3 → (ks : Kinds) (v : Version) (lines : List (List ℕ)) → reading_in ks v (map padded (take 9 lines)) ≡ reading_in ks v lines
-reading_kept four three ks v lines = ap (reading_by ks v (map padded (take 9 lines))) (nav_kept four three v lines) ∙ by (nav_judged v lines)
+pub reading_kept : LooksAtKept rinex4 → LooksAtKept rinex3 → (ks : Kinds) (v : Version) (lines : List (List ℕ)) → reading_in ks v (map padded (take 18 lines)) ≡ reading_in ks v lines
+reading_kept four three ks v lines = ap (reading_by ks v (map padded (take 18 lines))) (nav_kept four three v lines) ∙ by (nav_judged v lines)
   where
-    by : (j : Judged) → reading_by ks v (map padded (take 9 lines)) j ≡ reading_by ks v lines j
+    by : (j : Judged) → reading_by ks v (map padded (take 18 lines)) j ≡ reading_by ks v lines j
     by (Item item) = refl
     by (Refused reason) = refl
-    by PassedOver = ap (lines_reading ks v) (kept_again 9 lines)
+    by PassedOver = ap (lines_reading ks v) (kept_again 18 lines)

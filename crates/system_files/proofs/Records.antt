@@ -8,7 +8,7 @@ use Rattle.outlets.specs.declared.target.Target.{Target}
 use Rattle.outlets.specs.declared.times.Times.{Times}
 use Rattle.system_files.specs.Files.{counts_by, counts_of, is_unwritten, reading_text, times_after, times_over}
 use Rattle.system_files.specs.Mirrors.{counted}
-use Rattle.system_files.specs.Readings.{LineRead, Reading, is_item, is_passed, is_refused, reading_report, readings}
+use Rattle.system_files.specs.Readings.{LineRead, Reading, is_carried, is_item, is_passed, is_refused, reading_report, readings}
 use Rattle.system_files.specs.declared.counts.SystemCounts.{SystemCounts}
 
 -- ---- of equal lines and readings
@@ -25,10 +25,10 @@ count-append : (kind : Reading → ℕ) (xs ys : List Reading) → sum (map kind
 count-append kind xs ys =
     sum-map kind (xs ++ ys) ∙ sum_by-append kind xs ys ∙ sym (ap (λ m. m + sum (map kind ys)) (sum-map kind xs) ∙ ap (λ m. sum_by kind xs + m) (sum-map kind ys))
 
-counts_are : (c : SystemCounts) (records refused passed items unwritten : ℕ) (times : Option Times) → c.records ≡ records → c.refused ≡ refused → c.passed ≡ passed
+counts_are : (c : SystemCounts) (records refused passed carried items unwritten : ℕ) (times : Option Times) → c.records ≡ records → c.refused ≡ refused → c.passed ≡ passed → c.carried ≡ carried
     → c.items ≡ items → c.unwritten ≡ unwritten → c.times ≡ times
-    → c ≡ record { records = records; refused = refused; passed = passed; items = items; unwritten = unwritten; times = times }
-counts_are c records refused passed items unwritten times a b d e f g = rw (sym a, sym b, sym d, sym e, sym f, sym g) refl
+    → c ≡ record { records = records; refused = refused; passed = passed; carried = carried; items = items; unwritten = unwritten; times = times }
+counts_are c records refused passed carried items unwritten times a b d h e f g = rw (sym a, sym b, sym d, sym h, sym e, sym f, sym g) refl
 
 times_more : (times : Option Times) (xs : List Reading) (x : Reading) → times_after (times_over times xs) x ≡ times_over times (xs ++ x ∷ [])
 times_more times [] x = refl
@@ -37,10 +37,11 @@ times_more times (y ∷ xs) x = times_more (times_after times y) xs x
 with_more : (to : Target) (xs : List Reading) (x : Reading) (written : Bool) → (if written then 0 else 1) ≡ is_unwritten to x
     → counted (counts_by to xs) written x ≡ counts_by to (xs ++ x ∷ [])
 with_more to xs x written is =
-    counts_are (counted (counts_by to xs) written x) _ _ _ _ _ _
+    counts_are (counted (counts_by to xs) written x) _ _ _ _ _ _ _
     (omega (arith, length-append xs (x ∷ [])))
     (omega (arith, count-append is_refused xs (x ∷ [])))
     (omega (arith, count-append is_passed xs (x ∷ [])))
+    (omega (arith, count-append is_carried xs (x ∷ [])))
     (omega (arith, count-append is_item xs (x ∷ [])))
     (omega (arith, is, count-append (is_unwritten to) xs (x ∷ [])))
     (times_more None xs x)

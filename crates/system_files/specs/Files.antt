@@ -1,8 +1,8 @@
 -- What a run over a navigation file of all systems writes and counts.
-use Rattle.std.specs.Prelude.{ℕ, false, not, Bool, true, List, [], ◌∷◌, ◌++◌, codes, length, map, sum, if◌then◌else◌, Option, None, Result, Ok, Err}
-use Rattle.std.proofs.Common.{inl, inr}
+use Rattle.std.specs.Prelude.{ℕ, false, not, Bool, true, List, [], ◌∷◌, ◌++◌, codes, length, map, sum, if◌then◌else◌, Option, None, Ok, Err}
+use Rattle.std.proofs.Common.{inl, inr, ◌⊎◌}
+use Rattle.carried_records.specs.CarriedLines.{record_text}
 use Rattle.std.specs.List.{flat_map}
-use Rattle.nav_eph.specs.declared.items.NavItem.{NavItem}
 use Rattle.nav_eph.specs.declared.items.NavItem.TheVariants.{Gps, Gal, Ion}
 use Rattle.nav_files.specs.Files.{file_meaning}
 use Rattle.nav_rows.specs.Encoding.{message_of}
@@ -20,7 +20,7 @@ use Rattle.rinex_read.specs.declared.judged.ItemRead.{ItemRead}
 use Rattle.system_streams.specs.Readings.{Item}
 use Rattle.system_streams.specs.Streams.{Numbered, epoch_in, has_message, text_of}
 use Rattle.system_streams.specs.declared.kinds.Kinds.{Kinds}
-use Rattle.system_files.specs.Readings.{LineRead, Reading, is_item, is_passed, is_refused, reading_in, reading_report, readings}
+use Rattle.system_files.specs.Readings.{LineRead, Reading, refused, carried, passed, is_carried, is_item, is_passed, is_refused, reading_in, reading_report, readings}
 use Rattle.system_files.specs.declared.counts.SystemCounts.{SystemCounts}
 use Rattle.system_files.specs.declared.version.Version.{Version}
 use Rattle.system_files.specs.declared.version.Version.TheVariants.{Four, Three}
@@ -86,15 +86,54 @@ has_text Rtcm item = is_sent item
 has_text ToList item = true
 has_text Count item = true
 
--- 1 for an item that has no text in the output format, else 0
+-- a record that is carried has a text in the output format; that of counts has none of any record, which is not counted
+abbrev pub has_carried : Target → Bool
+has_carried (Rinex words) = true
+has_carried (Rinex3 words) = false
+has_carried Rtcm = false
+has_carried ToList = false
+has_carried Count = true
+
+-- 1 for an item or a carried record that has no text in the output format, else 0
 abbrev pub is_unwritten : Target → Reading → ℕ
 is_unwritten to (Ok item) = if has_text to item then 0 else 1
-is_unwritten to (Err fault) = 0
+is_unwritten to (Err (carried lines)) = if has_carried to then 0 else 1
+is_unwritten to (Err (refused reason)) = 0
+is_unwritten to (Err passed) = 0
 
--- the text of the item of a record at this line
+-- the text of the lines of a carried record: in RINEX 4 each line, each number with its exact text
+abbrev pub carried_text : Target → List (List ℕ) → List ℕ
+carried_text (Rinex words) lines = record_text lines
+carried_text (Rinex3 words) lines = []
+carried_text Rtcm lines = []
+carried_text ToList lines = []
+carried_text Count lines = []
+
+-- the text of a record at this line
 abbrev pub reading_text : Target → ℕ → Reading → List ℕ
 reading_text to line (Ok item) = text_of to (line, item)
-reading_text to line (Err fault) = []
+reading_text to line (Err (carried lines)) = carried_text to lines
+reading_text to line (Err (refused reason)) = []
+reading_text to line (Err passed) = []
+
+-- an item, or a carried record, with the number of its first line
+abbrev pub Entry : Type 0
+Entry = Numbered ⊎ List (List ℕ)
+
+abbrev pub entry : ℕ → Reading → List Entry
+entry line (Ok item) = inl (line, item) ∷ []
+entry line (Err (carried lines)) = inr lines ∷ []
+entry line (Err (refused reason)) = []
+entry line (Err passed) = []
+
+-- the items and carried records, in order
+abbrev pub entries_in : List LineRead → List Entry
+entries_in [] = []
+entries_in (read ∷ reads) = entry read.line read.reading ++ entries_in reads
+
+abbrev pub entry_text : Target → Entry → List ℕ
+entry_text to (inl item) = text_of to item
+entry_text to (inr lines) = carried_text to lines
 
 -- what is written and what is reported of a record
 abbrev pub read_text : Target → LineRead → List ℕ
@@ -121,6 +160,7 @@ counts_by to xs = record {
   records = length xs;
   refused = sum (map is_refused xs);
   passed = sum (map is_passed xs);
+  carried = sum (map is_carried xs);
   items = sum (map is_item xs);
   unwritten = sum (map (is_unwritten to) xs);
   times = times_over None xs;
@@ -132,8 +172,9 @@ counts_of to reads = counts_by to (readings reads)
 -- the text of these counts: a line for each, in the order of the fields
 unfoldable pub counts_text : SystemCounts → List ℕ
 counts_text c =
-    (((count_line (codes "records") c.records ++ count_line (codes "refused") c.refused)
-    ++ count_line (codes "passed") c.passed) ++ count_line (codes "items") c.items) ++ count_line (codes "unwritten") c.unwritten
+    ((((count_line (codes "records") c.records ++ count_line (codes "refused") c.refused)
+    ++ count_line (codes "passed") c.passed) ++ count_line (codes "carried") c.carried)
+    ++ count_line (codes "items") c.items) ++ count_line (codes "unwritten") c.unwritten
 
 -- ---- the run
 

@@ -1,5 +1,5 @@
 -- The records of all systems in a navigation file: what one gives, and what is reported of it.
-use Rattle.std.specs.Prelude.{ℕ, List, [], ◌∷◌, codes, get_or, map, replicate, set, take, Option, None, Some, Result, Ok, Err}
+use Rattle.std.specs.Prelude.{ℕ, nat_le, if◌then◌else◌, List, [], ◌∷◌, codes, get_or, length, map, replicate, set, take, Option, None, Some, Result, Ok, Err}
 use Rattle.std.proofs.Common.{inl, inr}
 use Rattle.one_run.specs.Reports.{report_line}
 use Rattle.rinex_read.specs.Form3.{judged3}
@@ -19,9 +19,15 @@ use Rattle.system_files.specs.Selecting.{kind_in}
 use Rattle.system_files.specs.declared.version.Version.{Version}
 use Rattle.system_files.specs.declared.version.Version.TheVariants.{Four, Three}
 
--- what a record gives: an item, a reason why it is rejected, or nothing if it is of a kind that is not read
+-- why a record gives no item: it is rejected for a reason, its lines are carried, or it is of a kind that is not read
+pub data NoItem : Type 0 where
+  refused : Reason → NoItem
+  carried : List (List ℕ) → NoItem
+  passed : NoItem
+
+-- what a record gives
 abbrev pub Reading : Type 0
-Reading = Result Item (Option Reason)
+Reading = Result Item NoItem
 
 -- a title of RINEX 4 with nothing but the satellite with which a line begins
 abbrev pub sat_title : List ℕ → List ℕ
@@ -35,10 +41,15 @@ row_in Three k (l ∷ ls) = row_read k (sat_title l) (l ∷ ls)
 
 abbrev pub row_reading : Kind → Result RowValue Reason → Reading
 row_reading k (Ok row) = Ok (inr (record { kind = k; row = row }))
-row_reading k (Err reason) = Err (Some reason)
+row_reading k (Err reason) = Err (refused reason)
+
+-- a record of another kind: in RINEX 4 its lines are carried, if there are at most 12
+abbrev pub other_reading : Version → List (List ℕ) → NoItem
+other_reading Four lines = if nat_le (length lines) 12 then carried lines else passed
+other_reading Three lines = passed
 
 abbrev pub kind_reading : Option Kind → Version → List (List ℕ) → Reading
-kind_reading None v lines = Err None
+kind_reading None v lines = Err (other_reading v lines)
 kind_reading (Some k) v lines = row_reading k (row_in v k lines)
 
 -- the reading of the lines of a record that is none of GPS LNAV and Galileo I/NAV
@@ -53,8 +64,8 @@ nav_judged Three lines = judged3 lines
 -- the reading of a record of these lines that is judged so; of the lines of any other record only those that are stored matter
 abbrev pub reading_by : Kinds → Version → List (List ℕ) → Judged → Reading
 reading_by ks v lines (ItemOf item) = Ok (inl item)
-reading_by ks v lines (Refused reason) = Err (Some reason)
-reading_by ks v lines PassedOver = lines_reading ks v (map padded (take 9 lines))
+reading_by ks v lines (Refused reason) = Err (refused reason)
+reading_by ks v lines PassedOver = lines_reading ks v (map padded (take 18 lines))
 
 -- the reading of a record
 abbrev pub reading_in : Kinds → Version → List (List ℕ) → Reading
@@ -72,19 +83,28 @@ readings reads = map (λ (r : LineRead). r.reading) reads
 -- the report line of a rejected record: the number of its first line, and the reason
 abbrev pub reading_report : ℕ → Reading → List ℕ
 reading_report line (Ok item) = []
-reading_report line (Err None) = []
-reading_report line (Err (Some reason)) = report_line (codes "line") line (reason_text reason)
+reading_report line (Err passed) = []
+reading_report line (Err (carried lines)) = []
+reading_report line (Err (refused reason)) = report_line (codes "line") line (reason_text reason)
 
--- 1 for a rejected record, for one of a kind that is not read, and for an item, else 0
+-- 1 for a rejected record, for one of a kind that is not read, for one that is carried, and for an item, else 0
 abbrev pub is_refused : Reading → ℕ
 is_refused (Ok item) = 0
-is_refused (Err None) = 0
-is_refused (Err (Some reason)) = 1
+is_refused (Err passed) = 0
+is_refused (Err (carried lines)) = 0
+is_refused (Err (refused reason)) = 1
 
 abbrev pub is_passed : Reading → ℕ
 is_passed (Ok item) = 0
-is_passed (Err None) = 1
-is_passed (Err (Some reason)) = 0
+is_passed (Err passed) = 1
+is_passed (Err (carried lines)) = 0
+is_passed (Err (refused reason)) = 0
+
+abbrev pub is_carried : Reading → ℕ
+is_carried (Ok item) = 0
+is_carried (Err passed) = 0
+is_carried (Err (carried lines)) = 1
+is_carried (Err (refused reason)) = 0
 
 abbrev pub is_item : Reading → ℕ
 is_item (Ok item) = 1

@@ -18,9 +18,11 @@ pub struct SystemCounts {
     pub refused: u64,
     /// The records of kinds that are not read.
     pub passed: u64,
+    /// The records of other kinds whose lines are carried.
+    pub carried: u64,
     /// The items, repeats included.
     pub items: u64,
-    /// The items that have no record or message in the output format.
+    /// The items and carried records that have no record or message in the output format.
     pub unwritten: u64,
     /// The first and the last epoch of the items.
     pub times: Option<Times>,
@@ -36,6 +38,7 @@ impl SystemCounts {
             records: 0,
             refused: 0,
             passed: 0,
+            carried: 0,
             items: 0,
             unwritten: 0,
             times: None,
@@ -51,11 +54,12 @@ fn times_after(times: Option<Times>, given: &Given) -> Option<Times>
         Given::Nav(item) => with_item(times, item),
         Given::Further(_, row) => with_time(times, row.moment),
         Given::Refused(_) => times,
+        Given::Carried(_) => times,
         Given::Passed => times,
     }
 }
 
-// Counts a record; whether its item has a text.
+// Counts a record; whether it has a text.
 pub(crate) fn count_read(given: &Given, written: bool, counts: &mut SystemCounts)
     requires room { counts.old.records + 1 < 2 ^ 64 }
     requires counted { AreCounted counts.old }
@@ -67,6 +71,7 @@ pub(crate) fn count_read(given: &Given, written: bool, counts: &mut SystemCounts
         Given::Nav(_) => counts.items += 1,
         Given::Further(_, _) => counts.items += 1,
         Given::Refused(_) => counts.refused += 1,
+        Given::Carried(_) => counts.carried += 1,
         Given::Passed => counts.passed += 1,
     }
     if !written {
@@ -85,6 +90,7 @@ pub(crate) fn counts_text(counts: &SystemCounts) -> Text
     append_count(&mut text, b"records", counts.records);
     append_count(&mut text, b"refused", counts.refused);
     append_count(&mut text, b"passed", counts.passed);
+    append_count(&mut text, b"carried", counts.carried);
     append_count(&mut text, b"items", counts.items);
     append_count(&mut text, b"unwritten", counts.unwritten);
     text

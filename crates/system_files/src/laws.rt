@@ -9,7 +9,8 @@ ghost use Rattle.outlets.specs.declared.target.Target.{Target};
 ghost use Rattle.rinex_read.specs.Files.{file_reads, list_by};
 ghost use Rattle.system_streams.specs.Streams.{navs, text_of};
 ghost use Rattle.system_streams.specs.declared.kinds.Kinds.{Kinds};
-ghost use Rattle.system_files.specs.Files.{file_items, items_in, nav_form, nav_items, text_by};
+ghost use Rattle.system_files.specs.Files.{entries_in, entry_text, file_items, nav_form, nav_items};
+ghost use Rattle.system_files.specs.Files.{text_by};
 ghost use Rattle.system_files.specs.Readings.{LineRead};
 ghost use Rattle.system_files.specs.declared.version.Version.{Version};
 
@@ -25,8 +26,8 @@ pub fn a_file_has_the_same_items_of_gps_and_galileo()
         ≡ prefix_text to ++ flat_map (text_of to) (nav_items (file_items ks v bytes)) }
 {}
 
-/// What a run writes record by record is the text of the items.
+/// What a run writes record by record is the text of the items and carried records.
 pub fn what_is_written_of_a_file_is_the_text_of_its_items()
     ensures { (to : Target) (reads : List LineRead)
-        → text_by to reads ≡ prefix_text to ++ flat_map (text_of to) (items_in reads) }
+        → text_by to reads ≡ prefix_text to ++ flat_map (entry_text to) (entries_in reads) }
 {}

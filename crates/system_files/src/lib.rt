@@ -3,7 +3,8 @@
 //! [`run_system_file`] writes each ephemeris of a file, in the order of its records, as navigation
 //! file, frames or list. Its GPS LNAV and Galileo I/NAV ephemerides, and the ionosphere parameters,
 //! are those of [`nav_files::run_rinex`] and [`nav_files::run_rinex3`], in the same order; the
-//! others come from the tables of [`nav_rows`]. Records of other kinds are skipped and counted.
+//! others come from the tables of [`nav_rows`]. Of other records of RINEX 4 the lines are
+//! carried, by [`carried_records`]; records of other kinds are skipped and counted.
 //! [`run_system_merge`] writes each once, in order of time.
 //!
 //! ```rust

@@ -1,16 +1,17 @@
 //! What a record gives.
 
-ghost use Rattle.std.specs.Prelude.{◌≡◌, IfOk};
+ghost use Rattle.std.specs.Prelude.{◌≡◌, ◌≤◌, Err, IfOk, length};
 ghost use Rattle.rinex_read.specs.Mirrors.{Gives};
 ghost use Rattle.rinex_write.specs.Columns.{AreFields};
 ghost use Rattle.nav_rows.specs.Kinds.{IsKind};
 ghost use Rattle.nav_rows.specs.Rows.{value};
 ghost use Rattle.system_files.specs.Mirrors.{HasFields, view_given};
 ghost use Rattle.system_files.specs.Readings.{lines_reading, nav_judged, reading_in, row_in};
-ghost use Rattle.system_files.specs.Readings.{row_reading, sat_title};
+ghost use Rattle.system_files.specs.Readings.{other_reading, row_reading, sat_title};
 
 use crate::select::kind_in;
 use crate::version::Version;
+use arrayvec::ArrayVec;
 use nav_eph::NavItem;
 use nav_rows::{Kind, Row, read_record};
 use rinex_read::{Judged, Reason, RecordLines, judge3};
@@ -26,6 +27,8 @@ pub(crate) enum Given {
     Further(Kind, Row),
     /// Nothing, for this reason.
     Refused(Reason),
+    /// Nothing, and its lines are carried: it is of another kind of RINEX 4.
+    Carried(ArrayVec<[u8; 80], 12>),
     /// Nothing: it is of a kind that is not read.
     Passed,
 }
@@ -68,6 +71,35 @@ fn read_kind(version: Version, kind: Kind, lines: &[[u8; 80]]) -> Given
     }
 }
 
+// The lines of a record that is carried.
+fn lines_of(lines: &[[u8; 80]]) -> ArrayVec<[u8; 80], 12>
+    requires { length lines.now ≤ 12 }
+    ensures { result.items ≡ lines.now }
+{
+    let mut kept = ArrayVec::new();
+    if kept.try_extend_from_slice(lines).is_err() {
+        unreachable!();
+    }
+    kept
+}
+
+// What a record of another kind gives.
+fn read_other(version: Version, lines: &[[u8; 80]]) -> Given
+    ensures same { view_given result ≡ Err (other_reading version lines.now) }
+    ensures fields { HasFields result }
+{
+    match version {
+        Version::Four => {
+            if lines.len() <= 12 {
+                Given::Carried(lines_of(lines))
+            } else {
+                Given::Passed
+            }
+        }
+        Version::Three => Given::Passed,
+    }
+}
+
 // What the lines of a record give that is none of GPS LNAV and Galileo I/NAV.
 fn read_lines(kinds: &Kinds, version: Version, lines: &[[u8; 80]]) -> Given
     ensures same { view_given result ≡ lines_reading kinds.now version lines.now }
@@ -75,7 +107,7 @@ fn read_lines(kinds: &Kinds, version: Version, lines: &[[u8; 80]]) -> Given
 {
     match kind_in(kinds, version, lines) {
         Some(kind) => read_kind(version, kind, lines),
-        None => Given::Passed,
+        None => read_other(version, lines),
     }
 }
 

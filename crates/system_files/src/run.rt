@@ -13,7 +13,7 @@ ghost use Rattle.system_files.specs.Readings.{reading_report};
 use crate::counts::{SystemCounts, count_read, counts_text};
 use crate::form::SystemForm;
 use crate::read::{Given, RecordRead};
-use crate::text::{has_text, write_row};
+use crate::text::{has_text, write_carried, write_row};
 use crate::version::Version;
 use nav_files::{Taker, reason_word, run_file};
 use nav_io::{Failed, Sink, Source};
@@ -21,8 +21,8 @@ use one_run::{BridgeFault, Text, report_text};
 use outlets::Target;
 use system_streams::Kinds;
 
-// Writes the item of a record, or reports why there is none; whether it has a text, if it is an
-// item.
+// Writes the item or the carried lines of a record, or reports why there is none; whether these
+// have a text.
 fn tell_read<T: Sink, U: Sink>(
     to: &Target,
     line: u32,
@@ -62,6 +62,10 @@ fn tell_read<T: Sink, U: Sink>(
                 Err(Failed) => Err(BridgeFault::ReportFault),
             }
         }
+        Given::Carried(lines) => match write_carried(to, lines.as_slice(), output) {
+            Ok(has) => Ok(has),
+            Err(Failed) => Err(BridgeFault::WriteFault),
+        },
         Given::Passed => Ok(true),
     }
 }
@@ -130,8 +134,9 @@ impl Taker<RecordRead> for Systems {
 ///
 /// The header is checked first. Then the leading text is written, and after each record the text of
 /// its item, repeats included. A rejected record gives a line of the report, with the number of its
-/// first line, and the report ends with the counts. Records of kinds that are not read are counted;
-/// so are items that have no record or message in the output format.
+/// first line, and the report ends with the counts. Of a record of RINEX 4 of another kind the lines
+/// are carried, if there are at most 12; further records of kinds that are not read are counted. So
+/// are items and carried records that have no text in the output format.
 ///
 /// # Errors
 ///

@@ -1,14 +1,15 @@
 //! The texts of items, and whether they have one.
 
-ghost use Rattle.std.specs.Prelude.{◌≡◌, IfOk};
+ghost use Rattle.std.specs.Prelude.{◌≡◌, ◌≤◌, IfOk, length};
 ghost use Rattle.std.proofs.Common.{inl, inr};
 ghost use Rattle.nav_io.specs.Writes.{Writes};
 ghost use Rattle.rinex_write.specs.Columns.{AreFields};
 ghost use Rattle.nav_rows.specs.Kinds.{IsKind};
 ghost use Rattle.nav_rows.specs.Rows.{value};
 ghost use Rattle.system_streams.specs.Streams.{row_text};
-ghost use Rattle.system_files.specs.Files.{has_text, is_ephemeris};
+ghost use Rattle.system_files.specs.Files.{carried_text, has_carried, has_text, is_ephemeris};
 
+use carried_records::record_text;
 use nav_eph::NavItem;
 use nav_io::{Failed, Sink};
 use nav_rows::{Kind, Row};
@@ -61,5 +62,28 @@ pub(crate) fn write_row<T: Sink>(
             Ok(()) => Ok(true),
             Err(Failed) => Err(Failed),
         },
+    }
+}
+
+// Writes the lines of a carried record; whether they have a text.
+pub(crate) fn write_carried<T: Sink>(
+    to: &Target,
+    lines: &[[u8; 80]],
+    out: &mut T,
+) -> Result<bool, Failed>
+    requires { length lines.now ≤ 12 }
+    ensures writes { Writes (T.written out.old) (T.written out.new)
+        (T.faults out.old) (T.faults out.new) result (carried_text to.now lines.now) }
+    ensures has { IfOk result (λ has. has ≡ has_carried to.now) }
+{
+    match to {
+        Target::Rinex(_) => match out.write(record_text(lines).as_slice()) {
+            Ok(()) => Ok(true),
+            Err(Failed) => Err(Failed),
+        },
+        Target::Rinex3(_) => Ok(false),
+        Target::Rtcm => Ok(false),
+        Target::ToList => Ok(false),
+        Target::Count => Ok(true),
     }
 }

@@ -5,6 +5,8 @@
 #![tactic(auto)]
 
 #[cfg(test)]
+mod carried_records_tests;
+#[cfg(test)]
 mod job_words_tests;
 #[cfg(test)]
 mod outlets_tests;

@@ -6,5 +6,5 @@ use Rattle.rinex_read.proofs.record.RecordLines.are_kept.Goals as goal
 pub returns : goal.returns
 returns c =
     let kept = take c.self.inside.count c.self.inside.lines in
-    subst (λ (ls : List (List ℕ)). map padded (take 9 ls) ≡ ls) c.self.view_is
-    (ap (map padded) (take_all 9 kept (omega (arith, c.self.invariant.0))) ∙ c.self.invariant.1)
+    subst (λ (ls : List (List ℕ)). map padded (take 18 ls) ≡ ls) c.self.view_is
+    (ap (map padded) (take_all 18 kept (omega (arith, c.self.invariant.0))) ∙ c.self.invariant.1)

@@ -1,0 +1,3 @@
+pub mod ExactText
+pub mod CarriedLines
+pub mod Mirrors
