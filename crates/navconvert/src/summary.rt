@@ -50,6 +50,7 @@ pub(crate) fn counted(done: &Option<Done>) -> JobCounts {
             let amiss = [c.refused, 0, 0, 0, 0, 0, again, 0];
             JobCounts {
                 unwritten: Some(c.unwritten),
+                carried: Some(c.carried),
                 ..counts_of(Some(c.kept), amiss, c.passed)
             }
         }

@@ -94,6 +94,7 @@ merge_counts to reads = let c = counts_of to reads in record {
   records = c.records;
   refused = c.refused;
   passed = c.passed;
+  carried = c.carried;
   items = c.items;
   kept = length (merged_items (items_of reads));
   unwritten = c.unwritten;
@@ -103,8 +104,9 @@ merge_counts to reads = let c = counts_of to reads in record {
 -- the text of these counts: a line for each, in the order of the fields
 unfoldable pub merge_counts_text : SystemMergeCounts → List ℕ
 merge_counts_text c =
-    ((((count_line (codes "records") c.records ++ count_line (codes "refused") c.refused)
-    ++ count_line (codes "passed") c.passed) ++ count_line (codes "items") c.items) ++ count_line (codes "kept") c.kept) ++ count_line (codes "unwritten") c.unwritten
+    (((((count_line (codes "records") c.records ++ count_line (codes "refused") c.refused)
+    ++ count_line (codes "passed") c.passed) ++ count_line (codes "carried") c.carried)
+    ++ count_line (codes "items") c.items) ++ count_line (codes "kept") c.kept) ++ count_line (codes "unwritten") c.unwritten
 
 -- the report of a merge
 abbrev pub merge_report : Target → List LineRead → List ℕ

@@ -90,6 +90,7 @@ fn report_given<U: Sink>(line: u32, given: &Given, report: &mut U) -> Result<(),
         }
         Given::Nav(_) => Ok(()),
         Given::Further(_, _) => Ok(()),
+        Given::Carried(_) => Ok(()),
         Given::Passed => Ok(()),
     }
 }
@@ -158,6 +159,7 @@ fn merge_given(
         Given::Nav(item) => merge_nav(alloc, item, navs),
         Given::Further(kind, row) => merge_row(alloc, kind, row, rows),
         Given::Refused(_) => Ok(()),
+        Given::Carried(_) => Ok(()),
         Given::Passed => Ok(()),
     }
 }
@@ -173,6 +175,7 @@ fn is_written(to: Version, given: &Given) -> bool
             Given::Nav(item) => is_ephemeris(item),
             Given::Further(_, _) => true,
             Given::Refused(_) => true,
+            Given::Carried(_) => false,
             Given::Passed => true,
         },
     }
@@ -235,6 +238,7 @@ impl Taker<RecordRead> for SystemsMerging {
             records,
             refused: state.counts.refused,
             passed: state.counts.passed,
+            carried: state.counts.carried,
             items: state.counts.items,
             kept: sum_within(state.navs.len(), state.rows.len(), records),
             unwritten: state.counts.unwritten,

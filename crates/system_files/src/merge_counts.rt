@@ -15,6 +15,8 @@ pub struct SystemMergeCounts {
     pub refused: u64,
     /// The records of kinds that are not read.
     pub passed: u64,
+    /// The records of other kinds whose lines are carried.
+    pub carried: u64,
     /// The items that were read, repeats included.
     pub items: u64,
     /// The items of the merged list.
@@ -34,6 +36,7 @@ pub(crate) fn merge_counts_text(counts: &SystemMergeCounts) -> Text
     append_count(&mut text, b"records", counts.records);
     append_count(&mut text, b"refused", counts.refused);
     append_count(&mut text, b"passed", counts.passed);
+    append_count(&mut text, b"carried", counts.carried);
     append_count(&mut text, b"items", counts.items);
     append_count(&mut text, b"kept", counts.kept);
     append_count(&mut text, b"unwritten", counts.unwritten);
