@@ -11,7 +11,7 @@
 #
 #   --days N, --stations N   of the archive (365, 40)
 #   --jobs N                 processes at once (as many as there are processors)
-#   --program FILE           navbridge (crates/navbridge/out/navbridge of this repository)
+#   --program FILE           navbridge, navconvert next to it (those of this repository)
 #
 # Exit status: 0 measured; 1 bytes differ that should not, or the pages take more; 2 wrong arguments.
 set -eu

@@ -3,7 +3,7 @@
 
   checks/report.py [--program FILE] [--screenshots DIR] [--keep DIR]
 
-  --program FILE     navconvert or navbridge, the other beside it (PROGRAM, or crates/navbridge/out/navbridge)
+  --program FILE     navconvert or navbridge, the other next to it (PROGRAM, or crates/navbridge/out/navbridge)
   --screenshots DIR  writes pictures of the pages there, 400 and 1200 pixels wide, light and dark
   --keep DIR         leaves archive and site there
 

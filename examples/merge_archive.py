@@ -43,7 +43,7 @@ and the rest is merged. Links to directories are followed; each directory is rea
   --batch N        at most N files in one batch (64)
   --clean          removes FILE.parts at the end (not if two runs write one FILE)
   --again          uses nothing of earlier runs
-  --program FILE   navconvert, or navbridge with navconvert beside it; --cover runs navbridge (those of this repository, else those on the
+  --program FILE   navconvert, or navbridge with navconvert next to it; --cover runs navbridge (those of this repository, else those on the
                    PATH; PROGRAM in the environment)
   -q               only errors, and no table
   --help           this text
@@ -445,7 +445,7 @@ def summed(row, sections):
 # --- runs of navconvert
 
 class Call:
-    """A run of navconvert over many files of one form, as one below one header; its output goes to a file, and its report beside it."""
+    """A run of navconvert over many files of one form, as one below one header; its output goes to a file, and its report next to it."""
 
     def __init__(self, program, form, to, output, words=()):
         self.form, self.output, self.report = form, output, output + ".report"
@@ -1043,7 +1043,7 @@ def version():
 
 
 def beside(path, name):
-    """The program of this name that stands beside another: in its directory, or where this repository has what it builds."""
+    """The program of this name that stands next to another: in its directory, or where this repository has what it builds."""
     path = os.path.realpath(path)
     folder = os.path.dirname(path)
     for it in (os.path.join(folder, name), os.path.join(os.path.dirname(os.path.dirname(folder)), name, "out", name)):

@@ -31,7 +31,7 @@ packed by gzip or compress or plain, detected by their content.
   --name PATTERN   of directories, only files with such names, as '*MN.rnx*'; may be given more than once
   -0               names on standard input end with a zero byte, not with a line
   --date TEXT      the date that the pages show, as "20240101 000000 UTC" (now)
-  --program FILE   navconvert or navbridge, the other beside it (those of this repository, else those in the PATH; PROGRAM in the environment)
+  --program FILE   navconvert or navbridge, the other next to it (those of this repository, else those in the PATH; PROGRAM in the environment)
   -q               prints no summary
   --help           this text; --version, alone, the version
 
