@@ -360,7 +360,7 @@ def without_others(data, form, begin):
     for number, line in enumerate(io.BytesIO(data[begin:])):
         title = line[:1] == b">"
         if title or line[:width].strip(b" \r\n") and not behind_title:
-            mine = title and version == "4" or not (title or version != "3") or not OTHERS[version].match(line)
+            mine = version != "2" and title == (version == "4") or not OTHERS[version].match(line)
             first = first if mine or others else number
             others += not mine
             if not mine:
@@ -449,10 +449,11 @@ class Call:
 
     def __init__(self, program, form, to, output, words=()):
         self.form, self.output, self.report = form, output, output + ".report"
-        words = ["-q", "-f", FORMATS[form[0]], "-t", to, "-o", "-", "--overwrite", "--report", self.report, *words, "-"]
+        place, name = os.path.split(self.report)  # navconvert takes names in UTF-8 only, and the directory may have another
+        words = ["-f", FORMATS[form[0]], "-t", to, "-q", "-o", "-", "--overwrite", "--report", name, *words, "-"]
         with open(output, "wb") as file:
             try:
-                self.run = subprocess.Popen([program, *words], stdin=subprocess.PIPE, stdout=file, stderr=subprocess.DEVNULL)
+                self.run = subprocess.Popen([program, *words], stdin=subprocess.PIPE, stdout=file, stderr=subprocess.DEVNULL, cwd=place or ".")
             except OSError as fault:
                 raise Failed(f"{program}: {fault.strerror}") from None
         try:
@@ -1058,6 +1059,7 @@ def programs_of(named):
     named = named or beside(os.path.join(here, "crates", "navbridge", "out", "navbridge"), "navconvert") or shutil.which("navconvert")
     if not named or not os.access(named, os.X_OK) or os.path.isdir(named):
         return None, None
+    named = os.path.abspath(named)
     if os.path.basename(named) == "navbridge":
         return beside(named, "navconvert"), named
     return named, beside(named, "navbridge")
