@@ -162,6 +162,8 @@ ends "RINEX 2" 0 -o "$out/older.rnx" "$out/gps.24n"
 holds "its bytes" cmp "$out/older.rnx" <(merged_of "$out/gps.24n")
 ends "RINEX 2 of GLONASS and SBAS, joined" 0 -o "$out/older.rnx" --again "$out/further.24"
 holds "what is read" [ "$(grep '^>' "$out/older.rnx" | cut -c3- | xargs)" = "EPH R07 FDMA EPH S20 SBAS" ]
+mixed "records of version 2 behind those of 3" version3.nav 2 9 34 < <(cat version3.nav; records_of "$out/gps.24n")
+mixed "records of version 2 behind those of 4" station.rnx 2 9 30 < <(cat station.rnx; records_of "$out/gps.24n")
 mixed "records of versions 3 and 4 behind those of 2" "$out/gps.24n" "3 and 4" 8 76 < <(cat "$out/gps.24n"; records_of version3.nav; records_of station.rnx)
 printf '> EPH G05 CNAV\n    1\n> STO G05 LNAV\n    1\n> EPH X05 LONG\n%s> STO G05 LNAV\n    1\n' "$(printf '    %d\n' {1..12})
 " | cat station.rnx - > "$out/beside"

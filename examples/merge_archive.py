@@ -337,34 +337,39 @@ def last_record(data, form, begin, end):
     return begin
 
 
-# a record of another version, which has no header of its own: a title in versions 3 and 2, in version 4 the first line of a record of
-# version 3 that does not follow a title, and so in version 2
-OTHERS = {"3": re.compile(rb"> ?(?:EPH|STO|EOP|ION) "), "4": re.compile(rb"[A-Z][ \d]\d [12]\d{3}[ \d]")}
-OTHERS["2"] = re.compile(OTHERS["3"].pattern + b"|" + OTHERS["4"].pattern)
-FIRST = re.compile(rb"\n" + OTHERS["4"].pattern)  # begins with a fixed byte, which a search finds fast
-TITLED = re.compile(rb"\n>[^\n]*" + FIRST.pattern)
+# how a record of each version begins, which has no header of its own in a file of another one: in version 4 by a title, in version 3 by a
+# satellite and a year that follow none
+BEGINS = {"4": rb"> ?(?:EPH|STO|EOP|ION) ", "3": rb"[A-Z][ \d]\d [12]\d{3}[ \d]", "2": rb"[ \d]\d(?: [ \d]\d){5}[ \d]{2}\d\."}
+OTHERS = {version: re.compile(b"|".join(BEGINS[it] for it in BEGINS if it != version)) for version in BEGINS}
+FIRST = {version: re.compile(rb"\n" + BEGINS[version]) for version in "32"}  # begins with a fixed byte, which a search finds fast
+TITLED = re.compile(rb"\n>[^\n]*\n" + BEGINS["3"])
+
+
+def is_pure(data, version, begin):
+    """Whether a section has no records of another version, or at least none that could be one."""
+    if version == "4":
+        pure = len(FIRST["3"].findall(data, begin - 1)) == len(TITLED.findall(data, begin - 1))
+    else:
+        pure = data.find(b">", begin) < 0
+    return pure and not FIRST["3" if version == "2" else "2"].search(data, begin - 1)
 
 
 def without_others(data, form, begin):
     """The bytes without records of another version, of which that is, how many they are, and the line of the first (of the bytes, from 0)."""
     version = form[0]
-    has_title = version != "4" and data.find(b">", begin) >= 0
-    if version == "4":
-        is_pure = len(FIRST.findall(data, begin - 1)) == len(TITLED.findall(data, begin - 1))
-    else:
-        is_pure = not has_title and (version == "3" or not FIRST.search(data, begin - 1))
-    if is_pure:
+    if is_pure(data, version, begin):
         return data, set(), 0, 0
     width = 2 if version == "2" else 1
+    older = re.compile(BEGINS["2"])
     kept, versions, others, first, mine, behind_title = [data[:begin]], set(), 0, 0, True, False
     for number, line in enumerate(io.BytesIO(data[begin:])):
         title = line[:1] == b">"
-        if title or line[:width].strip(b" \r\n") and not behind_title:
-            mine = version != "2" and title == (version == "4") or not OTHERS[version].match(line)
+        if title or older.match(line) or line[:width].strip(b" \r\n") and not behind_title:
+            mine = title and version == "4" or not OTHERS[version].match(line)
             first = first if mine or others else number
             others += not mine
             if not mine:
-                versions.add("4" if title else "3")
+                versions.add("4" if title else "2" if older.match(line) else "3")
         if mine:
             kept.append(line)
         behind_title = title and (version == "4" or not mine)
