@@ -170,6 +170,10 @@ printf '> EPH G05 CNAV\n    1\n> STO G05 LNAV\n    1\n> EPH X05 LONG\n%s> STO G0
 ends "records that are carried, and one that is too long for that" 0 -o "$out/beside.rnx" "$out/beside"
 holds "what is carried is counted by type" [ "$(sed -n '/^  carried/,/^  rejected/p' "$out/table" | xargs)" = "carried 3 G CNAV 1 G STO 2 rejected 0" ]
 holds "and the other skipped" [ "$(sed -n '/^  skipped/,/^kept/p' "$out/table" | xargs | cut -d ' ' -f 1-5)" = "skipped 1 other lines 1" ]
+{ sed '/END OF HEADER/a\    1.0' station.rnx; printf '\032'; } > "$out/lines"
+ends "a line before the first record, and DOS's mark of the end" 0 -o "$out/lines.rnx" "$out/lines"
+holds "the records are read" cmp "$out/lines.rnx" <(merged_of station.rnx)
+holds "the line is noted" grep -qx '    lines before the first record left out  *1' "$out/table"
 mkdir "$out/linked" "$out/elsewhere"
 cp station.rnx "$out/linked"
 cp version3.nav "$out/elsewhere"

@@ -386,6 +386,8 @@ def section_of(data, above):
         section["notes"].append(f"records of version {' and '.join(sorted(versions))} left out: {others}, the first in line {above + line + 1}")
     first = STARTS[form[0]].search(data, start - 1)
     begin, end = first.start() + 1 if first else len(data), len(data)
+    if data[start:begin].strip():
+        section["notes"].append("lines before the first record left out")
     if begin < end and data[-1:] != b"\n":
         # a number in a line without an end may be cut and still be a number, so its record is left out
         end = last_record(data, form, begin, end)
@@ -413,6 +415,7 @@ def looked_at(path, row):
     except OSError as fault:
         raise Unusable("unreadable", fault.strerror) from None
     data, note = unpacked(data)
+    data = data.rstrip(b"\x1a")  # DOS marks an end so
     if note:
         row["notes"].append(note)
     sections, begins = [], headers_of(data)
