@@ -521,8 +521,9 @@ def settle(call, sections, others=0):
     status, refused, counts = call.end()
     more = {key: counts[key] - sum(sum(section[key].values()) for section in sections) for key in ("carried", "passed")}
     records = counts["records"] - others - sum(section["records"] for section in sections)
-    if status or records or any(more.values()):
-        if status or len({section["file"] for section in sections}) != 1:
+    beyond = refused and (not sections or refused[-1][0] > sections[-1]["base"] + sections[-1]["lines"])  # what navconvert wrote, rejected
+    if status or beyond or records or any(more.values()):
+        if status or beyond or len({section["file"] for section in sections}) != 1:
             raise Disagreed(status)
         for key, count in more.items():
             known = sections[0][key]
