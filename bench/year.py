@@ -6,15 +6,17 @@
 Each day has 400 distinct random ephemerides: 20 GPS satellites each two hours, 20 Galileo satellites each three. A station receives about
 three in five of them (--heard, percent), each at its own time, and writes in the style of one of five programs: version 4.01 as navbridge,
 4.00 with no digit before the point and CR LF, 3.04 with the letter e, 3.05 with I/NAV and F/NAV records, 3.03 with fit interval 0 in any
-case. Records of GLONASS and BeiDou are between them. Of twenty files one is packed by compress (if installed), one is plain, the others
-by gzip. With --faults N each N-th file is truncated, empty, of version 2, or no navigation file. With --joined the files of a day and
-program are one file: five a day, each as large as one of a busy day.
+case. Records of GLONASS and BeiDou are between them, for a satellite and time the same in all files but for BeiDou's transmission time. Of
+twenty files one is packed by compress (if installed), one is plain, the others by gzip. With --faults N each N-th file is truncated, empty,
+of version 1, or no navigation file. With --joined the files of a day and program are one file: five a day, each as large as one of a busy day.
 
-It prints what it made: files, bytes packed and unpacked, records, distinct ephemerides, and those that differ only in the fit interval.
+It prints what it made: files, bytes packed and unpacked, records, distinct ephemerides of GPS and Galileo, and those that differ only in the
+fit interval.
 It needs Python's own library only; equal arguments make equal bytes.
 """
 import argparse
 import datetime
+import functools
 import os
 import random
 import shutil
@@ -91,15 +93,34 @@ def record(eph, style, source):
     return text + "    ", number(hours, style) + end
 
 
-def other(draw, system, moment, style):
-    """A record of GLONASS or BeiDou, of drawn numbers."""
+@functools.lru_cache(2000)
+def other_numbers(seed, system, number_of, moment):
+    """The lines of numbers of an ephemeris of GLONASS or BeiDou; the transmission time of BeiDou is 0."""
+    draw = random.Random(f"{seed} {system}{number_of} {moment}")
+    week, toe = divmod(moment, 604800)
+    if system == "R":
+        axis = lambda more: [signed(draw, 26, 2.0 ** -11), signed(draw, 23, 2.0 ** -20), draw.randint(-15, 15) * 2.0 ** -30, more]
+        clock = [signed(draw, 21, 2.0 ** -30), draw.randint(-1023, 1023) * 2.0 ** -40, toe]
+        return [clock, axis(draw.choice((0, 0, 0, 1))), axis(draw.randint(-7, 6)), axis(draw.randint(0, 2))]
+    crs, delta_n, m0, lines = orbit(draw, toe)
+    clock = [signed(draw, 24, 2.0 ** -33), signed(draw, 22, 2.0 ** -50), signed(draw, 11, 2.0 ** -66)]
+    return [clock, [draw.randint(0, 31), crs, delta_n, m0], *lines, [signed(draw, 14, 2.0 ** -43 * PI), 0, week - 1356, 0],
+            [2.0, draw.randint(0, 1), draw.randint(-512, 511) * 1e-10, draw.randint(-512, 511) * 1e-10], [0, draw.randint(0, 31)]]
+
+
+def other(draw, seed, system, moment, style):
+    """A record of GLONASS or BeiDou."""
     end = "\r\n" if style == "4.00" else "\n"
     date = GPS_ZERO + datetime.timedelta(seconds=moment)
-    sat = f"{system}{draw.randint(1, 24):02}"
-    row = lambda count: "".join(number(signed(draw, 24, 2.0 ** -10), style) for _ in range(count))
-    text = f"> EPH {sat} {'FDMA' if system == 'R' else 'D1'}{end}" if style[0] == "4" else ""
-    text += f"{sat} {date:%Y %m %d %H %M %S}{row(3)}{end}"
-    return text + "".join(f"    {row(4)}{end}" for _ in range(3 if system == "R" else 7))
+    number_of = draw.randint(1, 24)
+    drawn = [draw.getrandbits(24) for _ in range(15 if system == "R" else 31)]
+    lines = other_numbers(seed, system, number_of, moment)
+    if system == "C":
+        lines = [*lines[:-1], [moment % 604800 - 7200 + 30 * (drawn[0] % 200), lines[-1][1]]]
+    sat = f"{system}{number_of:02}"
+    text = f"> EPH {sat} {'FDMA' if system == 'R' else 'D2' if number_of < 6 else 'D1'}{end}" if style[0] == "4" else ""
+    text += f"{sat} {date:%Y %m %d %H %M %S}"
+    return text + f"{end}    ".join("".join(number(it, style) for it in line) for line in lines) + end
 
 
 def head(style, station):
@@ -129,7 +150,7 @@ def write(args, name, out, turn, style, has_compress, counts):
     stored = packed(data, how)
     if args.faults and turn % args.faults == 0:
         fault = turn // args.faults % 4
-        stored = (stored[:len(stored) // 2], b"", packed(data.replace(style.rjust(9).encode(), b"     2.11", 1), how), b"no navigation file\n")[fault]
+        stored = (stored[:len(stored) // 2], b"", packed(data.replace(style.rjust(9).encode(), b"     1.00", 1), how), b"no navigation file\n")[fault]
     with open(f"{name}{'.' if how else ''}{how}", "wb") as file:
         file.write(stored)
     for place, more in enumerate((1, len(stored), len(data))):
@@ -156,7 +177,7 @@ def make_day(args, day, has_compress):
         records = 0
         for at, eph in enumerate(sky):
             if draw.random() < 0.25:
-                out.append(other(draw, draw.choice("RC"), eph["moment"], style))
+                out.append(other(draw, args.seed, draw.choice("RC"), eph["moment"], style))
                 records += 1
             if draw.random() >= args.heard / 100:
                 continue

@@ -11,7 +11,7 @@
 #
 #   --days N, --stations N   of the archive (365, 40)
 #   --jobs N                 processes at once (as many as there are processors)
-#   --program FILE           navbridge (crates/navbridge/out/navbridge of this repository)
+#   --program FILE           navbridge, navconvert next to it (those of this repository)
 #
 # Exit status: 0 measured; 1 bytes differ that should not, or the pages take more; 2 wrong arguments.
 set -eu
@@ -55,7 +55,7 @@ used = resource.getrusage(resource.RUSAGE_CHILDREN)
 kept = "-"
 if os.path.isfile(result):
     with open(result, "rb") as file:
-        kept = sum(1 for line in file if re.match(rb"> |[GE]\d\d ", line)) if not result.endswith(".rnx") else sum(line[:1] == b">" for line in file)
+        kept = sum(1 for line in file if re.match(rb"> |[A-Z]\d\d ", line)) if not result.endswith(".rnx") else sum(line[:1] == b">" for line in file)
 print(f"{label:44} {passed:8.2f} {used.ru_utime + used.ru_stime:8.2f} {used.ru_maxrss / 1024:5.0f} MB {int(size) / 1e6:9.1f} {int(size) / 1e6 / passed:7.0f} {kept:>8}"
       + (f"  status {status}" if status else ""), flush=True)
 END
@@ -122,20 +122,20 @@ mkdir "$work/ours"
 awk 'FNR == 1 && /^     4\.01/ { print FILENAME }' "$plain"/* | while read -r file; do ln "$file" "$work/ours/"; done
 cat > "$work/sorted" << 'SCRIPT'
 #!/usr/bin/env bash
-# each record of GPS and Galileo on a line, the lines once; with a third word without the time of sending
+# each record on a line, the lines once; with a third word without the time of sending, which GLONASS has none of
 set -eu
 awk 'FNR == 1 { head = 1 } head { if (/END OF HEADER/) head = 0; next } /^>/ { if (n) print text; n = 1; text = $0; next } { text = text "\t" $0 }
-  END { if (n) print text }' "$1"/ours/*.rnx | grep -E '^> EPH (G.. LNAV|E.. INAV)' |
-  if [ $# = 3 ]; then sed -E 's/(.*\t {4}).{19}/\1/'; else cat; fi | sort -u | tr '\t' '\n' > "$2"
+  END { if (n) print text }' "$1"/ours/*.rnx |
+  if [ $# = 3 ]; then sed -E '/^> EPH R/!s/(.*\t {4}).{19}/\1/'; else cat; fi | sort -u | tr '\t' '\n' > "$2"
 SCRIPT
 chmod +x "$work/sorted"
 echo "the first $few days: $(find "$plain" -type f | wc -l) files, of which $(find "$work/ours" -type f | wc -l) by one program, of version 4.01; unpacked before"
 size=$(bytes_of "$work"/ours/*)
-row "one program's files: navbridge" "$size" "$work/ours.rnx" "$merge" -j "$jobs" -o "$work/ours.rnx" "${words[@]}" "$work/ours"
+row "one program's files: navconvert" "$size" "$work/ours.rnx" "$merge" -j "$jobs" -o "$work/ours.rnx" "${words[@]}" "$work/ours"
 row "one program's files: sort -u" "$size" "$work/sorted.rnx" "$work/sorted" "$work" "$work/sorted.rnx"
 row "the same without the time of sending" "$size" "$work/cut.rnx" "$work/sorted" "$work" "$work/cut.rnx" cut
 size=$(bytes_of "$plain"/*)
-row "all of these files: navbridge" "$size" "$work/plain.rnx" "$merge" -j "$jobs" -o "$work/plain.rnx" "${words[@]}" "$plain"
+row "all of these files: navconvert" "$size" "$work/plain.rnx" "$merge" -j "$jobs" -o "$work/plain.rnx" "${words[@]}" "$plain"
 if command -v convbin > /dev/null; then
   row "all of these files: convbin" "$size" "$work/convbin.nav" convbin -r rinex -v 3.04 -n "$work/convbin.nav" "$plain/*.rnx" 2>> "$work/convbin.said"
   "$merge" -j "$jobs" -q -o "$work/of_convbin.rnx" "${words[@]}" "$work/convbin.nav"

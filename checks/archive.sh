@@ -3,10 +3,10 @@
 #
 #   checks/archive.sh [--program FILE]
 #
-#   --program FILE  navbridge (PROGRAM, or crates/navbridge/out/navbridge)
+#   --program FILE  navbridge, with navconvert next to it (PROGRAM, or crates/navbridge/out/navbridge)
 #
-# examples/archive has files of both versions, packed and plain; five are truncated, empty, too old or no RINEX. Each line is a
-# case: `as it should` or `DIFFERS`. GNU parallel and gnuplot are tested if they are installed.
+# examples/archive has files of RINEX 2, 3 and 4, packed and plain; four are truncated, empty or no RINEX. Each line is a case: `as it
+# should` or `DIFFERS`. GNU parallel and gnuplot are tested if they are installed, and in a repository random files of all systems.
 #
 # Exit status: 0 all correct; 1 something differs; 2 the arguments are wrong, or the program is missing.
 set -u
@@ -14,6 +14,9 @@ set -u
 program=''
 options '--program:' "$@"
 built program navbridge
+converter=$(dirname "$(path_of "$program")")/navconvert
+[ -x "$converter" ] || converter=$top/crates/navconvert/out/navconvert
+[ -x "$converter" ] || fail "build first: no program $converter; 'rt ci' at the top leaves it there"
 command -v python3 > /dev/null || skip "python3 is not installed"
 cd "$top/examples" || exit 1
 unset PROGRAM
@@ -36,14 +39,15 @@ ends() {
   ./merge_archive.sh --program "$program" "${words[@]}" "$@" > "$out/table" 2> "$out/named" || got=$?
   holds "$name: status $status" [ "$got" = "$status" ]
 }
-# a navbridge that writes down that it was called
+# a navconvert that writes down that it was called, and navbridge next to it
 cat > "$out/counted" << END
 #!/usr/bin/env bash
 echo "\$4" >> "$out/calls"
-exec "$program" "\$@"
+exec "$converter" "\$@"
 END
 chmod +x "$out/counted"
-# how often navbridge was called to give this, by the run of merge_archive.sh with the words behind
+ln -s "$(path_of "$program")" "$out/navbridge"
+# how often navconvert was called to give this, by the run of merge_archive.sh with the words behind
 calls() {
   local to=$1
   shift
@@ -56,13 +60,13 @@ calls() {
 for file in archive/2024/*/*; do
   gzip -dcf < "$file" > "$out/file" 2> /dev/null || continue
   case $file in */S00300XXX_R_20240020000*) tac "$out/file" | sed "1,/^[^ ]/d" | tac > "$out/whole" && mv "$out/whole" "$out/file" ;; esac
-  for form in rinex rinex3; do "$program" --from "$form" --to rinex "${words[@]}" < "$out/file" 2> /dev/null; done
-done | "$program" --from rinex --to merged "${words[@]}" > "$out/by_hand.rnx" 2> /dev/null
+  "$converter" -q -t rinex "${words[@]}" -o - - < "$out/file" 2> /dev/null
+done | "$converter" -q -t merged "${words[@]}" -o - - > "$out/by_hand.rnx" 2> /dev/null
 
 ends "a mixed archive" 1 -o "$out/all.rnx" --cover "$out/all.cover" archive
 holds "its table" cmp "$out/table" expected/archive.table
 holds "the files that were not read, by name" cmp "$out/named" expected/archive.named
-holds "its rows" cmp <(sed 1d "$out/all.rnx.files" | cut -f1-6,9-) expected/archive.rows
+holds "its rows" cmp <(sed 1d "$out/all.rnx.files" | cut -f1-8,11-) expected/archive.rows
 holds "its bytes, as by hand" cmp "$out/all.rnx" "$out/by_hand.rnx"
 holds "the times covered" cmp "$out/all.cover" archive.cover
 ends "the same again" 1 -o "$out/all.rnx" --cover "$out/all.cover" archive
@@ -71,7 +75,7 @@ holds "and calls nothing" [ "$(calls merged -o "$out/all.rnx" --cover "$out/all.
 ends "the times covered alone" 1 --cover "$out/alone.cover" archive
 holds "they are the same" cmp "$out/alone.cover" archive.cover
 
-good=$(cut -f1,7 expected/archive.rows | sed -n 's/^read\t//p')
+good=$(cut -f1,9 expected/archive.rows | sed -n 's/^read\t//p')
 echo "$good" > "$out/good"
 ends "a list of files that are all read" 0 -o "$out/good.rnx" - < "$out/good"
 holds "their bytes, as of all" cmp "$out/good.rnx" "$out/by_hand.rnx"
@@ -100,7 +104,7 @@ cp -r archive "$out/archive"
 ./merge_archive.sh --program "$program" "${words[@]}" -o "$out/late.rnx" --batch 2 "$out/archive" > "$out/table" 2>&1
 cp merged.rnx "$out/archive/2024/002/late.rnx"
 holds "a late file: it alone, and what was merged" [ "$(calls merged -o "$out/late.rnx" --batch 2 "$out/archive")" = 2 ]
-holds "the bytes of all" cmp "$out/late.rnx" <(cat "$out/by_hand.rnx" merged.rnx | "$program" --from rinex --to merged "${words[@]}" 2> /dev/null)
+holds "the bytes of all" cmp "$out/late.rnx" <(cat "$out/by_hand.rnx" merged.rnx | "$converter" -q -t merged "${words[@]}" -o - - 2> /dev/null)
 for _ in 1 2 3; do ./merge_archive.sh --program "$program" "${words[@]}" -o "$out/two.rnx" --batch 2 -q archive 2> /dev/null & done
 wait
 holds "three at work at once" cmp "$out/two.rnx" "$out/by_hand.rnx"
@@ -110,13 +114,19 @@ ends "no names" 2 -o "$out/x.rnx"
 ends "no result" 2 archive
 ends "a date without UTC" 2 -o "$out/x.rnx" --date "20240101 000000" archive
 ends "no program" 2 -o "$out/x.rnx" --program "$out/nothing" archive
-holds "which is said" grep -q 'build first' "$out/named"
+holds "which is said" grep -q 'build first: no navconvert' "$out/named"
+ends "navconvert named" 1 -o "$out/x.rnx" --program "$converter" archive
+holds "its bytes" cmp "$out/x.rnx" "$out/by_hand.rnx"
+rm "$out"/x.rnx*
+mkdir "$out/alone"
+ln "$out/counted" "$out/alone/counted"
+ends "times covered without navbridge next to it" 2 --cover "$out/x.cover" --program "$out/alone/counted" archive
+holds "which is said" grep -q 'build first: no navbridge' "$out/named"
 ends "a program that is none" 3 -o "$out/x.rnx" --program /bin/false archive
 holds "which leaves no result" [ ! -e "$out/x.rnx" ]
 
 # files joined by cat, records of both versions, links, unfinished files, a result among the inputs
-merged_of() { for file; do case $(head -c 9 "$file") in *4.0?) form=rinex ;; *) form=rinex3 ;; esac
-  "$program" --from "$form" --to rinex "${words[@]}" < "$file" 2> /dev/null; done | "$program" --from rinex --to merged "${words[@]}" 2> /dev/null; }
+merged_of() { for file; do "$converter" -q -t rinex "${words[@]}" -o - "$file"; done | "$converter" -q -t merged "${words[@]}" -o - -; }
 records_of() { sed '1,/END OF HEADER/d' "$1"; }
 merged_of station.rnx version3.nav > "$out/both.rnx"
 joined() { # name, then the note of the one file that is read, and the file on standard input
@@ -140,6 +150,30 @@ mixed() { # name, the file whose records are read, version and number of the oth
 mixed "records of version 3 behind those of 4" station.rnx 3 4 30 < <(cat station.rnx; records_of version3.nav)
 mixed "records of version 4 behind those of 3" version3.nav 4 4 34 < <(cat version3.nav; records_of station.rnx)
 mixed "records of version 4 amid those of 3" version3.nav 4 4 6 < <(sed '/END OF HEADER/q' version3.nav; records_of station.rnx; records_of version3.nav)
+# RINEX 2 of each of its systems, and records of RINEX 3 and 4 in it
+gzip -dc archive/2024/003/s0040030.24n.gz > "$out/gps.24n"
+for kind in "G: GLONASS NAV DATA" "H: GEO NAV MSG DATA"; do
+  printf '%9s%11s%-40sRINEX VERSION / TYPE\n%60sEND OF HEADER\n' 2.11 "" "$kind" ""
+  case $kind in H*) printf '20 24  1  1  0 16'; accuracy=2 ;; *) printf ' 7 24  1  1  0 15'; accuracy=0 ;; esac
+  printf '  0.0%17s.0%17s.0%17s.0\n' 0 0 900
+  for line in 1 2 3; do printf '   %17s.0%17s.0%17s.0%17s.0\n' "$line" 0 0 "$((line == 2 ? accuracy : 0))"; done
+done > "$out/further.24"
+ends "RINEX 2" 0 -o "$out/older.rnx" "$out/gps.24n"
+holds "its bytes" cmp "$out/older.rnx" <(merged_of "$out/gps.24n")
+ends "RINEX 2 of GLONASS and SBAS, joined" 0 -o "$out/older.rnx" --again "$out/further.24"
+holds "what is read" [ "$(grep '^>' "$out/older.rnx" | cut -c3- | xargs)" = "EPH R07 FDMA EPH S20 SBAS" ]
+mixed "records of version 2 behind those of 3" version3.nav 2 9 34 < <(cat version3.nav; records_of "$out/gps.24n")
+mixed "records of version 2 behind those of 4" station.rnx 2 9 30 < <(cat station.rnx; records_of "$out/gps.24n")
+mixed "records of versions 3 and 4 behind those of 2" "$out/gps.24n" "3 and 4" 8 76 < <(cat "$out/gps.24n"; records_of version3.nav; records_of station.rnx)
+printf '> EPH G05 CNAV\n    1\n> STO G05 LNAV\n    1\n> EPH X05 LONG\n%s> STO G05 LNAV\n    1\n' "$(printf '    %d\n' {1..12})
+" | cat station.rnx - > "$out/beside"
+ends "records that are carried, and one that is too long for that" 0 -o "$out/beside.rnx" "$out/beside"
+holds "what is carried is counted by type" [ "$(sed -n '/^  carried/,/^  rejected/p' "$out/table" | xargs)" = "carried 3 G CNAV 1 G STO 2 rejected 0" ]
+holds "and the other skipped" [ "$(sed -n '/^  skipped/,/^kept/p' "$out/table" | xargs | cut -d ' ' -f 1-5)" = "skipped 1 other lines 1" ]
+{ sed '/END OF HEADER/a\    1.0' station.rnx; printf '\032'; } > "$out/lines"
+ends "a line before the first record, and DOS's mark of the end" 0 -o "$out/lines.rnx" "$out/lines"
+holds "the records are read" cmp "$out/lines.rnx" <(merged_of station.rnx)
+holds "the line is noted" grep -qx '    lines before the first record left out  *1' "$out/table"
 mkdir "$out/linked" "$out/elsewhere"
 cp station.rnx "$out/linked"
 cp version3.nav "$out/elsewhere"
@@ -181,6 +215,12 @@ echo text > "$out/y.rnx.files"
 ends "a file where the rows would stand" 2 -o "$out/y.rnx" station.rnx
 holds "it is as it was" [ "$(cat "$out/y.rnx.files")" = text ]
 
+if [ -d "$top/crates" ]; then
+  for seed in 1 2; do
+    holds "random files of RINEX 2, 3 and 4, of all systems, in several orders and batches ($seed)" \
+      "$top/checks/systems.py" --program "$converter" --archive 40 --records 4 --seed "$seed"
+  done
+fi
 if parallel --version 2> /dev/null | grep -q '^GNU parallel'; then
   echo "2/:" > "$out/hosts"
   slurm/parallel.sh --program "$program" "${words[@]}" --cover --hosts "$out/hosts" archive "$out/tree" > /dev/null 2>&1

@@ -3,7 +3,7 @@
 
   checks/report.py [--program FILE] [--screenshots DIR] [--keep DIR]
 
-  --program FILE     navbridge (PROGRAM, or crates/navbridge/out/navbridge)
+  --program FILE     navconvert or navbridge, the other next to it (PROGRAM, or crates/navbridge/out/navbridge)
   --screenshots DIR  writes pictures of the pages there, 400 and 1200 pixels wide, light and dark
   --keep DIR         leaves archive and site there
 
@@ -102,10 +102,10 @@ def record(eph, version, source=517):
     return text + ["    " + "".join(number(it, version) for it in row) for row in rows[1:]]
 
 
-def glonass(toe, version):
+def glonass(toe, version, satellite="R07"):
     date = ZERO + datetime.timedelta(seconds=toe)
-    text = ["> EPH R07 FDMA"] if version[0] == "4" else []
-    return text + [f"R07 {date:%Y %m %d %H %M %S}{number(0.5, version) * 3}"] + ["    " + number(0.5, version) * 4] * 3
+    text = [f"> EPH {satellite} FDMA"] if version[0] == "4" else []
+    return text + [f"{satellite} {date:%Y %m %d %H %M %S}{number(0, version) * 3}"] + ["    " + number(0, version) * 4] * 3
 
 
 def header(program, version):
@@ -195,10 +195,12 @@ def write_day(folder, plan, day, some, writer, program, version):
         if writer == 3 and satellite[0] == "E":
             lines += record(of[writer], version, 258)
             plan["records"] += 1
-            plan["skipped"] += 1
     lines += glonass(START + day * 86400, version)
     plan["records"] += 1
-    plan["skipped"] += 1
+    if version[0] == "3":  # of no system that there is
+        lines += glonass(START + day * 86400, version, "X07")
+        plan["records"] += 1
+        plan["skipped"] += 1
     plan["files"] += 1
     end = "\r\n" if version == "4.00" else "\n"
     os.makedirs(os.path.dirname(name), exist_ok=True)
@@ -212,7 +214,7 @@ def broken(folder, plan):
     whole = ("\n".join(one) + "\n").encode()
     packed = gzip.compress(whole, mtime=0)
     for name, data, outcome in (("cut.rnx.gz", packed[:len(packed) // 2], "cut"), ("empty.rnx", b"", "empty"), ("notes.txt", b"no navigation\n", "no RINEX"),
-                                ("old.24n", whole.replace(b"     4.01", b"     2.11", 1), "version 2.11"), ("packed.zip", b"PK\3\4" + packed, "packed"),
+                                ("old.24n", whole.replace(b"     4.01", b"     1.00", 1), "version 1.00"), ("packed.zip", b"PK\3\4" + packed, "packed"),
                                 ("obs.rnx", whole.replace(b"N: GNSS NAV", b"O: GNSS OBS", 1), "no navigation file")):
         with open(os.path.join(folder, name), "wb") as file:
             file.write(data)

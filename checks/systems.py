@@ -1,24 +1,28 @@
 #!/usr/bin/env python3
 """Makes random navigation files of all systems and versions, and compares what navconvert writes with texts made here.
 
-  checks/systems.py [--program FILE] [--records N] [--files N] [--seed N] [--convbin FILE]
+  checks/systems.py [--program FILE] [--records N] [--files N] [--archive N] [--seed N] [--convbin FILE]
 
   --program FILE  navconvert (NAVCONVERT, or crates/navconvert/out/navconvert)
   --records N     records of each kind in each file (20)
   --files N       files that are merged too (0: none)
+  --archive N     instead of all else: a directory of so many files, merged by examples/merge_archive.py
   --seed N        of the random numbers (1)
   --convbin FILE  RTKLIB's convbin (the one of the path)
 
 Each column has a random integer of the full range of its broadcast field, written in the styles of several writers. A file is converted to
 RINEX 4 and RINEX 3; each result is converted again, to both. Numbers are exact fractions, rounded here. Where convbin is installed, the
 RINEX 3 file goes through it too: it gives the same numbers, but for the columns that it does not keep. Files that share records, some sent
-at other times and some with another number, are merged in two orders.
+at other times and some with another number, are merged in two orders. Those of an archive are of RINEX 2, 3 and 4, packed or not, some of
+two headers, with records that are carried, rejected and skipped; they are merged in several orders and sizes of batches.
 
 Exit status: 0 all correct; 1 something differs; 2 wrong arguments, or the program is missing.
 """
 import argparse
+import collections
 import copy
 import datetime
+import gzip
 import os
 import random
 import shutil
@@ -276,8 +280,14 @@ def body(data):
 class Check:
     """The program, and what was tried."""
 
-    def __init__(self, program, folder, files):
-        self.program, self.folder, self.files, self.tried, self.wrong = program, folder, files, 0, 0
+    def __init__(self, program, folder, options):
+        self.program, self.folder, self.tried, self.wrong = program, folder, 0, 0
+        self.files, self.archive = options.files, options.archive
+
+    def ended(self):
+        """The last line, and the exit status."""
+        print(f"systems: {self.tried} tried, {self.wrong} differ")
+        return 1 if self.wrong else 0
 
     def same(self, what, got, wanted):
         """One comparison."""
@@ -381,12 +391,107 @@ def merge(check, draw, count):
         check.same(f"{target} once more", body(check.converted(target, header(version) + wanted, target)), wanted)
 
 
+CARRIED = ("EPH G CNAV 9", "EPH C CNV1 10", "EPH J CNV2 10", "EPH R L1OC 9", "STO G LNAV 2", "STO E IFNV 2", "EOP J CNVX 3", "ION C D1D2 3", "ION J LNAV 3")
+
+
+def carried(draw):
+    """A record whose lines are carried, and what a table calls it."""
+    kind, system, message, count = draw.choice(CARRIED).split()
+    satellite = f"{system}{draw.choice(SATELLITES[system]):02}"
+    date = datetime.datetime(2006, 1, 1) + datetime.timedelta(seconds=draw.randrange(600_000_000))
+    number = lambda: text(Fraction(draw.randrange(-10**13, 10**13), 10**draw.randrange(4, 22)))
+    lines = [f"> {kind} {satellite} {message}", f"{satellite if kind == 'EPH' else '   '} {date:%Y %m %d %H %M %S}" + "".join(number() for _ in range(3))]
+    lines += ["    " + "".join(number() for _ in range(4)) for _ in range(int(count) - 2)]
+    return "\n".join(lines) + "\n", f"{system} {message if kind == 'EPH' else kind}"
+
+
+def archived(draw, records, further):
+    """A file of some of the records: its bytes, the records, those that are carried, and what is rejected and skipped."""
+    version = draw.choice(("2.10", "2.11", *VERSIONS, *VERSIONS))
+    some, beside, faults = draw.sample(records, draw.randrange(1, 50)), [], collections.Counter()
+    kind = "N: GNSS NAV DATA    M: MIXED"
+    if version[0] == "2":
+        system = draw.choice("GRS")
+        kind, some = OLDER[system], [it for it in records if it.system == system and (system != "R" or not it.known)][:draw.randrange(1, 30)]
+        texts = [it.older() for it in some]
+    else:
+        texts = [it.of(version, 0) for it in some]
+    if version[0] == "4":
+        beside = draw.sample(further, draw.randrange(6))
+        texts += [it for it, _ in beside]
+    texts += [texts[0].replace(".", "x")] * (draw.randrange(4) == 0)
+    faults["rejected", some[0].system] += len(texts) - len(some) - len(beside)
+    if version[0] != "2" and draw.randrange(4) == 0:
+        texts.append("X07 2024 01 01 00 00 00 0.000000000000D+00\n" if version[0] == "3" else "> EPH X07 LONG\n" + "X07\n" * 12)
+        faults["skipped", "X" if version[0] == "3" else "other lines"] += 1
+    draw.shuffle(texts)
+    return header(version, kind) + "".join(texts), some, beside, faults
+
+
+def archive(check, draw, count):
+    """A directory of files: what merge_archive makes of it, in several orders and sizes of batches, and its table."""
+    folder = os.path.join(check.folder, "archive")
+    os.mkdir(folder)
+    records = [Record(draw, kind) for kind in KINDS for _ in range(count)]
+    for it in records:
+        if it.system == "R" and draw.randrange(2):
+            it.known, it.lines[4] = False, [(UNKNOWN, UNKNOWN)] * 4
+        it.known = it.known and it.lines[-1] != [(UNKNOWN, UNKNOWN)] * 4
+    keplerian = [it for it in records if it.system not in "RS"]
+    records += [it.sent_again() for it in keplerian] + [it.changed() for it in keplerian if draw.randrange(2)]
+    further = [carried(draw) for _ in range(count * 3)]
+    first, written, paths, sums = {}, set(), [], collections.Counter()
+    for number in range(check.archive):
+        data = ""
+        for _ in range(draw.choice((1, 1, 1, 2))):
+            more, some, beside, faults = archived(draw, records, further)
+            data += more
+            sums.update(faults)
+            for it in some:
+                late = (it.sent is None, it.sent or 0)
+                if it.alike() not in first or late < first[it.alike()][0]:
+                    first[it.alike()] = late, it
+                sums["read", it.system] += 1
+            written.update(it for it, _ in beside)
+            sums.update(("carried", what) for _, what in beside)
+        data = data.replace("\n", draw.choice(("\n", "\n", "\r\n"))).encode("ascii")
+        path = os.path.join(folder, f"{number:04}.{draw.choice(('rnx', 'nav', '24n', 'txt'))}")
+        with open(path, "wb") as file:
+            file.write(gzip.compress(data, 1, mtime=0) if draw.randrange(2) else data)
+        paths.append(path)
+    wanted = "".join(it.of("4.01", 1) for it in sorted((it for _, it in first.values()), key=Record.rank))
+    orders = {"a directory": [folder], "the other order": paths[::-1], "shuffled": draw.sample(paths, len(paths)), "shuffled again": draw.sample(paths, len(paths))}
+    whole, out = None, os.path.join(check.folder, "archive.rnx")
+    for (what, names), size in zip(orders.items(), (64, 7, 1, 3)):
+        run = subprocess.run([os.path.join(TOP, "examples", "merge_archive.py"), "--program", check.program, "--date", "20240101 000000 UTC", "-o", out, "--again",
+                              "--batch", str(size), "-"], input="\n".join(names), capture_output=True, text=True, check=False)
+        check.same(f"{what} in batches of {size}: status and messages", f"{run.returncode}\n{run.stderr}", "0\n")
+        if run.returncode > 1:
+            return
+        with open(out, encoding="ascii") as file:
+            made = file.read()
+        texts = [f">{it}" for it in body(made).split(">")[1:]]
+        check.same(f"{what}: the records that are read", "".join(it for it in texts if it not in written), wanted)
+        check.same(f"{what}: those that are carried, each once", "".join(sorted(it for it in texts if it in written)), "".join(sorted(written)))
+        check.same(f"{what}: the bytes", made, whole or made)
+        whole = made
+        table = run.stdout[run.stdout.index("records "):]
+        lines = [(0, "records", sum(sums.values()))]
+        for key, order in (("read", "GRECJIS".index), ("carried", str), ("rejected", str), ("skipped", str)):
+            some = {it: times for (one, it), times in sums.items() if one == key and times}
+            lines.append((1, key, sum(some.values())))
+            lines += [(2, it, some[it]) for it in sorted(some, key=order)] if key != "rejected" else [(2, "number", sum(some.values()))]
+        lines.append((0, "kept", len(first) + len(written)))
+        check.same(f"{what}: the table", table, "".join(f"{'  ' * depth + it:40}{times:12}\n" for depth, it, times in lines))
+
+
 def main():
     """Tries all versions."""
     parser = argparse.ArgumentParser(description=__doc__.split("\n", maxsplit=1)[0])
     parser.add_argument("--program", default=os.environ.get("NAVCONVERT", os.path.join(TOP, "crates/navconvert/out/navconvert")))
     parser.add_argument("--records", type=int, default=20)
     parser.add_argument("--files", type=int, default=0)
+    parser.add_argument("--archive", type=int, default=0)
     parser.add_argument("--seed", type=int, default=1)
     parser.add_argument("--convbin", default=shutil.which("convbin"))
     options = parser.parse_args()
@@ -395,7 +500,10 @@ def main():
         return 2
     draw = random.Random(options.seed)
     with tempfile.TemporaryDirectory() as folder:
-        check = Check(options.program, folder, options.files)
+        check = Check(options.program, folder, options)
+        if options.archive:
+            archive(check, draw, options.records)
+            return check.ended()
         for version in VERSIONS:
             records = [Record(draw, kind) for kind in KINDS for _ in range(options.records)]
             draw.shuffle(records)
@@ -417,8 +525,7 @@ def main():
                     check.same(f"RINEX {version} of {system} to {to}", body(check.converted(f"RINEX {version}", data, target)), wanted)
         if options.files:
             merge(check, draw, options.records)
-        print(f"systems: {check.tried} tried, {check.wrong} differ")
-        return 1 if check.wrong else 0
+        return check.ended()
 
 
 if __name__ == "__main__":

@@ -1,7 +1,7 @@
 #!/usr/bin/env -S python3 -I
-"""Merges an archive of RINEX navigation files as they are: packed or not, versions 3 and 4, thousands of them.
+"""Merges an archive of RINEX navigation files as they are: packed or not, versions 2 to 4, all systems, thousands of them.
 
-The conversion is navbridge's. This script unpacks, finds out what each file is, hands batches of files over, and counts. It needs
+The conversion is navconvert's. This script unpacks, finds out what each file is, hands batches of files over, and counts. It needs
 Python 3.9 or later and its standard library.
 """
 import argparse
@@ -9,6 +9,7 @@ import bisect
 import collections
 import fcntl
 import fnmatch
+import functools
 import glob
 import hashlib
 import io
@@ -28,12 +29,12 @@ merge_archive [options] NAME..       files and directories
 merge_archive [options] - < LIST     names on standard input, one a line
 merge_archive --table ROWS..         the table of several FILE.files together
 
-Merges RINEX navigation files of versions 3 and 4 into one RINEX 4 file that has each ephemeris and ionosphere set once. A file is taken
+Merges RINEX navigation files of versions 2, 3 and 4, of all systems, into one RINEX 4 file that has each record once. A file is taken
 by its content, not by its name, and may be packed by gzip or compress (.gz, .Z). A file that cannot be used is named with the reason,
 and the rest is merged. Links to directories are followed; each directory is read once.
 
   -o FILE          the merged file; FILE.files has a row for each input, and FILE.parts what a later run need not do again
-  --cover FILE     the times for which each satellite has an ephemeris (one of -o and --cover, or both)
+  --cover FILE     the times for which each satellite of GPS and Galileo has an ephemeris (one of -o and --cover, or both)
   -j N             batches at work at once (as many as there are processors)
   --date TEXT      the header's date, as "20240101 000000 UTC" (now)
   --leap N         the header's leap seconds (18)
@@ -42,7 +43,8 @@ and the rest is merged. Links to directories are followed; each directory is rea
   --batch N        at most N files in one batch (64)
   --clean          removes FILE.parts at the end (not if two runs write one FILE)
   --again          uses nothing of earlier runs
-  --program FILE   navbridge (crates/navbridge/out/navbridge of this repository, else navbridge on the PATH; PROGRAM in the environment)
+  --program FILE   navconvert, or navbridge with navconvert next to it; --cover runs navbridge (those of this repository, else those on the
+                   PATH; PROGRAM in the environment)
   -q               only errors, and no table
   --help           this text
   --version        the version
@@ -55,21 +57,27 @@ Exit status: 0 every file was read; 1 the result is written, and some file was n
 3 the run failed (a full disk, for example), and FILE is as it was.
 """
 
-# a header of each version, as short as navbridge takes it: the files' own headers are looked at here and left out
-HEADERS = {
-    4: b"     4.01           N: GNSS NAV DATA    M: MIXED            RINEX VERSION / TYPE\n" + b" " * 60 + b"END OF HEADER\n",
-    3: b"     3.05           N: GNSS NAV DATA    M: MIXED            RINEX VERSION / TYPE\n" + b" " * 60 + b"END OF HEADER\n",
-}
-BATCH_BYTES = 128 << 20  # in a batch, unpacked, as far as names tell: those of version 3 are held in memory
+# forms of files: the version, and of version 2, which has a file for each system, the type; and a header of each, as short as navconvert
+# takes it: the files' own headers are looked at here and left out
+HEADERS = {form: text.ljust(60).encode() + b"RINEX VERSION / TYPE\n" + b" " * 60 + b"END OF HEADER\n" for form, text in (
+    ("4", "     4.01           N: GNSS NAV DATA    M: MIXED"),
+    ("3", "     3.05           N: GNSS NAV DATA    M: MIXED"),
+    ("2N", "     2.11           N: GPS NAV DATA"),
+    ("2G", "     2.11           G: GLONASS NAV DATA"),
+    ("2H", "     2.11           H: GEO NAV MSG DATA"))}
+FORMATS = {"4": "rinex", "3": "rinex3", "2": "rinex2"}  # the words of navconvert, by version
+LETTERS = {"2N": "G", "2G": "R", "2H": "S"}  # the system of a file of version 2
+SYSTEMS = "GRECJIS"  # those whose records are read
+BATCH_BYTES = 128 << 20  # in a batch, unpacked, as far as names tell: they are held in memory
 UNPACKED = 1 << 30  # one file may have so many bytes unpacked
-ONE_RUN = 3 << 30  # and one run of navbridge is given at most these (it takes 4 GiB)
-RULES = 2  # what earlier runs left is used where they read files by the same rules
+ONE_RUN = 3 << 30  # and one run of navconvert is given at most these (it takes 4 GiB)
+RULES = 3  # what earlier runs left is used where they read files by the same rules
 PART_DATE = ["--date", "20000101 000000 UTC", "--leap", "0"]  # the header of a part says nothing
 # what may become of a file: what it is, and which of its records are merged
 OUTCOMES = {
     "read": ("was read to its end", "all"),
     "ends short": ("has a last record with too few lines, or a last line without an end", "all but the last"),
-    "mixed": ("has records of the other version without a header, or an invalid second header", "the others"),
+    "mixed": ("has records of another version without a header, or an invalid second header", "the others"),
     "unfinished": ("is in a directory, and its name ends in `.part`", "none"),
     "left out": ("belongs to a merge, or is in a directory that was read already; it is not counted as a file", "none"),
     "cut": ("is packed, and ends early", "none"),
@@ -77,7 +85,7 @@ OUTCOMES = {
     "too large": ("has more than 1 GiB unpacked", "none"),
     "packed": ("is packed by a program other than gzip and compress", "none"),
     "empty": ("has no bytes, or zero bytes only", "none"),
-    "version": ("has a version that is not read, as in `version 2.11`", "none"),
+    "version": ("has a version that is not read, as in `version 3.01`", "none"),
     "no version": ("has no version in its first line", "none"),
     "no navigation file": ("is RINEX of another kind", "none"),
     "no RINEX": ("does not begin as RINEX does", "none"),
@@ -85,7 +93,7 @@ OUTCOMES = {
     "missing": ("does not exist", "none"),
     "unreadable": ("cannot be opened or read", "none"),
     "no file": ("is a pipe or a device", "none"),
-    "rejected": ("makes `navbridge` alone exit with another status than 0", "none"),
+    "rejected": ("makes `navconvert` alone exit with another status than 0", "none"),
 }
 READS = tuple(it for it, (_, merged) in OUTCOMES.items() if merged != "none")
 STOPS = (signal.SIGTERM, signal.SIGINT)  # what ends a run
@@ -170,7 +178,7 @@ def unpacked(data):
 
 
 LABEL = b"RINEX VERSION / TYPE"
-VERSION_LINE = re.compile(rb" *\d+\.\d* [^\n]*")
+VERSION_LINE = re.compile(rb" *\d+(?:\.\d*)? [^\n]*")
 
 
 def headers_of(data):
@@ -192,7 +200,7 @@ def column(line, first, last):
 
 
 def version_of(data):
-    """4 or 3 and where the header ends, as navbridge takes headers."""
+    """The form, and where the header ends, as navconvert takes headers."""
     if not data.strip(b"\0"):
         raise Unusable("empty", "" if not data else "bytes 0 alone")
     end = data.find(b"\n")
@@ -202,10 +210,12 @@ def version_of(data):
         note = "packed observations" if label.startswith(b"CRINEX") else "a byte order mark" if data[:3] == b"\xef\xbb\xbf" else ""
         raise Unusable("no RINEX", note)
     kind, version = column(first, 21, 21).decode("latin-1"), column(first, 1, 9).decode("latin-1").strip(" ")
-    if kind != "N":
-        what = {"O": "observations", "M": "meteorology", "G": "GLONASS of version 2", "H": "SBAS of version 2", "C": "clocks"}.get(kind, "")
+    form = "4" if re.fullmatch(r"4\.\d\d?", version) else "3" if version in ("3.02", "3.03", "3.04", "3.05") else ""
+    if re.fullmatch(r"2(\.\d\d?)?", version) and kind in ("N", "G", "H"):
+        form = "2" + kind
+    elif kind != "N":
+        what = {"O": "observations", "M": "meteorology", "C": "clocks"}.get(kind, "")
         raise Unusable("no navigation file", f"type {kind} {what}".strip())
-    form = 4 if re.fullmatch(r"4\.\d\d?", version) else 3 if version in ("3.02", "3.03", "3.04", "3.05") else 0
     if not form:
         raise Unusable(f"version {version}" if version.isprintable() and version else "no version", "")
     at = end
@@ -221,121 +231,174 @@ def version_of(data):
     raise Unusable("no end of header", "")
 
 
-TRIED = {b"EPH G LNAV", b"EPH E INAV", b"ION G LNAV", b"ION E IFNV"}
-# what begins a record: in version 4 a line with ">" (its columns 2 to 14), in version 3 one whose first column is not blank
+# the records of version 4 that are read: type, system and messages; the lines of others are carried
+READ = {
+    (b"EPH", b"G"): (b"LNAV",), (b"EPH", b"E"): (b"INAV", b"FNAV"), (b"EPH", b"R"): (b"FDMA",), (b"EPH", b"C"): (b"D1", b"D2"),
+    (b"EPH", b"J"): (b"LNAV",), (b"EPH", b"I"): (b"LNAV",), (b"EPH", b"S"): (b"SBAS",), (b"ION", b"G"): (b"LNAV",), (b"ION", b"E"): (b"IFNV",),
+}
+# what begins a record: in version 4 a line with ">" (its columns 2 to 14), in version 3 one whose first column is not blank, in version 2
+# one whose first two columns are not
 TITLE = re.compile(rb"\n>([^\n]{0,13})")
-START = re.compile(rb"\n(?=[^ \r\n]|\r[^\n])")
-SIXTH = re.compile(rb"(?:[^\n]*\n){5}([^\n]+)")  # the sixth line of a record, where it has one that is not empty
+STARTS = {"3": re.compile(rb"\n(?=[^ \r\n]|\r[^\n])"), "2": re.compile(rb"\n(?= ?(?:[^ \r\n]|\r[^\n]))"), "4": TITLE}
+# a record of version 4 that is not read and has more lines than are carried: it is skipped
+LONG = re.compile(rb"\n>(?!.EPH.(?:G...LNAV|E...[IF]NAV|R...FDMA|C...D[12]|[JI]...LNAV|S...SBAS)|.ION.(?:G...LNAV|E...IFNV))([^\n]{0,13})"
+                  rb"(?=[^\n]*\n(?:(?!>)[^\n]*\n){12})")
+SIXTH = re.compile(rb"(?:[^\n]*\n){5}([^\n]*)\n")  # the sixth line of a record, where it has one
 GALILEO = ord("E")
 SOURCE = re.compile(rb"[+-]?(?:\d+\.?\d*|\.\d+)(?:[DdEe][+-]?\d{1,3})?")
 
 
+@functools.lru_cache(4096)
+def titled(text):
+    """What a title of version 4 says, its columns 2 to 14: whether the record is read, and its system or what is carried."""
+    kind, system, message = text[1:4], text[5:6], text[9:13]
+    if message.startswith(READ.get((kind, system), ())):
+        return True, system.decode()
+    what = (message.strip() if kind == b"EPH" else kind).decode("latin-1")
+    known = kind in (b"EPH", b"ION", b"STO", b"EOP") and system.isalpha() and what.isascii() and what.isalnum()
+    return False, f"{system.decode('latin-1')} {what}" if known else "other records"
+
+
 def records_of_4(data, begin, end):
-    """The records of a version 4 file from a place on, and those that navbridge passes over, by what they are."""
-    titles = collections.Counter()
+    """The records of a version 4 file from a place on: those that are read, by system, and those that are carried and skipped, by what they
+    are."""
+    read, carried, passed = collections.Counter(), collections.Counter(), collections.Counter()
     for text, times in collections.Counter(TITLE.findall(data, begin - 1, end)).items():
-        titles[text[1:4] + b" " + text[5:6] + b" " + text[9:13]] += times
-    passed = collections.Counter()
-    for title, times in titles.items():
-        if title not in TRIED:
-            system, message = title[4:5].decode("latin-1"), title[6:].decode("latin-1").strip().replace("FNAV", "F/NAV")
-            kind = title[:3].decode("latin-1")
-            what = f"{system} {message if kind == 'EPH' else kind}" if system in "GE" else system
-            passed[what if system.isalpha() and what.isprintable() and not set(what) & set(",=") else "other lines"] += times
-    return sum(titles.values()), passed
+        is_read, what = titled(text)
+        (read if is_read else carried)[what] += times
+    for text in LONG.findall(data, begin - 1, end) if carried else ():
+        carried[titled(text)[1]] -= 1
+        passed["other lines"] += 1
+    return read, +carried, passed
 
 
 def source_of(text, known={}):
-    """What the data sources of a Galileo record of version 3 say: I/NAV or what is told of a record that is passed over."""
+    """What the data sources of a Galileo record of version 3 say: I/NAV, F/NAV, or none, which is skipped."""
     if text not in known:
         number = text.strip(b" ")
         value = -1.0
         if SOURCE.fullmatch(number):
             value = float(number.lower().replace(b"d", b"e"))
         bits = round(value) if -0.5 <= value < 1024 else -1
-        known[text] = "E no source" if not 0 <= bits <= 1023 else "E F/NAV" if bits & 2 else "I/NAV" if bits & 5 else "E no source"
+        if not 0 <= bits <= 1023 or bits & 2 and bits & 5:
+            known[text] = "E no source"
+        else:
+            known[text] = "I/NAV" if bits & 5 else "F/NAV" if bits & 2 or bits & 768 == 256 else "E no source"
     return known[text]
 
 
 def message_at(data, begin, end):
-    """What source_of says of a Galileo record of version 3 between two places."""
+    """What source_of says of a Galileo record of version 3 between two places; one without a sixth line is short in any case."""
     sixth = SIXTH.match(data, begin, end)
-    return source_of(sixth[1].rstrip(b"\r")[23:42].ljust(19)) if sixth else "E no source"
+    return source_of(sixth[1].rstrip(b"\r")[23:42].ljust(19)) if sixth else "F/NAV"
 
 
 def records_of_3(data, begin, end):
     """The same of a version 3 file."""
-    starts = [found.end() for found in START.finditer(data, begin - 1, end)]
+    starts = [found.end() for found in STARTS["3"].finditer(data, begin - 1, end)]
     systems = [data[at] for at in starts]
-    passed = collections.Counter()
+    read, passed = collections.Counter(), collections.Counter()
     for system, times in collections.Counter(systems).items():
-        if system not in b"GE":
-            letter = chr(system)
+        letter = chr(system)
+        if letter in SYSTEMS:
+            read[letter] = times
+        else:
             passed[letter if letter.isascii() and letter.isalpha() else "other lines"] += times
     for at, following, system in zip(starts, [*starts[1:], end], systems):
-        if system == GALILEO:
-            passed[message_at(data, at, following)] += 1
-    del passed["I/NAV"]
-    return len(starts), passed
+        if system == GALILEO and message_at(data, at, following) == "E no source":
+            passed["E no source"] += 1
+    read["E"] -= passed["E no source"]
+    return +read, {}, +passed
+
+
+def records_of(form, data, begin, end):
+    """The same of a file of any form."""
+    if form == "4":
+        return records_of_4(data, begin, end)
+    if form == "3":
+        return records_of_3(data, begin, end)
+    return {LETTERS[form]: len(STARTS["2"].findall(data, begin - 1, end))}, {}, {}
+
+
+def letter_of(form, line):
+    """The system of a record that is read, by its first line."""
+    return LETTERS.get(form) or (line[6:7] if form == "4" else line[:1]).decode("latin-1")
 
 
 def last_record(data, form, begin, end):
     """Where the last record begins."""
-    if form == 4:
+    if form == "4":
         return data.rfind(b"\n>", begin - 1, end) + 1
     at = end
     while at > begin:
         at = data.rfind(b"\n", begin - 1, at)
-        if START.match(data, at, end):
+        if STARTS[form[0]].match(data, at, end):
             return at + 1
     return begin
 
 
-# a record of the other version, which has no header of its own: a title in version 3, in version 4 the first line of a record
-# that does not follow a title
-OTHERS = {3: re.compile(rb"> ?(?:EPH|STO|EOP|ION) "), 4: re.compile(rb"[A-Z][ \d]\d [12]\d{3}[ \d]")}
-FIRST = re.compile(rb"\n" + OTHERS[4].pattern)  # begins with a fixed byte, which a search finds fast
-TITLED = re.compile(rb"\n>[^\n]*" + FIRST.pattern)
+# how a record of each version begins, which has no header of its own in a file of another one: in version 4 by a title, in version 3 by a
+# satellite and a year that follow none
+BEGINS = {"4": rb"> ?(?:EPH|STO|EOP|ION) ", "3": rb"[A-Z][ \d]\d [12]\d{3}[ \d]", "2": rb"[ \d]\d(?: [ \d]\d){5}[ \d]{2}\d\."}
+OTHERS = {version: re.compile(b"|".join(BEGINS[it] for it in BEGINS if it != version)) for version in BEGINS}
+FIRST = {version: re.compile(rb"\n" + BEGINS[version]) for version in "32"}  # begins with a fixed byte, which a search finds fast
+TITLED = re.compile(rb"\n>[^\n]*\n" + BEGINS["3"])
+
+
+def is_pure(data, version, begin):
+    """Whether a section has no records of another version, or at least none that could be one."""
+    if version == "4":
+        pure = len(FIRST["3"].findall(data, begin - 1)) == len(TITLED.findall(data, begin - 1))
+    else:
+        pure = data.find(b">", begin) < 0
+    return pure and not FIRST["3" if version == "2" else "2"].search(data, begin - 1)
 
 
 def without_others(data, form, begin):
-    """The bytes without records of the other version, how many these are, and the line of the first (of the bytes, from 0)."""
-    if form == 3 and data.find(b">", begin) < 0:
-        return data, 0, 0
-    if form == 4 and len(FIRST.findall(data, begin - 1)) == len(TITLED.findall(data, begin - 1)):
-        return data, 0, 0
-    kept, others, first, mine, behind_title = [data[:begin]], 0, 0, True, False
+    """The bytes without records of another version, of which that is, how many they are, and the line of the first (of the bytes, from 0)."""
+    version = form[0]
+    if is_pure(data, version, begin):
+        return data, set(), 0, 0
+    width = 2 if version == "2" else 1
+    older = re.compile(BEGINS["2"])
+    kept, versions, others, first, mine, behind_title = [data[:begin]], set(), 0, 0, True, False
     for number, line in enumerate(io.BytesIO(data[begin:])):
         title = line[:1] == b">"
-        if title or line[:1] not in b" \r\n" and not behind_title:
-            mine = title == (form == 4) or not OTHERS[form].match(line)
+        if title or older.match(line) or line[:width].strip(b" \r\n") and not behind_title:
+            mine = title and version == "4" or not OTHERS[version].match(line)
             first = first if mine or others else number
             others += not mine
+            if not mine:
+                versions.add("4" if title else "2" if older.match(line) else "3")
         if mine:
             kept.append(line)
-        behind_title = title and (form == 4 or not mine)
-    return b"".join(kept), others, data.count(b"\n", 0, begin) + first
+        behind_title = title and (version == "4" or not mine)
+    return b"".join(kept), versions, others, data.count(b"\n", 0, begin) + first
 
 
 def section_of(data, above):
-    """What stands below one header, as navbridge is to have it; so many lines are above the header. Counts are those of the records."""
+    """What stands below one header, as navconvert is to have it; so many lines are above the header. Counts are those of the records."""
     form, start = version_of(data)
     section = {"form": form, "outcome": "read", "notes": [], "refused": {}, "left_out": 0}
-    data, others, line = without_others(data, form, start)
+    data, versions, others, line = without_others(data, form, start)
     if others:
         section["outcome"] = "mixed"
-        section["notes"].append(f"records of version {7 - form} left out: {others}, the first in line {above + line + 1}")
-    first = (TITLE if form == 4 else START).search(data, start - 1)
+        section["notes"].append(f"records of version {' and '.join(sorted(versions))} left out: {others}, the first in line {above + line + 1}")
+    first = STARTS[form[0]].search(data, start - 1)
     begin, end = first.start() + 1 if first else len(data), len(data)
+    if data[start:begin].strip():
+        section["notes"].append("lines before the first record left out")
     if begin < end and data[-1:] != b"\n":
         # a number in a line without an end may be cut and still be a number, so its record is left out
         end = last_record(data, form, begin, end)
         section.update(outcome=worse("ends short", section["outcome"]), left_out=1)
         section["notes"].append("last record left out: its last line has no end")
-    records, passed = (records_of_4 if form == 4 else records_of_3)(data, begin, end)
+    read, carried, passed = records_of(form, data, begin, end)
+    records = sum(map(sum, (it.values() for it in (read, carried, passed))))
     lines_above, lines = data.count(b"\n", 0, begin), data.count(b"\n", begin, end)
     last = lines_above + 1 + lines - data.count(b"\n", last_record(data, form, begin, end), end) if records else 0
-    section.update(records=records, passed=dict(passed), above=lines_above, last=last, body=memoryview(data)[begin:end], lines=lines)
+    section.update(records=records, read=read, carried=carried, passed=passed, above=lines_above, last=last,
+                   body=memoryview(data)[begin:end], lines=lines)
     return section
 
 
@@ -345,13 +408,14 @@ def worse(*outcomes):
 
 
 def looked_at(path, row):
-    """Reads a file, and gives its sections, one for each header; fills in of its row what is known before navbridge has read them."""
+    """Reads a file, and gives its sections, one for each header; fills in of its row what is known before navconvert has read them."""
     try:
         with open(path, "rb") as file:
             data = file.read()
     except OSError as fault:
         raise Unusable("unreadable", fault.strerror) from None
     data, note = unpacked(data)
+    data = data.rstrip(b"\x1a")  # DOS marks an end so
     if note:
         row["notes"].append(note)
     sections, begins = [], headers_of(data)
@@ -366,7 +430,7 @@ def looked_at(path, row):
                 raise
             row["outcome"] = "mixed"
             row["notes"].append(f"what follows it left out: {why.args[0]}")
-    row.update(version=sections[0]["form"], bytes=len(data))
+    row.update(version=int(sections[0]["form"][0]), bytes=len(data))
     if not any(section["records"] or section["left_out"] for section in sections):
         row["notes"].append("no records")
     return sections
@@ -374,28 +438,30 @@ def looked_at(path, row):
 
 def summed(row, sections):
     """Fills in the row of a file what became of its sections."""
-    refused, passed = collections.Counter(row["refused"]), collections.Counter()
+    sums = {key: collections.Counter(row[key]) for key in COUNTED}
     for section in sections:
         if section["left_out"]:
             section["refused"]["cut"] = section["refused"].get("cut", 0) + 1
-        refused.update(section["refused"])
-        passed.update(section["passed"])
+        for key in COUNTED:
+            sums[key].update(section[key])
         row["records"] += section["records"] + section["left_out"]
         row["outcome"] = worse(row["outcome"], section["outcome"])
         row["notes"] += section["notes"]
-    row.update(refused=dict(refused), passed=dict(passed))
+    row.update({key: dict(+it) for key, it in sums.items()})
 
 
-# --- runs of navbridge
+# --- runs of navconvert
 
 class Call:
-    """A run of navbridge over many files. Where navconvert stands, a batch of files is one call of it, and this is the place."""
+    """A run of navconvert over many files of one form, as one below one header; its output goes to a file, and its report next to it."""
 
-    def __init__(self, program, words, output, report):
-        self.report = report
-        with open(report, "wb") as said:
+    def __init__(self, program, form, to, output, words=()):
+        self.form, self.output, self.report = form, output, output + ".report"
+        place, name = os.path.split(self.report)  # navconvert takes names in UTF-8 only, and the directory may have another
+        words = ["-f", FORMATS[form[0]], "-t", to, "-q", "-o", "-", "--overwrite", "--report", name, *words, "-"]
+        with open(output, "wb") as file:
             try:
-                self.run = subprocess.Popen([program, *words], stdin=subprocess.PIPE, stdout=output, stderr=said)
+                self.run = subprocess.Popen([program, *words], stdin=subprocess.PIPE, stdout=file, stderr=subprocess.DEVNULL, cwd=place or ".")
             except OSError as fault:
                 raise Failed(f"{program}: {fault.strerror}") from None
         try:
@@ -403,6 +469,7 @@ class Call:
         except OSError:
             pass
         self.lines = 0
+        self.give(HEADERS[form], 2)
 
     def give(self, data, lines=0):
         """Hands bytes over, so many lines; why a program has gone is told by its status."""
@@ -413,6 +480,15 @@ class Call:
             pass
         self.lines += lines
 
+    def give_records(self, path):
+        """Hands over the records of a file that navconvert wrote."""
+        with open(path, "rb") as file:
+            for line in file:
+                if line[60:].startswith(b"END OF HEADER"):
+                    break
+            for piece in iter(lambda: file.read(1 << 20), b""):
+                self.give(piece)
+
     def end(self):
         """The status, the lines refused with their reasons, and the counts."""
         try:
@@ -421,52 +497,67 @@ class Call:
             pass
         status = self.run.wait()
         refused, counts = [], collections.Counter()
-        with open(self.report, encoding="latin-1") as said:
-            for words in map(str.split, said):
-                if len(words) == 3 and words[0] == "line":
-                    refused.append((int(words[1]), words[2]))
-                elif len(words) == 2:
-                    counts[words[0]] = int(words[1])
+        if os.path.exists(self.report):
+            with open(self.report, encoding="latin-1") as said:
+                for words in map(str.split, said):
+                    if len(words) == 3 and words[0] == "line":
+                        refused.append((int(words[1]), words[2]))
+                    elif len(words) == 2:
+                        counts[words[0]] = int(words[1])
         return status, refused, counts
 
 
 class Disagreed(Exception):
     """A run that ended otherwise than with 0, or whose counts are not those that were counted here."""
 
-    def __init__(self, status, counts):
+    def __init__(self, status):
         super().__init__(status)
-        self.status, self.counts = status, counts
+        self.status = status
 
 
-def settle(call, sections, others):
-    """Ends a run and writes into the sections what was rejected; others are the records that it was given besides those of the sections, and
-    those of them that it skips. Where the counts are not those that were counted here, those of one file alone are navbridge's."""
+def settle(call, sections, others=0):
+    """Ends a run and writes into the sections what was rejected; it was given so many other records, which are read. Where the counts are
+    not those that were counted here, those of one file alone are navconvert's."""
     status, refused, counts = call.end()
-    records = counts["records"] - others[0] - sum(section["records"] for section in sections)
-    passed = counts["passed"] - others[1] - sum(sum(section["passed"].values()) for section in sections)
-    if status or records or passed:
-        if status or len({section["file"] for section in sections}) != 1:
-            raise Disagreed(status, counts)
-        first = sections[0]
-        apart = sum(first["passed"].values()) + passed
-        first.update(records=first["records"] + records,
-                     passed={**first["passed"], "of unknown kind": passed} if passed > 0 else {"of unknown kind": apart})
+    more = {key: counts[key] - sum(sum(section[key].values()) for section in sections) for key in ("carried", "passed")}
+    records = counts["records"] - others - sum(section["records"] for section in sections)
+    beyond = refused and (not sections or refused[-1][0] > sections[-1]["base"] + sections[-1]["lines"])  # what navconvert wrote, rejected
+    if status or beyond or records or any(more.values()):
+        if status or beyond or len({section["file"] for section in sections}) != 1:
+            raise Disagreed(status)
+        for key, count in more.items():
+            known = sections[0][key]
+            sections[0][key] = {**known, "of unknown kind": count} if count > 0 else {"of unknown kind": sum(known.values()) + count} if count else known
+        sections[0]["records"] += records
+        read = sum(sum(section["read"].values()) for section in sections) + records - sum(more.values())
+        for section in sections:
+            section["read"] = {}
+        sections[0]["read"] = {"of unknown kind": read - len(refused)}
     starts = [section["base"] for section in sections]
+    lines_of = {}
     for line, reason in refused:
-        section = sections[bisect.bisect_left(starts, line) - 1]
+        place = bisect.bisect_left(starts, line) - 1
+        section, line = sections[place], line - starts[place]
         section["refused"][reason] = section["refused"].get(reason, 0) + 1
-        if reason == "short" and line - section["base"] + section["above"] == section["last"]:
+        if place not in lines_of:
+            lines_of[place] = bytes(section["body"]).split(b"\n")
+        letter = letter_of(section["form"], lines_of[place][line - 1])
+        if letter in section["read"]:
+            section["read"][letter] -= 1
+        if reason == "short" and line + section["above"] == section["last"]:
             section["outcome"] = worse("ends short", section["outcome"])
             section["notes"].append("last record is truncated")
+    for section in sections:
+        del section["body"]
     return counts
 
 
 def one_run(tool, files, merged, dated):
-    """Merges files into one, by one run of navbridge, and one more where there are files of version 3; gives their rows and what is kept."""
-    read, rows, fours, threes = [], [], [], []
-    with open(merged, "wb") as output:
-        call = Call(tool.program, ["--from", "rinex", "--to", "merged", *dated], output, merged + ".report")
-        call.give(HEADERS[4], 2)
+    """Merges files into one, by one run of navconvert, and one before for each form but that of version 4; gives their rows and how many
+    records are kept."""
+    calls = {"4": Call(tool.program, "4", "merged", merged, dated)}
+    read, rows, given = [], [], collections.defaultdict(list)
+    try:
         for file in files:
             row = new_row(*file)
             rows.append(row)
@@ -477,29 +568,35 @@ def one_run(tool, files, merged, dated):
                 continue
             read.append((row, sections))
             for section in sections:
-                section["file"] = file[0]
-                if section["form"] == 4:
-                    section["base"] = call.lines
-                    fours.append(section)
-                    call.give(section.pop("body"), section["lines"])
-                else:
-                    threes.append(section)
-        others = (0, 0)
-        if threes:
-            call.give(b">\n")  # a record of its own, which is skipped: so one that is cut does not go on in the header that follows
-            older = Call(tool.program, ["--from", "rinex3", "--to", "rinex", *dated], call.run.stdin.fileno(), merged + ".report3")
-            older.give(HEADERS[3], 2)
-            for section in threes:
-                section["base"] = older.lines
-                older.give(section.pop("body"), section["lines"])
-            try:
-                others = (settle(older, threes, (0, 0))["items"] + 1, 1)
-            except Disagreed as why:
-                raise Disagreed(call.end()[0] or why.status, why.counts) from None
-        counts = settle(call, fours, others)
+                form = section["form"]
+                if form not in calls:
+                    calls[form] = Call(tool.program, form, "rinex", f"{merged}.{form}", dated)
+                section.update(file=file[0], base=calls[form].lines)
+                calls[form].give(section["body"], section["lines"])
+                given[form].append(section)
+        others = 0
+        for form in sorted(set(calls) - {"4"}):
+            call = calls.pop(form)
+            others += settle(call, given[form])["items"]
+            calls["4"].give_records(call.output)
+            os.remove(call.output)
+        settle(calls.pop("4"), given["4"], others)
+    finally:
+        for call in calls.values():
+            call.end()
     for row, sections in read:
         summed(row, sections)
-    return rows, counts["kept"]
+    return rows, records_in(merged)
+
+
+def records_in(path):
+    """How many records a file has that navconvert wrote."""
+    count, last = 0, b""
+    with open(path, "rb") as file:
+        for piece in iter(lambda: file.read(1 << 20), b""):
+            count += (last + piece).count(b"\n>")
+            last = piece[-1:]
+    return count
 
 
 def run_batch(tool, files, merged, dated):
@@ -508,10 +605,10 @@ def run_batch(tool, files, merged, dated):
         return one_run(tool, files, merged, dated)
     except Disagreed as why:
         if why.status in (4, 7):
-            raise Failed(f"navbridge could not write (status {why.status}): is the disk full?") from None
+            raise Failed(f"navconvert could not write (status {why.status}): is the disk full?") from None
         if len(files) == 1:
             row = new_row(*files[0])
-            row.update(outcome="rejected", notes=[f"navbridge ended with status {why.status}"])
+            row.update(outcome="rejected", notes=[f"navconvert ended with status {why.status}"])
             return [row], merge_files(tool, [], merged, dated)
         half = len(files) // 2
         rows = run_batch(tool, files[:half], merged + "a", dated)[0] + run_batch(tool, files[half:], merged + "b", dated)[0]
@@ -519,7 +616,7 @@ def run_batch(tool, files, merged, dated):
 
 
 def merge_files(tool, paths, merged, dated):
-    """Merges files that navbridge wrote into one; gives how many records it has."""
+    """Merges files that navconvert wrote into one; gives how many records it has."""
     level = 0
     while sum(map(os.path.getsize, paths)) > ONE_RUN:
         groups, size = [[]], 0
@@ -530,28 +627,24 @@ def merge_files(tool, paths, merged, dated):
                 size = os.path.getsize(path)
             groups[-1].append(path)
         if len(groups) == len(paths):
-            raise Failed("the result is larger than what one run of navbridge reads")
+            raise Failed("the result is larger than what one run of navconvert reads")
         level += 1
         for number, group in enumerate(groups):
             merge_files(tool, group, f"{merged}.{level}.{number}", dated)
         paths = [f"{merged}.{level}.{number}" for number in range(len(groups))]
-    with open(merged, "wb") as output:
-        call = Call(tool.program, ["--from", "rinex", "--to", "merged", *dated], output, merged + ".report")
-        call.give(HEADERS[4])
-        for path in paths:
-            with open(path, "rb") as file:
-                for piece in iter(lambda file=file: file.read(1 << 20), b""):
-                    call.give(piece)
+    call = Call(tool.program, "4", "merged", merged, dated)
+    for path in paths:
+        call.give_records(path)
     status, refused, counts = call.end()
-    if status or refused:
-        raise Failed(f"navbridge, merging what was merged, ended with status {status}, {len(refused)} records rejected")
-    return counts["kept"]
+    if status or refused or counts["passed"]:
+        raise Failed(f"navconvert, merging what was merged, ended with status {status}, {len(refused)} records rejected, {counts['passed']} skipped")
+    return records_in(merged)
 
 
 def make_cover(tool, merged, cover):
     """The times that a merged file covers; gives how many ranges they are."""
     with open(merged, "rb") as file, open(cover, "wb") as output:
-        ran = subprocess.run([tool.program, "--from", "rinex", "--to", "cover"], stdin=file, stdout=output, stderr=subprocess.DEVNULL, check=False)
+        ran = subprocess.run([tool.navbridge, "--from", "rinex", "--to", "cover"], stdin=file, stdout=output, stderr=subprocess.DEVNULL, check=False)
     if ran.returncode:
         raise Failed(f"navbridge exited with status {ran.returncode} at the times covered")
     with open(cover, "rb") as file:
@@ -562,11 +655,12 @@ def make_cover(tool, merged, cover):
 
 def new_row(name, size, when):
     """A row of a file, before anything is known of it."""
-    return {"name": name, "size": size, "when": when, "outcome": "read", "version": "", "bytes": 0, "records": 0, "passed": {}, "refused": {},
+    return {"name": name, "size": size, "when": when, "outcome": "read", "version": "", "bytes": 0, "records": 0, **{key: {} for key in COUNTED},
             "notes": []}
 
 
-COLUMNS = ("outcome", "version", "bytes", "records", "rejected", "skipped", "size", "time", "name", "notes")
+COUNTED = ("read", "carried", "refused", "passed")  # what becomes of records: each by what they are, or why
+COLUMNS = ("outcome", "version", "bytes", "records", "read", "carried", "rejected", "skipped", "size", "time", "name", "notes")
 
 
 def pairs(counts):
@@ -576,17 +670,21 @@ def pairs(counts):
 
 def row_text(row):
     """A row as a line of FILE.files."""
-    fields = (row["outcome"], row["version"] or "-", row["bytes"], row["records"], pairs(row["refused"]), pairs(row["passed"]), row["size"], row["when"],
+    fields = (row["outcome"], row["version"] or "-", row["bytes"], row["records"], *(pairs(row[key]) for key in COUNTED), row["size"], row["when"],
               shown(row["name"]), "; ".join(row["notes"]) or "-")
     return "\t".join(map(str, fields)) + "\n"
 
 
 def row_of(line):
-    """The row of such a line."""
-    outcome, version, size, records, refused, passed, packed, when, name, notes = line.rstrip("\n").split("\t")
+    """The row of such a line; those of earlier versions do not tell what was read and carried."""
+    fields = line.rstrip("\n").split("\t")
+    if len(fields) == len(COLUMNS) - 2:
+        fields[4:4] = "-", "-"
+    outcome, version, size, records, read, carried, refused, passed, packed, when, name, notes = fields
     counts = lambda text: {} if text == "-" else {what: int(times) for what, times in (pair.rsplit("=", 1) for pair in text.split(", "))}
-    return {"outcome": outcome, "version": "" if version == "-" else int(version), "bytes": int(size), "records": int(records), "refused": counts(refused),
-            "passed": counts(passed), "size": int(packed), "when": int(when), "name": named(name), "notes": [] if notes == "-" else notes.split("; ")}
+    return {"outcome": outcome, "version": "" if version == "-" else int(version), "bytes": int(size), "records": int(records), "read": counts(read),
+            "carried": counts(carried), "refused": counts(refused), "passed": counts(passed), "size": int(packed), "when": int(when), "name": named(name),
+            "notes": [] if notes == "-" else notes.split("; ")}
 
 
 def write_rows(path, rows, first):
@@ -630,17 +728,18 @@ def table(rows, first):
     if left:
         line(0, "directories left out", left)
         block(1, collections.Counter(note.split(": ")[0] for row in rows if row["outcome"] == "left out" for note in row["notes"]))
-    rejected, skipped = collections.Counter(), collections.Counter()
+    sums = {key: collections.Counter() for key in COUNTED}
     for row in rows:
-        rejected.update(row["refused"])
-        skipped.update(row["passed"])
+        for key in COUNTED:
+            sums[key].update(row[key])
     records = sum(row["records"] for row in rows)
     line(0, "records", records)
-    line(1, "read", records - sum(rejected.values()) - sum(skipped.values()))
-    line(1, "rejected", sum(rejected.values()))
-    block(2, rejected)
-    line(1, "skipped", sum(skipped.values()))
-    block(2, skipped)
+    line(1, "read", records - sum(sum(sums[key].values()) for key in COUNTED[1:]))
+    for system in sorted(sums["read"], key=lambda it: (SYSTEMS + it).index(it)):
+        line(2, system, sums["read"][system])
+    for key, what in (("carried", "carried"), ("refused", "rejected"), ("passed", "skipped")):
+        line(1, what, sum(sums[key].values()))
+        block(2, sums[key])
     for what in ("kept", "ranges"):
         if first.get(what) is not None:
             line(0, what, first[what])
@@ -780,7 +879,7 @@ class Tool:
         self.out = args.out
         self.base = args.out or args.cover
         self.parts = self.base + ".parts"
-        self.program = args.program
+        self.program, self.navbridge = programs_of(args.program)
         self.work = f"{self.base}.{os.uname().nodename}.{os.getpid()}.part"
         self.children = {}
         self.lock = None
@@ -953,6 +1052,28 @@ def version():
     return "of an unknown version"
 
 
+def beside(path, name):
+    """The program of this name that stands next to another: in its directory, or where this repository has what it builds."""
+    path = os.path.realpath(path)
+    folder = os.path.dirname(path)
+    for it in (os.path.join(folder, name), os.path.join(os.path.dirname(os.path.dirname(folder)), name, "out", name)):
+        if os.access(it, os.X_OK) and not os.path.isdir(it):
+            return it
+    return None
+
+
+def programs_of(named):
+    """navconvert and navbridge, where one of them is named, or none; None for what is not there."""
+    here = os.path.dirname(os.path.dirname(os.path.realpath(__file__)))
+    named = named or beside(os.path.join(here, "crates", "navbridge", "out", "navbridge"), "navconvert") or shutil.which("navconvert")
+    if not named or not os.access(named, os.X_OK) or os.path.isdir(named):
+        return None, None
+    named = os.path.abspath(named)
+    if os.path.basename(named) == "navbridge":
+        return beside(named, "navconvert"), named
+    return named, beside(named, "navbridge")
+
+
 def options(words):
     """The arguments; a wrong one is reported and ends with 2."""
     parser = argparse.ArgumentParser(prog="merge_archive", add_help=False, allow_abbrev=False, usage="merge_archive [options] NAME.. (see --help)")
@@ -991,10 +1112,9 @@ def options(words):
     for path in filter(None, (args.out, args.cover)):
         if os.path.isdir(path) or not os.path.isdir(os.path.dirname(path) or "."):
             parser.error(f"{path}: is a directory, or is in a directory that is missing")
-    built = os.path.join(os.path.dirname(os.path.dirname(os.path.realpath(__file__))), "crates", "navbridge", "out", "navbridge")
-    args.program = args.program or (built if os.path.exists(built) else shutil.which("navbridge"))
-    if not args.program or not os.access(args.program, os.X_OK) or os.path.isdir(args.program):
-        parser.error(f"build first: no program {args.program or 'navbridge'}; rt ci, or rt run in crates/navbridge, leaves it, or --program names one")
+    for name, program in zip(("navconvert", "navbridge"), programs_of(args.program)):
+        if not program and (name == "navconvert" or args.cover):
+            parser.error(f"build first: no {name}{f' at {args.program}' if args.program else ''}; rt ci leaves it, or --program names one")
     return args
 
 

@@ -19,7 +19,7 @@ navreport [options] -o DIR - < LIST     names on standard input, one per line
 
 Makes a site of static pages in DIR: which satellite has an ephemeris at which time, gaps of two hours and more, coverage in percent by
 system, satellite and day, what was rejected and why, ephemerides that contradict each other, health changes. DIR/index.html opens in a
-browser without a server and without a network; DIR/report.json has the same numbers. Files are RINEX navigation files of versions 3 and 4,
+browser without a server and without a network; DIR/report.json has the same numbers. Files are RINEX navigation files of versions 2 to 4,
 packed by gzip or compress or plain, detected by their content.
 
   -o DIR           the site; made if it is not there, and files of an earlier site in it are replaced
@@ -31,7 +31,7 @@ packed by gzip or compress or plain, detected by their content.
   --name PATTERN   of directories, only files with such names, as '*MN.rnx*'; may be given more than once
   -0               names on standard input end with a zero byte, not with a line
   --date TEXT      the date that the pages show, as "20240101 000000 UTC" (now)
-  --program FILE   navbridge (crates/navbridge/out/navbridge of this repository, else navbridge in the PATH; PROGRAM in the environment)
+  --program FILE   navconvert or navbridge, the other next to it (those of this repository, else those in the PATH; PROGRAM in the environment)
   -q               prints no summary
   --help           this text; --version, alone, the version
 
@@ -80,10 +80,9 @@ def options(arguments):
     for path in filter(None, (args.site, args.cache)):
         if os.path.exists(path) and not os.path.isdir(path):
             parser.error(f"{path}: not a directory")
-    built = os.path.join(os.path.dirname(merge.__file__), "..", "crates", "navbridge", "out", "navbridge")
-    args.program = args.program or (os.path.realpath(built) if os.path.exists(built) else shutil.which("navbridge"))
-    if not args.program or not os.access(args.program, os.X_OK) or os.path.isdir(args.program):
-        parser.error(f"no program {args.program or 'navbridge'}; rt ci, or rt run in crates/navbridge, builds it, or --program names one")
+    for name, program in zip(("navconvert", "navbridge"), merge.programs_of(args.program)):
+        if not program:
+            parser.error(f"no program {name}{f' at {args.program}' if args.program else ''}; rt ci builds it, or --program names one")
     return args
 
 

@@ -288,7 +288,7 @@ def report(found, made, title, first, last):
                   "not_read": len(rows) - sum(outcomes[it] for it in gather.merge.READS),
                   "by_outcome": dict(sorted(outcomes.items()))},
         "records": {"records": total, "rejected": sum(rejected.values()), "skipped": sum(skipped.values()),
-                    "read": total - sum(rejected.values()) - sum(skipped.values()),
+                    "read": total - sum(rejected.values()) - sum(skipped.values()) - sum(summed(rows, "carried").values()),
                     "rejected_by_reason": rejected, "skipped_by_kind": skipped,
                     "distinct_ephemerides": ephemerides, "outside_span": len(outside)},
         "outside": [{"satellite": name, "toe": toe, "toe_text": text_of(toe)} for toe, name in outside[:1000]],

@@ -21,7 +21,6 @@ FIELDS = {
           "spare"),
 }
 WHOLE = {"IODE", "IODnav", "Toe", "codes on L2", "data sources", "week", "L2 P flag", "health", "IODC", "fit interval"}
-FORMATS = {4: "rinex", 3: "rinex3"}
 Ephemeris = collections.namedtuple("Ephemeris", "satellite toe issue health lines")
 
 
@@ -37,16 +36,16 @@ class Archive(merge.Tool):
 
 
 def run(tool, to, source, result):
-    """One conversion by navbridge of a file that it wrote itself."""
+    """One conversion by navbridge, which reads GPS and Galileo I/NAV, of a merged file."""
     with open(source, "rb") as file, open(result, "wb") as output:
-        ran = subprocess.run([tool.program, "--from", "rinex", "--to", to], stdin=file, stdout=output, stderr=subprocess.DEVNULL,
+        ran = subprocess.run([tool.navbridge, "--from", "rinex", "--to", to], stdin=file, stdout=output, stderr=subprocess.DEVNULL,
                              check=False)
     if ran.returncode:
         raise merge.Failed(f"navbridge --to {to} ended with exit status {ran.returncode}")
 
 
 def records(path):
-    """The records of a file that navbridge wrote: the number of the first line, and the lines with their ends."""
+    """The records of a file that navconvert wrote: the number of the first line, and the lines with their ends."""
     begun, lines = 0, []
     with open(path, "rb") as file:
         for number, line in enumerate(file, 1):
@@ -65,7 +64,7 @@ def ephemerides(merged, listed):
     with open(listed, encoding="ascii") as file:
         rows = (words for words in map(str.split, file) if words[1] == "EPH")
         for number, lines in records(merged):
-            if lines[0][2:5] == b"EPH":
+            if lines[0][2:5] == b"EPH" and (lines[0][6:7], lines[0][10:14]) in ((b"G", b"LNAV"), (b"E", b"INAV")):
                 words = next(rows)
                 if int(words[0]) != number:
                     raise merge.Failed(f"navbridge --to list: line {words[0]} in place of {number}")
@@ -105,7 +104,8 @@ LOOK = {}  # what the workers need, set before they start
 HEAD = 1 << 13  # bytes in which the line with the program is
 EPOCH = re.compile(rb"\n([GE][^\n]{22})")  # satellite and epoch
 # the same where navbridge reads the record, by version; Galileo's of version 3 are told apart by their sixth line
-EPOCHS = {4: re.compile(rb"\n>.EPH.(?:G...LNAV|E...INAV)[^\n]*" + EPOCH.pattern), 3: EPOCH}
+EPOCHS = {"4": re.compile(rb"\n>.EPH.(?:G...LNAV|E...INAV)[^\n]*" + EPOCH.pattern), "3": EPOCH}
+EPOCH2 = re.compile(rb"\n([ \d]\d) ([ \d]\d) ([ \d]\d) ([ \d]\d) ([ \d]\d) ([ \d]\d) ?([ \d]\d)\.")  # of GPS in version 2
 
 
 def content_of(name, whole):
@@ -125,7 +125,7 @@ def producer_of(data):
 
 
 def sections_of(data):
-    """What is below each header of a file: version, how many lines are above, where it begins and ends."""
+    """What is below each header of a file: form, how many lines are above, where it begins and ends."""
     begins = merge.headers_of(data)
     for begin, end in zip(begins, [*begins[1:], len(data)]):
         try:
@@ -135,24 +135,32 @@ def sections_of(data):
         yield form, data.count(b"\n", 0, begin + start), begin + start, end
 
 
+def epoch_of(form, found):
+    """Satellite and epoch as version 4 has them, blanks as zeros."""
+    if form != "2N":
+        return found[1].replace(b" ", b"0")
+    satellite, year, *others = map(int, found.groups())
+    return b"G%02d0%d" % (satellite, year + (1900 if year >= 80 else 2000)) + b"".join(b"0%02d" % it for it in others)
+
+
 def candidates(form, data, begin, end):
-    """The records of a section that could be one of the wanted: where each begins and ends. Those that navbridge skips are left out,
-    and a last one whose last line has no end."""
-    for found in EPOCHS[form].finditer(data, begin - 1, end):
-        if found[1].replace(b" ", b"0") not in LOOK["epochs"]:
+    """The records of a section that could be one of the wanted: where each begins and ends. Those of which navbridge reads none are left
+    out, and a last one whose last line has no end."""
+    for found in (EPOCH2 if form == "2N" else EPOCHS[form]).finditer(data, begin - 1, end) if form in ("2N", "3", "4") else ():
+        if epoch_of(form, found) not in LOOK["epochs"]:
             continue
         start, at = found.start() + 1, found.start(1)
-        after = (merge.TITLE if form == 4 else merge.START).search(data, at, end)
+        after = merge.STARTS[form[0]].search(data, at, end)
         stop = after.start() + 1 if after else end
         if data[stop - 1:stop] != b"\n":
             continue
         titled = data[data.rfind(b"\n", 0, at - 1) + 1:at].startswith(b">")
-        if form == 4 or not titled and (data[at:at + 1] == b"G" or merge.message_at(data, at, stop) == "I/NAV"):
+        if form != "3" or not titled and (data[at:at + 1] == b"G" or merge.message_at(data, at, stop) == "I/NAV"):
             yield start, stop
 
 
 def give_wanted(call, number, form, above, data, begin, end):
-    """Hands the candidates of a section to navbridge; gives for each the lines that navbridge has before it, the file, and its line."""
+    """Hands the candidates of a section to navconvert; gives for each the lines that it has before it, the file, and its line."""
     given, texts, lines = [], [], call.lines
     for start, stop in candidates(form, data, begin, end):
         above += data.count(b"\n", begin, start)
@@ -165,8 +173,9 @@ def give_wanted(call, number, form, above, data, begin, end):
 
 
 def give_all(call, parts, number, form, above, lines):
-    """Hands all records of a section to navbridge; gives the last one as rejected if its last line has no end."""
-    begins = [at for at, line in enumerate(lines) if (line[:1] == b">" if form == 4 else line[:1].strip(b" \r"))]
+    """Hands all records of a section to navconvert; gives the last one as rejected if its last line has no end."""
+    width = 2 if form[0] == "2" else 1
+    begins = [at for at, line in enumerate(lines) if (line[:1] == b">" if form == "4" else line[:width].strip(b" \r"))]
     if not begins:
         return []
     cut = [(number, above + begins[-1] + 1, "cut", "")] if lines[-1] else []
@@ -185,10 +194,8 @@ def look_again(files):
 
         def call(form, to):
             if (form, to) not in calls:
-                words = ["--from", FORMATS[form], "--to", to, *(merge.PART_DATE if to == "rinex" else [])]
-                with open(os.path.join(place, f"{form}.{to}"), "wb") as output:
-                    calls[form, to] = merge.Call(LOOK["program"], words, output, output.name + ".report")
-                calls[form, to].give(merge.HEADERS[form], 2)
+                output = os.path.join(place, f"{form}.{to}")
+                calls[form, to] = merge.Call(LOOK["program"], form, to, output, merge.PART_DATE if to == "rinex" else [])
             return calls[form, to]
 
         for number, name, for_rejected, for_versions in files:
@@ -205,12 +212,12 @@ def look_again(files):
         for (form, to), one in calls.items():
             status, refused, counts = one.end()
             if status:
-                raise merge.Failed(f"navbridge --from {FORMATS[form]} --to {to} ended with exit status {status}")
+                raise merge.Failed(f"navconvert -f {merge.FORMATS[form[0]]} -t {to} ended with exit status {status}")
             if to == "list":
                 bases = [it[0] for it in parts[form]]
                 for line, reason in refused:
                     base, number, above, lines = parts[form][merge.bisect.bisect_left(bases, line) - 1]
-                    text = b"".join(lines[line - base - (form == 3):][:1])[:23].decode("latin-1")
+                    text = b"".join(lines[line - base - (form != "4"):][:1])[:23].decode("latin-1")
                     text = "".join(c if c.isprintable() else "?" for c in text).strip()
                     rejected.append((number, line - base + above, reason, text))
             else:
