@@ -395,6 +395,8 @@ for count in 1 5 17; do
   run "RINEX 2 cut off inside its last number" 1 "1 record rejected" --check cut.24n
   grep -q ": short$" out || differs "RINEX 2 cut off inside its last number" "$(cat out)"
 done
+run "a long name of GPS alone" 0 "H_GN.rnx: 3 ephemerides" "${date[@]}" --long-name ONLY00CCC -o in older.24n
+run "a long name of GLONASS alone" 0 "H_RN.rnx: 7 ephemerides" "${date[@]}" --long-name ONLY00CCC -o in older.24g
 run "RINEX 2 and 3 compared" 0 - --diff -q older.24n <(grep -v '^[^G ]' every3.rnx)
 
 # ---- what is skipped
