@@ -326,24 +326,24 @@ for line in open(path):
         body = "END OF HEADER" in line
         continue
     if line[0] == " ":
-        line = line[1:]
+        line, count = line[1:], count + 1
     else:
-        of, third = line[0], line[61:]
+        of, third, count = line[0], line[61:], 1
         # the second of the day of a GLONASS frame
         if of == "R":
             third = f"{float(third.replace('D', 'E')) % 86400:19.12E}".replace("E", "D")
         date = " ".join(f"{int(line[at : at + 2]):2}" for at in (9, 12, 15, 18))
         line = f"{int(line[1:3]):2} {line[6:8]} {date} {int(line[21:23]):2}.0{line[23:61]}{third}"
-    if of == letter:
+    # RINEX 2 has no fifth line of GLONASS
+    if of == letter and (of != "R" or count < 5):
         print(line)
 END
 for it in "G24nN: GPS NAV DATA" "R24gGLONASS NAV DATA" "S24hH: GEO NAV MSG DATA"; do
   letter=${it:0:1} older=older.${it:1:3}
   python3 older.py "$letter" "${it:4}" every3.rnx > "$older"
-  awk -v of="$letter" '/END OF HEADER/ { body = 1; print; next } !body { print; next } /^[A-Z]/ { on = substr($0, 1, 1) == of } on' every3.rnx > newer.rnx
+  awk -v of="$letter" '/END OF HEADER/ { body = 1; print; next } !body { print; next } /^[A-Z]/ { on = substr($0, 1, 1) == of; n = 0 } ++n < 5 + 9 * (of != "R") && on' every3.rnx > newer.rnx
   run "RINEX 2 of $letter to RINEX 3" 0 "; nothing rejected, nothing skipped" "${date[@]}" -t rinex3 --overwrite -o older.rnx "$older"
-  is_same "RINEX 2 of $letter to RINEX 3" older.rnx newer.rnx
-  for to in rinex rtcm list count merged; do
+  for to in rinex3 rinex rtcm list count merged; do
     run "RINEX 3 of $letter to $to" 0 - -q "${date[@]}" -t $to --overwrite -o newer.out newer.rnx
     run "RINEX 2 of $letter to $to" 0 - -q "${date[@]}" -t $to -f rinex --overwrite -o older.out "$older"
     is_same "RINEX 2 of $letter to $to" <(sed 's/^[0-9]* EPH/EPH/' older.out) <(sed 's/^[0-9]* EPH/EPH/' newer.out)
@@ -358,6 +358,46 @@ run "the command for RINEX 2" 0 - -n "${date[@]}" -o shown2.rnx older.24n
 PATH=$PWD/path:$PATH sh ./out 2> said || differs "the command for RINEX 2" "it fails"
 run "RINEX 2" 0 - -q "${date[@]}" -o older.rnx --overwrite older.24n
 is_same "the command for RINEX 2" shown2.rnx older.rnx
+
+cat older.24n older.24g older.24h > joined.24n
+run "RINEX 2 of three systems, joined" 0 "; nothing rejected, nothing skipped" "${date[@]}" -t rinex --overwrite -o joined.rnx joined.24n
+cat <(sed -n '1,/END OF HEADER/p' every4.rnx) > parts.rnx
+for it in n g h; do
+  run "RINEX 2 of one" 0 - -q "${date[@]}" --overwrite -o part.rnx "older.24$it"
+  sed '1,/END OF HEADER/d' part.rnx >> parts.rnx
+done
+is_same "RINEX 2 of three systems, joined" joined.rnx parts.rnx
+lines=$(wc -l < older.24n)
+for it in every3 every4; do
+  cat older.24n $it.rnx > behind.24n
+  run "$it behind RINEX 2" 5 "line $((lines + 1)) begins another RINEX version or type" -t list -o behind.list behind.24n
+  cat $it.rnx older.24n > behind.rnx
+  run "RINEX 2 behind $it" 5 "line $(($(wc -l < $it.rnx) + 1)) begins another RINEX version or type" -t list -o behind.list behind.rnx
+done
+cat older.24n <(printf '     2.11           OBSERVATION DATA    M (MIXED)           RINEX VERSION / TYPE\n') > behind.24n
+run "observations behind RINEX 2" 5 "line $((lines + 1)) begins another RINEX version or type" -t list -o behind.list behind.24n
+is_gone "joined files of two versions" behind.list
+sed 4d older.24n > short.24n
+run "RINEX 2 with a line less" 1 "1 record rejected" --check short.24n
+sed 3d older.24n > headless.24n
+run "RINEX 2 without the first line of a record" 1 "1 record rejected" --check headless.24n
+grep -q "^headless.24n: line 3: satellite$" out || differs "RINEX 2 without the first line of a record" "$(cat out)"
+sed 11d older.24n > headless.24n
+run "RINEX 2 without the first line of a further record" 1 "1 record rejected" --check headless.24n
+grep -q "^headless.24n: line 11: satellite$" out || differs "RINEX 2 without the first line of a further record" "$(cat out)"
+printf '%s' "$(cat older.24n)" > open.24n
+printf '\032' | cat older.24n - > dos.24n
+for it in open dos; do
+  run "RINEX 2, $it" 0 - --check -q $it.24n
+done
+for count in 1 5 17; do
+  head -c "-$count" open.24n > cut.24n
+  run "RINEX 2 cut off inside its last number" 1 "1 record rejected" --check cut.24n
+  grep -q ": short$" out || differs "RINEX 2 cut off inside its last number" "$(cat out)"
+done
+run "a long name of GPS alone" 0 "H_GN.rnx: 3 ephemerides" "${date[@]}" --long-name ONLY00CCC -o in older.24n
+run "a long name of GLONASS alone" 0 "H_RN.rnx: 7 ephemerides" "${date[@]}" --long-name ONLY00CCC -o in older.24g
+run "RINEX 2 and 3 compared" 0 - --diff -q older.24n <(grep -v '^[^G ]' every3.rnx)
 
 # ---- what is skipped
 cp "$examples/rtklib_style.nav" .
@@ -417,9 +457,9 @@ cat one.rnx version3.nav > four_three.rnx
 cat version3.nav one.rnx > three_four.rnx
 cat one.rnx <(sed '1,/END OF HEADER/d' version3.nav) > headless.rnx
 lines=$(wc -l < one.rnx)
-run "RINEX 3 behind RINEX 4" 5 "line $((lines + 1)) begins RINEX 3 in a file of RINEX 4" -t list -o joined.list four_three.rnx
-run "RINEX 3 behind RINEX 4, without its header" 5 "line $((lines + 1)) begins RINEX 3 in a file of RINEX 4" -t list -o joined.list headless.rnx
-run "RINEX 4 behind RINEX 3" 5 "line $(($(wc -l < version3.nav) + 1)) begins RINEX 4 in a file of RINEX 3" -t list -o joined.list three_four.rnx
+run "RINEX 3 behind RINEX 4" 5 "line $((lines + 1)) begins another RINEX version or type" -t list -o joined.list four_three.rnx
+run "RINEX 3 behind RINEX 4, without its header" 5 "line $((lines + 1)) begins another RINEX version or type" -t list -o joined.list headless.rnx
+run "RINEX 4 behind RINEX 3" 5 "line $(($(wc -l < version3.nav) + 1)) begins another RINEX version or type" -t list -o joined.list three_four.rnx
 is_gone "joined files of two versions" joined.list
 
 # ---- names, numbers

@@ -1,5 +1,5 @@
 -- Names of navigation files by the convention of RINEX 3 and 4: the nine characters of the site, `R` for data of a receiver, the
--- start as year, day of year, hour and minute, the period, and `MN` for mixed navigation data.
+-- start as year, day of year, hour and minute, the period, and the type of the data, as `MN` for mixed navigation data.
 use Rattle.std.specs.Prelude.{◌==◌, ◌+◌, ◌-◌, ◌/◌, ◌%◌, ◌&&◌, ◌||◌, not, nat_lt, ℕ, Bool, if◌then◌else◌, List, [], ◌∷◌, ◌++◌, slice_index, codes}
 use Rattle.gnss_week.specs.Functions.{civil_to}
 use Rattle.gnss_week.specs.declared.calendar.Civil.{Civil}
@@ -52,10 +52,14 @@ start_time first last = if is_one_hour first last then two (civil_to first).hour
 abbrev pub start_date : Civil → List ℕ
 start_date c = four c.year ++ three (day_of_year c)
 
--- The name of a file with data of a site from the first time to the last.
-unfoldable pub long_name : List ℕ → ℕ → ℕ → List ℕ
-long_name site first last =
-    (((((site ++ codes "_R_") ++ start_date (civil_to first)) ++ start_time first last) ++ codes "_") ++ period_of first last) ++ codes "_MN.rnx"
+-- the site and the period from the first time to the last
+unfoldable pub site_times : List ℕ → ℕ → ℕ → List ℕ
+site_times site first last =
+    (((((site ++ codes "_R_") ++ start_date (civil_to first)) ++ start_time first last) ++ codes "_") ++ period_of first last) ++ codes "_"
+
+-- The name of a file with data of this type of a site from the first time to the last.
+abbrev pub long_name : List ℕ → ℕ → ℕ → List ℕ → List ℕ
+long_name site first last type = (site_times site first last ++ type) ++ codes ".rnx"
 
 -- A site: four capital letters or digits, a digit for the monument, one for the receiver, and the three letters of the country.
 unfoldable pub is_site : List ℕ → Bool

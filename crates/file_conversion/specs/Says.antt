@@ -12,7 +12,7 @@ use Rattle.whole_file.specs.declared.faults.FileFault.TheVariants.{AlreadyThere,
 use Rattle.file_conversion.specs.declared.stops.Stop.{Stop}
 use Rattle.file_conversion.specs.declared.stops.Stop.TheVariants as stops
 use Rattle.file_conversion.specs.declared.says.Refusal.{Refusal}
-use Rattle.file_conversion.specs.declared.says.Refusal.TheVariants.{NoSuchConversion, Unready, Foreign, Date, Week, Leap, NoName, NoFiles, SeveralFiles, AmongFiles, Site, NoLongName, NoTimes, NotOpened, Closed, EmptyName, ReadFault, OutputThere, NoFile, MadeBefore, PartThere, SameFile, SameReport, WriteFault, NotAccepted, Rinex3From, Rinex4From, NoMemory, ReportFault, TooLong, Word, NotUtf8}
+use Rattle.file_conversion.specs.declared.says.Refusal.TheVariants.{NoSuchConversion, Unready, Foreign, Date, Week, Leap, NoName, NoFiles, SeveralFiles, AmongFiles, Site, NoLongName, NoTimes, NotOpened, Closed, EmptyName, ReadFault, OutputThere, NoFile, MadeBefore, PartThere, SameFile, SameReport, WriteFault, NotAccepted, OtherFrom, NoMemory, ReportFault, TooLong, Word, NotUtf8}
 
 -- 2 for what was asked, 3 for the input, 4 for the output, 5 for a header, 6 for memory, 7 for the report, 8 for an input that
 -- is too long, 9 for a command-line word
@@ -42,8 +42,7 @@ status_of (SameFile name) = 4
 status_of (SameReport name) = 4
 status_of (WriteFault name fault) = 4
 status_of (NotAccepted kind) = 5
-status_of (Rinex3From line) = 5
-status_of (Rinex4From line) = 5
+status_of (OtherFrom line) = 5
 status_of NoMemory = 6
 status_of ReportFault = 7
 status_of TooLong = 8

@@ -5,7 +5,7 @@ ghost use Rattle.std.specs.Prelude.{◌≤◌, IfOk, OnOk, nat_lt};
 ghost use Rattle.std.specs.String.{string_bytes};
 ghost use Rattle.file_conversion.specs.Long.{long_name, is_site, is_leap};
 ghost use Rattle.file_conversion.specs.Long.{day_of_year, is_one_hour, period_of, start_time};
-ghost use Rattle.file_conversion.specs.Long.{start_date};
+ghost use Rattle.file_conversion.specs.Long.{site_times, start_date};
 
 use crate::digits::{push_four, push_three, push_two};
 use crate::form::fits;
@@ -24,7 +24,8 @@ pub fn is_site(text: &str) -> bool
 }
 
 /// The name of a navigation file with data of this site from the first time to the last, such as
-/// `BRDC00XXX_R_20240010000_01D_MN.rnx`.
+/// `BRDC00XXX_R_20240010000_01D_MN.rnx`. The type of the data is `MN` for several systems, and `GN`,
+/// `RN`, `EN`, `CN`, `JN`, `IN` or `SN` for one.
 ///
 /// The period starts at the full hour if both times are in one hour, and else at the midnight
 /// before the first. A period of more than 99 days is unspecified (`00U`).
@@ -33,25 +34,28 @@ pub fn long_name(
     site: &str,
     first: Moment,
     last: Moment,
+    data: &str,
 ) -> Result<String, AllocError>
-    ensures { IfOk result (λ name. string_bytes name ≡ long_name site.now first last) }
+    ensures { IfOk result (λ name. string_bytes name ≡ long_name site.now first last data.now) }
 {
     let mut name = String::from_str(alloc, site)?;
     push_times(&mut name, first, last)?;
+    name.push_str(data)?;
+    name.push_str(".rnx")?;
     Ok(name)
 }
 
-// Makes a site the name with these times.
-#[tactic(auto, unfolding(crate::specs::Long::long_name))]
+// Appends these times to a site.
+#[tactic(auto, unfolding(crate::specs::Long::site_times))]
 fn push_times(name: &mut String, first: Moment, last: Moment) -> Result<(), AllocError>
-    ensures { OnOk result (string_bytes name.new ≡ long_name (string_bytes name.old) first last) }
+    ensures { OnOk result (string_bytes name.new ≡ site_times (string_bytes name.old) first last) }
 {
     name.push_str("_R_")?;
     push_date(name, &civil(first))?;
     push_time(name, first, last)?;
     name.push_str("_")?;
     push_period(name, first, last)?;
-    name.push_str("_MN.rnx")
+    name.push_str("_")
 }
 
 // Whether both times lie in one hour.

@@ -66,10 +66,8 @@ pub enum Refusal<'a> {
     WriteFault(&'a str, FileFault),
     /// The first line or the header of a file of this format is not accepted.
     NotAccepted(Kind),
-    /// From this line on a file of RINEX 4 has records of RINEX 3.
-    Rinex3From(u64),
-    /// From this line on a file of RINEX 3 has records of RINEX 4.
-    Rinex4From(u64),
+    /// From this line on a RINEX file has records of another version or of another type.
+    OtherFrom(u64),
     /// Out of memory.
     NoMemory,
     /// The report could not be written.
@@ -111,10 +109,7 @@ impl Refusal<'_> {
             | Refusal::SameFile(_)
             | Refusal::SameReport(_)
             | Refusal::WriteFault(_, _) => 4,
-            Refusal::NotAccepted(_)
-            | Refusal::Rinex3From(_)
-            | Refusal::Rinex4From(_)
-            | Refusal::NoTimes => 5,
+            Refusal::NotAccepted(_) | Refusal::OtherFrom(_) | Refusal::NoTimes => 5,
             Refusal::NoMemory => 6,
             Refusal::ReportFault => 7,
             Refusal::TooLong => 8,
@@ -223,8 +218,7 @@ impl Refusal<'_> {
             Refusal::NotOpened(_) | Refusal::NotAccepted(_) => "",
             Refusal::Closed => "standard input is closed",
             Refusal::EmptyName => "the file name is empty",
-            Refusal::Rinex3From(_) => "line {} begins RINEX 3 in a file of RINEX 4; split it there",
-            Refusal::Rinex4From(_) => "line {} begins RINEX 4 in a file of RINEX 3; split it there",
+            Refusal::OtherFrom(_) => "line {} begins another RINEX version or type; split it there",
             Refusal::ReadFault(_, _) => "reading it failed after {} bytes: ",
             Refusal::OutputThere(_) => "{} exists; --overwrite replaces it",
             Refusal::NoFile(_) => "{} is not a regular file; -o - writes to standard output",
@@ -269,9 +263,7 @@ impl Refusal<'_> {
     // The number that the sentence names.
     fn number(&self) -> Option<u64> {
         match *self {
-            Refusal::ReadFault(number, _)
-            | Refusal::Rinex3From(number)
-            | Refusal::Rinex4From(number) => Some(number),
+            Refusal::ReadFault(number, _) | Refusal::OtherFrom(number) => Some(number),
             _ => None,
         }
     }

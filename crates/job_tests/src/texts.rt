@@ -6,11 +6,12 @@ use std::alloc::{AllocError, Global};
 use std::test::Fail;
 use whole_file::{FileFault, Kind};
 
-// A name by the convention, and the moments in seconds from 1980-01-06.
+// A name by the convention, the moments in seconds from 1980-01-06, and the type of the data.
 struct LongCase {
     site: &'static str,
     first: u64,
     last: u64,
+    data: &'static str,
     name: &'static str,
 }
 
@@ -19,12 +20,14 @@ static LONG: [LongCase; 5] = [
         site: "ALGO00CAN",
         first: 1_023_148_800,
         last: 1_023_152_399,
+        data: "MN",
         name: "ALGO00CAN_R_20121600000_01H_MN.rnx",
     },
     LongCase {
         site: "BRDC00XXX",
         first: 1_388_102_400,
         last: 1_388_188_799,
+        data: "MN",
         name: "BRDC00XXX_R_20240010000_01D_MN.rnx",
     },
     // over the end of a leap year
@@ -32,18 +35,21 @@ static LONG: [LongCase; 5] = [
         site: "ZIMM00CHE",
         first: 1_419_657_000,
         last: 1_419_724_800,
+        data: "MN",
         name: "ZIMM00CHE_R_20243660000_02D_MN.rnx",
     },
     LongCase {
         site: "ZIMM00CHE",
         first: 1_419_657_000,
         last: 1_419_657_060,
-        name: "ZIMM00CHE_R_20243660500_01H_MN.rnx",
+        data: "GN",
+        name: "ZIMM00CHE_R_20243660500_01H_GN.rnx",
     },
     LongCase {
         site: "BRDC00XXX",
         first: 0,
         last: 1_388_102_400,
+        data: "MN",
         name: "BRDC00XXX_R_19800060000_00U_MN.rnx",
     },
 ];
@@ -56,7 +62,7 @@ fn is_long_name(alloc: Global, case: &LongCase) -> Result<bool, AllocError> {
     let (Some(first), Some(last)) = (Moment::new(case.first), Moment::new(case.last)) else {
         return Ok(false);
     };
-    let name = long_name(alloc, case.site, first, last)?;
+    let name = long_name(alloc, case.site, first, last, case.data)?;
     Ok(is_site(case.site) && name.as_str() == case.name)
 }
 

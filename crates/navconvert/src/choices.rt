@@ -4,6 +4,7 @@ use crate::command::Asked;
 use crate::diff::diff_asked;
 use crate::files::{Settings, are_joined, convert_file, convert_joined};
 use crate::forms::FormatList;
+use crate::letters::Letter;
 use crate::outputs::{Output, output_of};
 use crate::rejections::Rejections;
 use crate::reports::{is_headed, report_of};
@@ -49,7 +50,8 @@ fn do_wanted(rt: &HostRuntime, asked: &Asked, wanted: Wanted) -> u8 {
                 is_quiet: asked.has("quiet"),
                 count: Cell::new(0),
             };
-            convert_asked(rt, asked, wanted, report.as_ref(), &rejections)
+            let letter = Cell::new(0);
+            convert_asked(rt, asked, wanted, report.as_ref(), &rejections, &letter)
         }
         Err(refusal) => tell_program(rt, &refusal),
     }
@@ -79,6 +81,7 @@ fn convert_asked<'x, 'a>(
     wanted: Wanted,
     report: Option<&'x File>,
     rejections: &'x Rejections<'x>,
+    letter: &'x Letter,
 ) -> u8 {
     let settings = Settings {
         rt,
@@ -90,6 +93,7 @@ fn convert_asked<'x, 'a>(
         rejections,
         report_name: asked.value("report"),
         site: asked.value("long-name"),
+        letter,
         overwrites: asked.has("overwrite"),
         quiet: asked.has("quiet") && !asked.has("json"),
         dry: asked.has("dry-run"),

@@ -1,5 +1,7 @@
 //! Two navigation files compared.
 
+ghost use Rattle.std.specs.Prelude.{◌≡◌, []};
+
 use crate::command::Asked;
 use crate::inputs::{Input, Inputs, opened};
 use crate::words::is_broken;
@@ -8,6 +10,7 @@ use file_diff::{FileItems, ReadCounts, read_items, write_differences};
 use nav_io::{Failed, WriteSink};
 use one_run::BridgeFault;
 use rinex_read::{Rinex3, Rinex4};
+use rinex2_lines::Rinex2Source;
 use std::io::ErrorKind;
 use std::slice::from_ref;
 use whole_file::{FileFault, Kind, PeekFault, Peeked, fault_of, look};
@@ -113,7 +116,7 @@ fn looked<'a>(
     };
     match look(named, &mut input) {
         Ok(kind) => match kind {
-            Kind::Rinex4 | Kind::Rinex3 => Ok(Compared { name, kind, input }),
+            Kind::Rinex4 | Kind::Rinex3 | Kind::Rinex2 => Ok(Compared { name, kind, input }),
             _ => Err(Refusal::NoSuchConversion(kind)),
         },
         Err(PeekFault::NoMemory) => Err(Refusal::NoMemory),
@@ -130,12 +133,8 @@ fn read_fault(input: Peeked<Input>) -> Refusal<'static> {
 // The items of a file; the status, where it is not read.
 fn read(rt: &HostRuntime, all: bool, quiet: bool, file: Compared) -> Result<FileItems, u8> {
     let Compared { name, kind, input } = file;
-    let mut input = input;
     let mut items = FileItems::new(rt.alloc());
-    let got = match kind {
-        Kind::Rinex3 => read_items(&Rinex3, all, &mut items, &mut input),
-        _ => read_items(&Rinex4, all, &mut items, &mut input),
-    };
+    let (got, input) = read_all(kind, all, &mut items, input);
     match got {
         Ok(counts) => {
             if !quiet {
@@ -144,6 +143,27 @@ fn read(rt: &HostRuntime, all: bool, quiet: bool, file: Compared) -> Result<File
             Ok(items)
         }
         Err(fault) => Err(tell_file(rt, name, &refusal_of(kind, fault, input))),
+    }
+}
+
+// Reads the items of a file of this form; what was counted, and what is left of the file.
+fn read_all<'a>(
+    kind: Kind,
+    all: bool,
+    items: &mut FileItems,
+    input: Peeked<Input<'a>>,
+) -> (Result<ReadCounts, BridgeFault>, Peeked<Input<'a>>)
+    requires { items.old ≡ [] }
+{
+    let mut input = input;
+    match kind {
+        Kind::Rinex2 => {
+            let mut file = Rinex2Source::new(input);
+            let got = read_items(&Rinex3, all, items, &mut file);
+            (got, file.into_parts().source)
+        }
+        Kind::Rinex3 => (read_items(&Rinex3, all, items, &mut input), input),
+        _ => (read_items(&Rinex4, all, items, &mut input), input),
     }
 }
 

@@ -4,7 +4,7 @@
 use crate::files::Settings;
 use crate::forms::{format_word, input_kind};
 use crate::inputs::{Inputs, opened};
-use crate::staged::{older_kind, wanted_before};
+use crate::staged::older_kind;
 use crate::telling::tell_file;
 use crate::values::Wanted;
 use bridge_engine::Job;
@@ -23,7 +23,7 @@ pub(crate) fn show_files(
 ) -> u8 {
     for file in files {
         if settings.wanted.target.takes_several() && older_kind(settings, file).is_some() {
-            return show_before(settings, files, name);
+            return show_own(settings, files, name);
         }
     }
     let inputs = Inputs {
@@ -36,26 +36,13 @@ pub(crate) fn show_files(
     }
 }
 
-// Prints the command that converts the files of RINEX 3 and 2 first.
-fn show_before(settings: &Settings, files: &[&str], name: Option<&str>) -> u8 {
+// Prints the command of this program, which converts the files of RINEX 3 and 2 first.
+fn show_own(settings: &Settings, files: &[&str], name: Option<&str>) -> u8 {
     let mut line = Line::new(settings.rt);
-    line.text("{");
-    for file in files {
-        if let Some(kind) = older_kind(settings, file) {
-            line.text(" navconvert -o - -");
-            line.job(&wanted_before(settings, kind), kind);
-            line.word(" < ", file);
-        } else {
-            line.word(" cat -- ", file);
-        }
-        line.text(";");
-    }
-    line.text(" } | ");
-    line.text(match task_for(&settings.wanted.plan(), Kind::Rinex4) {
-        Some(task) => program_of(&task, Kind::Rinex4),
-        None => "navbridge",
-    });
-    line.job(&settings.wanted, Kind::Rinex4);
+    line.text("navconvert -o -");
+    line.options(&settings.wanted, Kind::Rinex4);
+    line.text(" --");
+    line.files(" ", files);
     line.end(name)
 }
 
@@ -173,6 +160,11 @@ impl<'a> Line<'a> {
     // Prints the options for a file of this form.
     fn job(&mut self, wanted: &Wanted, kind: Kind) {
         self.option("--from=", from_word(kind));
+        self.options(wanted, kind);
+    }
+
+    // Prints them but for that form.
+    fn options(&mut self, wanted: &Wanted, kind: Kind) {
         self.option("--to=", to_word(wanted.target));
         if let Some(task) = task_for(&wanted.plan(), kind) {
             if let Some(week) = week_in(&task) {

@@ -3,6 +3,7 @@
 use crate::dry::show_files;
 use crate::forms::file_kind;
 use crate::inputs::{Inputs, Staged};
+use crate::letters::Letter;
 use crate::long_names::convert_named;
 use crate::outputs::{Output, name_of, owned, placed};
 use crate::parts::part_name;
@@ -41,6 +42,8 @@ pub(crate) struct Settings<'a> {
     pub report_name: Option<&'a str>,
     /// The site of names by the convention of RINEX, if they are asked for.
     pub site: Option<&'a str>,
+    /// The system of the ephemerides that are made, which such a name has.
+    pub letter: &'a Letter,
     /// Whether a file that has the name of an output is replaced.
     pub overwrites: bool,
     /// Whether nothing is printed about what was done.

@@ -5,6 +5,7 @@ ghost use Rattle.std.specs.Prelude.{◌≡◌};
 use crate::dry::show_files;
 use crate::files::{Settings, is_report};
 use crate::inputs::Inputs;
+use crate::letters::data_type;
 use crate::outputs::{Output, placed};
 use crate::parts::part_name;
 use crate::place::Goal;
@@ -155,7 +156,13 @@ impl<'x, 'a> LongName<'x, 'a> {
         let Some(Times { first, last }) = times else {
             return Err(Refusal::NoTimes);
         };
-        match long_name(alloc, self.site, first, last) {
+        match long_name(
+            alloc,
+            self.site,
+            first,
+            last,
+            data_type(self.settings.letter),
+        ) {
             Ok(name) => placed(alloc, self.settings.output, self.first, name.as_str()),
             Err(AllocError) => Err(Refusal::NoMemory),
         }

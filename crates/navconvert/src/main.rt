@@ -16,6 +16,7 @@ mod files;
 mod forms;
 mod inputs;
 mod json;
+mod letters;
 mod long_names;
 mod made;
 mod messages;

@@ -5,6 +5,7 @@ ghost use Rattle.std.specs.Prelude.{◌≡◌, IfOk};
 
 use crate::files::Settings;
 use crate::inputs::{Inputs, opened};
+use crate::letters::{Letter, Letters};
 use crate::made::Made;
 use crate::parts::begun;
 use crate::systems::Skips;
@@ -63,12 +64,14 @@ impl Sink for Outlet {
 
 /// What is made, while it is written.
 #[derive(Drop)]
-pub(crate) struct Draft {
+pub(crate) struct Draft<'a> {
     outlet: Outlet,
     made: Made,
+    // its systems, where its name has them
+    letters: Option<Letters<'a>>,
 }
 
-impl Sink for Draft {
+impl Sink for Draft<'_> {
     ghost use Rattle.std.specs.Prelude.{None};
 
     ghost written = { λ _. None };
@@ -78,6 +81,9 @@ impl Sink for Draft {
     /// Writes the piece, and counts its records.
     fn write(&mut self, piece: &[u8]) -> Result<(), Failed> {
         self.made.see(piece);
+        if let Some(letters) = &mut self.letters {
+            letters.see(piece);
+        }
         self.outlet.write(piece)
     }
 }
@@ -100,6 +106,8 @@ pub(crate) struct Place<'a> {
     goal: Goal,
     watch: Watch,
     made: Made,
+    // the system of what is made, where its name has it
+    letter: Option<&'a Letter>,
     /// What was made, and went to memory.
     pub bytes: Option<Vec<u8>>,
 }
@@ -115,6 +123,10 @@ impl<'a> Place<'a> {
             goal,
             watch: Watch::new(),
             made: Made::new(),
+            letter: match settings.site {
+                None => None,
+                Some(_) => Some(settings.letter),
+            },
             bytes: None,
         }
     }
@@ -135,6 +147,14 @@ impl<'a> Place<'a> {
     /// Where a navigation file has records of another version.
     pub(crate) fn other(&self) -> Option<Refusal<'static>> {
         self.watch.other()
+    }
+
+    // Begins to see the systems of what is made, where its name has them.
+    fn letters(&self) -> Option<Letters<'a>> {
+        match self.letter {
+            None => None,
+            Some(letter) => Some(Letters::new(letter)),
+        }
     }
 
     // Begins what is made.
@@ -171,7 +191,7 @@ impl<'a> Folder for Place<'a> {
 
     type Input = Watched<'a>;
 
-    type Draft = Draft;
+    type Draft = Draft<'a>;
 
     ghost files = { λ _. None };
 
@@ -193,18 +213,19 @@ impl<'a> Folder for Place<'a> {
     }
 
     /// Begins what is made.
-    fn draft(&mut self, part: &str) -> Result<Draft, FileFault> {
+    fn draft(&mut self, part: &str) -> Result<Draft<'a>, FileFault> {
         match self.outlet(part) {
             Ok(outlet) => Ok(Draft {
                 outlet,
                 made: Made::new(),
+                letters: self.letters(),
             }),
             Err(fault) => Err(self.folder.failed(fault)),
         }
     }
 
     /// Gives the file its name, or keeps the bytes.
-    fn publish(&mut self, draft: Draft, part: &str, name: &str) -> Result<(), FileFault> {
+    fn publish(&mut self, draft: Draft<'a>, part: &str, name: &str) -> Result<(), FileFault> {
         self.made = draft.made;
         match draft.outlet {
             Outlet::File(file) => self.folder.publish(file, part, name),
@@ -219,7 +240,7 @@ impl<'a> Folder for Place<'a> {
     }
 
     /// Removes the part, if there is one.
-    fn discard(&mut self, draft: Draft, part: &str) -> Result<(), FileFault> {
+    fn discard(&mut self, draft: Draft<'a>, part: &str) -> Result<(), FileFault> {
         match draft.outlet {
             Outlet::File(file) => self.folder.discard(file, part),
             Outlet::Standard(output) => self.folder.told(output.fault()),

@@ -1,5 +1,5 @@
 //! What a navigation file has besides records that are converted: those of other systems, and those
-//! of another version.
+//! of another version or type.
 
 use crate::systems::{FNAV, Skips, system_of_letter, system_of_title};
 use arrayvec::ArrayVec;
@@ -12,8 +12,8 @@ const ROOM: usize = 80;
 /// What was seen of a navigation file so far.
 #[derive(Drop)]
 pub(crate) struct Records {
-    // whether it is of RINEX 4, and not 3
-    is_four: bool,
+    // the digit of its version: 2, 3 or 4
+    version: u8,
     line: ArrayVec<u8, ROOM>,
     number: u64,
     in_header: bool,
@@ -22,15 +22,15 @@ pub(crate) struct Records {
     is_galileo: bool,
     /// The records that are skipped if those of GPS and Galileo I/NAV alone are read.
     pub skips: Skips,
-    /// The first line of another version.
+    /// The first line of another version or type.
     pub other: Option<u64>,
 }
 
 impl Records {
-    /// Nothing yet of a file of RINEX 4, or of 3.
-    pub(crate) fn new(is_four: bool) -> Records {
+    /// Nothing yet of a file of RINEX 2, 3 or 4, of which this is the digit.
+    pub(crate) fn new(version: u8) -> Records {
         Records {
-            is_four,
+            version,
             line: ArrayVec::new(),
             number: 0,
             in_header: true,
@@ -39,11 +39,6 @@ impl Records {
             skips: Skips::new(),
             other: None,
         }
-    }
-
-    /// Whether the file is of RINEX 4.
-    pub(crate) fn is_four(&self) -> bool {
-        self.is_four
     }
 
     /// Sees a piece of the file.
@@ -87,22 +82,24 @@ impl Records {
             self.see_version(line);
         } else if self.in_header {
             self.in_header = !is_labelled(line, b"END OF HEADER");
-        } else if self.is_four {
+        } else if self.version == b'4' {
             self.see_line4(line);
-        } else {
+        } else if self.version == b'3' {
             self.see_line3(line);
         }
     }
 
-    // Sees the version that a header names.
+    // Sees the version and the type that a header names; those of the first are judged elsewhere.
     fn see_version(&mut self, line: &[u8]) {
-        let version = version_of(line);
-        if version == b'3' && self.is_four || version == b'4' && !self.is_four {
+        if self.number == 1 {
+            return;
+        }
+        if version_of(line) != self.version || !is_type_of(self.version, line.get(20)) {
             self.see_other();
         }
     }
 
-    // Sees a line of another version.
+    // Sees a line of another version or type.
     fn see_other(&mut self) {
         if self.other.is_none() {
             self.other = Some(self.number);
@@ -159,8 +156,17 @@ fn is_labelled(line: &[u8], label: &[u8]) -> bool {
     }
 }
 
-// The first character of the version in columns 1 to 9.
-fn version_of(line: &[u8]) -> u8 {
+// Whether a navigation file of this version can have this type.
+fn is_type_of(version: u8, letter: Option<&u8>) -> bool {
+    match letter {
+        Some(b'N') => true,
+        Some(b'G' | b'H') => version == b'2',
+        _ => false,
+    }
+}
+
+/// The first character of the version in columns 1 to 9.
+pub(crate) fn version_of(line: &[u8]) -> u8 {
     for byte in line.get(..9).unwrap_or(&[]) {
         if *byte != b' ' {
             return *byte;

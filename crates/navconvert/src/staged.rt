@@ -56,7 +56,8 @@ pub(crate) fn staged_of<'a>(
 ) -> Result<(Vec<Staged>, Before), u8> {
     let mut all = Vec::new(settings.rt.alloc());
     let mut before = Before::new();
-    if settings.dry || !settings.wanted.target.takes_several() {
+    let is_read = !settings.dry || settings.site.is_some();
+    if !is_read || !settings.wanted.target.takes_several() {
         return Ok((all, before));
     }
     for file in files {
@@ -83,8 +84,8 @@ pub(crate) fn older_kind(settings: &Settings, file: &str) -> Option<Kind> {
     }
 }
 
-/// What is asked of a file of RINEX 3 or 2 that is merged: to convert it to RINEX 4.
-pub(crate) fn wanted_before(settings: &Settings, kind: Kind) -> Wanted {
+// What is asked of a file of RINEX 3 or 2 that is merged: to convert it to RINEX 4.
+fn wanted_before(settings: &Settings, kind: Kind) -> Wanted {
     Wanted {
         form: Some(kind),
         target: Target::Rinex,
@@ -144,7 +145,8 @@ fn convert_by<'a>(
             Err(tell_file(first, file, &refusal))
         }
         Ok(made) => {
-            before.add(&made.done, &place.seen(kind, false));
+            let is_of_all = matches!(made.done, Some(Done::File(_)));
+            before.add(&made.done, &place.seen(kind, is_of_all));
             match place.bytes {
                 Some(bytes) => Ok(bytes),
                 None => Err(tell_file(first, file, &Refusal::NoMemory)),

@@ -1,11 +1,11 @@
 //! What is seen of an input while it is read, during its conversion: what of it is skipped, and
-//! whether a navigation file has records of another version.
+//! whether a navigation file has records of another version or type.
 
 ghost use Rattle.std.specs.Prelude.{◌≡◌, ◌↔◌, IsNone};
 
 use crate::inputs::Input;
 use crate::messages::Messages;
-use crate::records::Records;
+use crate::records::{Records, version_of};
 use crate::systems::Skips;
 use arrayvec::ArrayVec;
 use file_conversion::Refusal;
@@ -92,26 +92,24 @@ impl Watch {
         }
     }
 
-    /// Where a navigation file has records of another version.
+    /// Where a navigation file has records of another version or type.
     pub(crate) fn other(&self) -> Option<Refusal<'static>> {
         match &self.records {
             None => None,
             Some(records) => match records.other {
                 None => None,
-                Some(line) if records.is_four() => Some(Refusal::Rinex3From(line)),
-                Some(line) => Some(Refusal::Rinex4From(line)),
+                Some(line) => Some(Refusal::OtherFrom(line)),
             },
         }
     }
 }
 
-// What is looked at of a file of RINEX 3 or 4 that begins so.
+// What is looked at of a navigation file that begins so.
 fn records_of(first: &[u8]) -> Option<Records> {
     match first.get(60..) {
         Some(label) if label.starts_with(b"RINEX VERSION / TYPE") => {
-            match first.get(..9).unwrap_or(&[]).trim_ascii_start() {
-                [b'4', ..] => Some(Records::new(true)),
-                [b'3', ..] => Some(Records::new(false)),
+            match version_of(first) {
+                version @ (b'2' | b'3' | b'4') => Some(Records::new(version)),
                 _ => None,
             }
         }
@@ -119,7 +117,7 @@ fn records_of(first: &[u8]) -> Option<Records> {
     }
 }
 
-/// An input that is watched. A read fails too where records of another version begin.
+/// An input that is watched. A read fails too where records of another version or type begin.
 #[derive(Drop)]
 pub(crate) struct Watched<'a> {
     input: Input<'a>,

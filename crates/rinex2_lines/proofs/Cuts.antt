@@ -1,5 +1,5 @@
 -- Lines that are cut: of a line that has not ended the first 81 bytes matter.
-use Rattle.std.specs.Prelude.{◌≡◌, ◌+◌, ◌<◌, ◌≤◌, ◌==◌, ◌++◌, ℕ, zero, suc, Bool, true, false, if◌then◌else◌, List, [], ◌∷◌, length, min, ◌-◌, take, drop, map, replicate, refl}
+use Rattle.std.specs.Prelude.{◌≡◌, ◌+◌, ◌<◌, ◌≤◌, ◌==◌, ◌&&◌, ◌++◌, ℕ, zero, suc, Bool, true, false, if◌then◌else◌, List, [], ◌∷◌, length, min, ◌-◌, take, drop, map, replicate, refl}
 use Rattle.std.proofs.Common.{sym, ap, ◌∙◌, arith, append-nil, length-append, length-take, ⊎_elim}
 use Rattle.std.proofs.lemmas.List.{take_all, take_min, drop_all, drop-take, take-take, take-append-le}
 use Rattle.std.proofs.Math.Seq.{take-append-add}
@@ -7,8 +7,8 @@ use Rattle.std.proofs.lemmas.Bool.{cases_lt}
 use Rattle.nav_io.specs.Lines.{ends, with_prefix, pieces, without_cr}
 use Rattle.nav_io.specs.Pieces.{with_ends}
 use Rattle.rinex2_lines.specs.Columns.{padded}
-use Rattle.rinex2_lines.specs.Files.{lines_from, text_from}
-use Rattle.rinex2_lines.specs.Lines.{after, line_at}
+use Rattle.rinex2_lines.specs.Files.{is_none, is_open, lines_from, text_from}
+use Rattle.rinex2_lines.specs.Lines.{after, lines_at}
 use Rattle.rinex2_lines.specs.declared.place.Place.{Place}
 
 -- ---- bytes without LF
@@ -120,29 +120,56 @@ padded_cut p l = ⊎_elim
 -- ---- the text of bytes
 
 -- the lines as which pieces are read
-abbrev lines_of : Place → List (List ℕ) → List (List ℕ)
-lines_of place ps = lines_from place (map without_cr ps)
+abbrev lines_of : Bool → Place → List (List ℕ) → List (List ℕ)
+lines_of unended place ps = lines_from unended place (map without_cr ps)
 
-line_cut : (place : Place) (a b : List ℕ) (ps : List (List ℕ)) → padded (without_cr a) ≡ padded (without_cr b)
-    → lines_of place (a ∷ ps) ≡ lines_of place (b ∷ ps)
-line_cut place a b ps same =
-    ap (λ (line : List ℕ). line_at place line ∷ lines_from (after place line) (map without_cr ps)) same
+line_cut : (unended : Bool) (place : Place) (a b : List ℕ) (ps : List (List ℕ)) → padded (without_cr a) ≡ padded (without_cr b)
+    → lines_of unended place (a ∷ ps) ≡ lines_of unended place (b ∷ ps)
+line_cut unended place a b ps same =
+    ap (λ (line : List ℕ). lines_at (is_none (map without_cr ps) && unended) place line ++ lines_from unended (after place line) (map without_cr ps))
+    same
 
-fronted_cut : (place : Place) (p : List ℕ) (ps : List (List ℕ)) → lines_of place (fronted (take 81 p) ps) ≡ lines_of place (fronted p ps)
-fronted_cut place p (line ∷ ps) =
-    ap (lines_of place) (fronted_line (take 81 p) line ps) ∙ line_cut place (take 81 p ++ line) (p ++ line) ps (padded_cut p line)
-    ∙ sym (ap (lines_of place) (fronted_line p line ps))
-fronted_cut place [] [] = refl
-fronted_cut place (x ∷ p) [] =
+fronted_cut : (unended : Bool) (place : Place) (p : List ℕ) (ps : List (List ℕ))
+    → lines_of unended place (fronted (take 81 p) ps) ≡ lines_of unended place (fronted p ps)
+fronted_cut unended place p (line ∷ ps) =
+    ap (lines_of unended place) (fronted_line (take 81 p) line ps) ∙ line_cut unended place (take 81 p ++ line) (p ++ line) ps (padded_cut p line)
+    ∙ sym (ap (lines_of unended place) (fronted_line p line ps))
+fronted_cut unended place [] [] = refl
+fronted_cut unended place (x ∷ p) [] =
     let same : padded (without_cr (take 81 (x ∷ p))) ≡ padded (without_cr (x ∷ p)) =
     ap (λ (l : List ℕ). padded (without_cr l)) (sym (append-nil (take 81 (x ∷ p)))) ∙ padded_cut (x ∷ p) []
     ∙ ap (λ (l : List ℕ). padded (without_cr l)) (append-nil (x ∷ p)) in
-    ap (lines_of place) (fronted_last x (take 80 p)) ∙ line_cut place (take 81 (x ∷ p)) (x ∷ p) [] same
-    ∙ sym (ap (lines_of place) (fronted_last x p))
+    ap (lines_of unended place) (fronted_last x (take 80 p)) ∙ line_cut unended place (take 81 (x ∷ p)) (x ∷ p) [] same
+    ∙ sym (ap (lines_of unended place) (fronted_last x p))
+
+-- ---- bytes that end without a line end
+
+-- the bytes behind others decide, if there are any
+pub open_behind : (p : List ℕ) (y : ℕ) (ys : List ℕ) → is_open (p ++ y ∷ ys) ≡ is_open (y ∷ ys)
+open_behind [] y ys = refl
+open_behind (x ∷ []) y ys = refl
+open_behind (x ∷ z ∷ p) y ys = open_behind (z ∷ p) y ys
+
+pub open_plain : (x : ℕ) (p : List ℕ) → ends (x ∷ p) ≡ false → is_open (x ∷ p) ≡ true
+open_plain x [] h =
+    let parts = ends_cons x [] h in
+    rw parts.0 refl
+open_plain x (y ∷ p) h =
+    let parts = ends_cons x (y ∷ p) h in
+    open_plain y p parts.1
+
+open_cut : (p q : List ℕ) → ends p ≡ false → is_open (take 81 p ++ q) ≡ is_open (p ++ q)
+open_cut p (y ∷ ys) h = open_behind (take 81 p) y ys ∙ sym (open_behind p y ys)
+open_cut [] [] h = refl
+open_cut (x ∷ p) [] h =
+    ap is_open (append-nil (take 81 (x ∷ p))) ∙ open_plain x (take 80 p) (ends_take 81 (x ∷ p) h)
+    ∙ sym (ap is_open (append-nil (x ∷ p)) ∙ open_plain x p h)
 
 -- of a line that has not ended the first 81 bytes decide, whatever follows
 pub text_cut : (place : Place) (p q : List ℕ) → ends p ≡ false → text_from place (take 81 p ++ q) ≡ text_from place (p ++ q)
 text_cut place p q h =
-    ap (λ (ps : List (List ℕ)). with_ends (lines_of place ps)) (pieces_fronted (take 81 p) q (ends_take 81 p h))
-    ∙ ap with_ends (fronted_cut place p (pieces false q))
-    ∙ sym (ap (λ (ps : List (List ℕ)). with_ends (lines_of place ps)) (pieces_fronted p q h))
+    let unended : Bool = is_open (p ++ q) in
+    ap (λ (b : Bool). with_ends (lines_of b place (pieces false (take 81 p ++ q)))) (open_cut p q h)
+    ∙ ap (λ (ps : List (List ℕ)). with_ends (lines_of unended place ps)) (pieces_fronted (take 81 p) q (ends_take 81 p h))
+    ∙ ap with_ends (fronted_cut unended place p (pieces false q))
+    ∙ sym (ap (λ (ps : List (List ℕ)). with_ends (lines_of unended place ps)) (pieces_fronted p q h))

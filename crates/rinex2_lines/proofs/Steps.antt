@@ -1,35 +1,65 @@
 -- What is still to come of a file while it is read.
-use Rattle.std.specs.Prelude.{◌≡◌, ◌+◌, ◌<◌, ◌++◌, ℕ, true, false, if◌then◌else◌, List, [], ◌∷◌, length, take, drop, map, Option, Some, None, refl}
+use Rattle.std.specs.Prelude.{◌≡◌, ◌+◌, ◌<◌, ◌==◌, ◌&&◌, ◌++◌, ℕ, Bool, true, false, if◌then◌else◌, List, [], ◌∷◌, length, take, drop, map, Option, Some, None, refl}
 use Rattle.std.proofs.Common.{sym, ap, ◌∙◌, arith, append_assoc, append-nil}
 use Rattle.std.proofs.lemmas.List.{take-append-drop, take_all, drop_all}
 use Rattle.std.specs.Io.KnownBytes.{Consumes, IsAtEnd, Keeps}
-use Rattle.nav_io.specs.Lines.{ends, without_cr}
+use Rattle.nav_io.specs.Lines.{ends, pieces, with_prefix, without_cr}
 use Rattle.nav_io.specs.Pieces.{with_ends}
 use Rattle.nav_io.specs.Mirrors.{EndsAt}
 use Rattle.nav_io.proofs.Surface.{pieces-line}
 use Rattle.rinex2_lines.specs.Columns.{padded}
-use Rattle.rinex2_lines.specs.Files.{lines_from, text_from}
-use Rattle.rinex2_lines.specs.Lines.{after, line_at}
+use Rattle.rinex2_lines.specs.Files.{is_none, is_open, lines_from, text_from}
+use Rattle.rinex2_lines.specs.Lines.{after, line_at, lines_at}
 use Rattle.rinex2_lines.specs.Mirrors.{HeldState, SameToCome, left_of, text_to_come}
 use Rattle.rinex2_lines.specs.declared.place.Place.{Place}
-use Rattle.rinex2_lines.proofs.Cuts.{ends_append, ends_take, pieces_last, text_cut}
+use Rattle.rinex2_lines.proofs.Cuts.{ends_append, ends_take, open_behind, open_plain, pieces_last, text_cut}
 
 -- the line of bytes
 abbrev line_of : List ℕ → List ℕ
 line_of bytes = padded (without_cr bytes)
 
+-- bytes have a line
+some_if : (b : Bool) (y : ℕ) (ps : List (List ℕ)) → is_none (map without_cr (if b then [] ∷ ps else with_prefix false y ps)) ≡ false
+some_if true y ps = refl
+some_if false y [] = refl
+some_if false y (p ∷ ps) = refl
+
+some_pieces : (y : ℕ) (ys : List ℕ) → is_none (map without_cr (pieces false (y ∷ ys))) ≡ false
+some_pieces y ys = some_if (y == 10) y (pieces false ys)
+
+and_false : (a b : Bool) → a ≡ false → (a && b) ≡ false
+and_false a b h = ap (λ (c : Bool). c && b) h
+
+-- a line that is whole, before others
+lines_cons : (unended : Bool) (place : Place) (p : List ℕ) (ps : List (List ℕ)) → (is_none (map without_cr ps) && unended) ≡ false
+    → with_ends (lines_from unended place (map without_cr (p ∷ ps)))
+    ≡ (line_at place (line_of p) ++ 10 ∷ []) ++ with_ends (lines_from unended (after place (line_of p)) (map without_cr ps))
+lines_cons unended place p ps h =
+    ap (λ (c : Bool). with_ends (lines_at c place (line_of p) ++ lines_from unended (after place (line_of p)) (map without_cr ps))) h
+
+-- the line that an LF ends is whole, whether it is the last or not
+lines_ended : (place : Place) (p rest : List ℕ)
+    → with_ends (lines_from (is_open (10 ∷ rest)) place (map without_cr (p ∷ pieces false rest)))
+    ≡ (line_at place (line_of p) ++ 10 ∷ []) ++ text_from (after place (line_of p)) rest
+lines_ended place p [] = lines_cons false place p [] refl
+lines_ended place p (y ∷ ys) =
+    lines_cons (is_open (y ∷ ys)) place p (pieces false (y ∷ ys)) (and_false _ (is_open (y ∷ ys)) (some_pieces y ys))
+
 -- a line that an LF ends
 line_ended : (place : Place) (p rest : List ℕ) → ends p ≡ false
     → text_from place (p ++ 10 ∷ rest) ≡ (line_at place (line_of p) ++ 10 ∷ []) ++ text_from (after place (line_of p)) rest
 line_ended place p rest h =
-    ap (λ (ps : List (List ℕ)). with_ends (lines_from place (map without_cr ps))) (pieces-line false p rest h)
+    ap (λ (ps : List (List ℕ)). with_ends (lines_from (is_open (p ++ 10 ∷ rest)) place (map without_cr ps))) (pieces-line false p rest h)
+    ∙ ap (λ (b : Bool). with_ends (lines_from b place (map without_cr (p ∷ pieces false rest)))) (open_behind p 10 rest)
+    ∙ lines_ended place p rest
 
 -- the last line, which the end of the file ends
 line_last : (place : Place) (x : ℕ) (p : List ℕ) → ends (x ∷ p) ≡ false
-    → text_from place (x ∷ p) ≡ line_at place (line_of (x ∷ p)) ++ 10 ∷ []
+    → text_from place (x ∷ p) ≡ with_ends (lines_at true place (line_of (x ∷ p)))
 line_last place x p h =
-    ap (λ (ps : List (List ℕ)). with_ends (lines_from place (map without_cr ps))) (pieces_last x p h)
-    ∙ append-nil (line_at place (line_of (x ∷ p)) ++ 10 ∷ [])
+    ap (λ (b : Bool). with_ends (lines_from b place (map without_cr (pieces false (x ∷ p))))) (open_plain x p h)
+    ∙ ap (λ (ps : List (List ℕ)). with_ends (lines_from true place (map without_cr ps))) (pieces_last x p h)
+    ∙ ap with_ends (append-nil (lines_at true place (line_of (x ∷ p))))
 
 -- bytes of the piece came to the line
 pub goes_on : (place : Place) (begun piece following : List ℕ) → ends begun ≡ false → ends piece ≡ false
@@ -82,12 +112,13 @@ next_open a b count none plain rest is b1 b2 b3 b4 b5 = λ following.
 
 -- the end of the file, with a line that is begun
 pub finish_line : (a b c : HeldState) → a.waiting ≡ [] → a.piece ≡ [] → a.ended ≡ false → ends a.begun ≡ false → 0 < length a.begun
-    → b.waiting ≡ line_at a.place (line_of a.begun) ++ 10 ∷ [] → c.waiting ≡ b.waiting → c.begun ≡ [] → c.piece ≡ [] → c.ended ≡ true
+    → b.waiting ≡ with_ends (lines_at true a.place (line_of a.begun)) → c.waiting ≡ b.waiting → c.begun ≡ [] → c.piece ≡ [] → c.ended ≡ true
     → text_to_come c [] ≡ text_to_come a []
 finish_line a b c none piece ended plain some b1 c1 c2 c3 c4 = rw (none, piece, ended, c1, b1, c2, c3, c4)
-    (append-nil (line_at a.place (line_of a.begun) ++ 10 ∷ []) ∙ last a.begun plain some
+    (append-nil (with_ends (lines_at true a.place (line_of a.begun))) ∙ last a.begun plain some
     ∙ ap (text_from a.place) (sym (append-nil a.begun))) where
-      last : (begun : List ℕ) → ends begun ≡ false → 0 < length begun → line_at a.place (line_of begun) ++ 10 ∷ [] ≡ text_from a.place begun
+      last : (begun : List ℕ) → ends begun ≡ false → 0 < length begun
+          → with_ends (lines_at true a.place (line_of begun)) ≡ text_from a.place begun
       last [] plain some = absurd (omega (arith, some))
       last (x ∷ p) plain some = sym (line_last a.place x p plain)
 

@@ -5,7 +5,7 @@ ghost use Rattle.std.specs.Prelude.{◌++◌, false};
 ghost use Rattle.nav_io.specs.Lines.{ends};
 
 use crate::columns::{Line, append, padded};
-use crate::lines::{after, line_at};
+use crate::lines::{after, is_cut, line_at};
 use crate::place::Place;
 use nav_io::{Failed, Source, first_end, length_without_cr, read_piece};
 use std::marker::Model;
@@ -77,7 +77,8 @@ impl Held {
     ghost use Rattle.nav_io.specs.Causes.{HasCause};
     ghost use Rattle.nav_io.specs.Lines.{ends, without_cr};
     ghost use Rattle.rinex2_lines.specs.Columns.{padded};
-    ghost use Rattle.rinex2_lines.specs.Lines.{after, line_at};
+    ghost use Rattle.nav_io.specs.Pieces.{with_ends};
+    ghost use Rattle.rinex2_lines.specs.Lines.{after, line_at, lines_at};
     ghost use Rattle.rinex2_lines.specs.Mirrors.{SameToCome, begun, left_of, steps_left};
 
     /// Nothing was read.
@@ -255,6 +256,25 @@ impl Held {
         self.ended = true;
     }
 
+    // The end of the file ends the line that is begun: unless it is cut off the one as which it is
+    // read waits.
+    fn end_last(&mut self)
+        requires waiting { self.old.waiting ≡ [] }
+        ensures waiting { self.new.waiting
+            ≡ with_ends (lines_at true self.old.place (padded (without_cr self.old.begun))) }
+        ensures begun { self.new.begun ≡ [] }
+        ensures piece { self.new.piece ≡ self.old.piece }
+        ensures ended { self.new.ended ≡ self.old.ended }
+        ensures taken { self.new.taken ≡ self.old.taken }
+    {
+        let begun = self.begun.as_slice();
+        if is_cut(self.place, &padded(&begun[..length_without_cr(begun)])) {
+            self.begun.clear();
+            return;
+        }
+        self.end_line();
+    }
+
     // The end of the file: a line that is begun ends.
     fn finish(&mut self)
         requires piece { self.old.piece ≡ [] }
@@ -269,7 +289,7 @@ impl Held {
             self.close();
             return;
         }
-        self.end_line();
+        self.end_last();
         self.close();
     }
 

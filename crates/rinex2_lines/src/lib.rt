@@ -7,6 +7,10 @@
 //! its system, has a year of four digits and whole seconds; its further lines begin one column
 //! later. The time of a GLONASS frame becomes a second of the week.
 //!
+//! Files may be joined: each is read under its own header. Lines of a record whose first line is
+//! missing become a record without a satellite. A last line without a line end that is cut off
+//! inside a number is not read, nor is a last line that begins with the mark of an end (SUB).
+//!
 //! ```rust
 //! let mut source = Rinex2Source::new(ReadSource::new(rt.stdin()));
 //! let mut records = RecordReader::new();

@@ -1,11 +1,14 @@
 //! The lines of RINEX 3.
 
-ghost use Rattle.std.specs.Prelude.{◌≡◌, ◌∷◌, length};
+ghost use Rattle.std.specs.Prelude.{◌≡◌, ◌≤◌, length};
 ghost use Rattle.arrayvec.specs.ArrayVec.{array_vec_len};
 ghost use Rattle.rinex2_lines.specs.Columns.{part};
-ghost use Rattle.rinex2_lines.specs.Lines.{after, first_line, is_end, is_record};
-ghost use Rattle.rinex2_lines.specs.Lines.{is_two, letter_of, line_at, record_line, second_text};
-ghost use Rattle.rinex2_lines.specs.Lines.{third_text, type_of, version_text};
+ghost use Rattle.rinex2_lines.specs.Lines.{after, body_line, body_of, count_after, ends_in};
+ghost use Rattle.rinex2_lines.specs.Lines.{first_line, further_line, is_blank, is_cut, is_end};
+ghost use Rattle.rinex2_lines.specs.Lines.{is_record, is_stray, is_two, is_version, is_whole};
+ghost use Rattle.rinex2_lines.specs.Lines.{letter_of, line_at, lines_behind, record_line};
+ghost use Rattle.rinex2_lines.specs.Lines.{second_text, third_text, type_of, version_text};
+ghost use Rattle.rinex2_lines.specs.declared.place.Place.TheVariants.{Body};
 
 use crate::columns::{Columns, Line, append, part};
 use crate::dates::{frame_text, year_text};
@@ -113,13 +116,35 @@ fn record_line(letter: u8, line: &Columns) -> Line
     out
 }
 
-// A line of a record but its first.
-fn further_line(line: &Columns) -> Line
-    ensures text { result.items ≡ 32 ∷ part 0 79 line.now }
+// Whether there is nothing but blanks.
+fn is_blank(text: &[u8]) -> bool
+    ensures { result ≡ is_blank text.now }
+{
+    trimmed(text).len() == 0
+}
+
+// The lines behind the first line of a record.
+fn lines_behind(letter: u8) -> u8
+    ensures value { result ≡ lines_behind letter }
+    ensures few { result ≤ 7 }
+{
+    if letter == b'G' { 7 } else { 3 }
+}
+
+// Whether a line that begins no record belongs to one without its first line.
+fn is_stray(letter: u8, count: u8, line: &Columns) -> bool
+    ensures { result ≡ is_stray letter count line.now }
+{
+    count == lines_behind(letter) && !is_blank(line)
+}
+
+// A line that begins no record.
+fn further_line(stray: bool, letter: u8, line: &Columns) -> Line
+    ensures text { result.items ≡ further_line stray letter line.now }
     ensures len { array_vec_len result ≡ 80 }
 {
     let mut out = Line::new();
-    append(&mut out, b" ");
+    append(&mut out, &[if stray { letter } else { b' ' }]);
     append(&mut out, part(line, 0, 79));
     out
 }
@@ -134,6 +159,20 @@ fn header_line(line: &Columns) -> Line
     out
 }
 
+// A line after the header, behind so many of a record.
+fn body_line(letter: u8, count: u8, line: &Columns) -> Line
+    ensures text { result.items ≡ body_line letter count line.now }
+    ensures len { array_vec_len result ≡ 80 }
+{
+    if is_version(line) {
+        further_line(false, letter, line)
+    } else if is_record(line) {
+        record_line(letter, line)
+    } else {
+        further_line(is_stray(letter, count, line), letter, line)
+    }
+}
+
 /// The line as which a line is read, by its place.
 pub(crate) fn line_at(place: Place, line: &Columns) -> Line
     ensures text { result.items ≡ line_at place line.now }
@@ -142,14 +181,16 @@ pub(crate) fn line_at(place: Place, line: &Columns) -> Line
     match place {
         Place::First => first_line(line),
         Place::Header(_) => header_line(line),
-        Place::Body(letter) => {
-            if is_record(line) {
-                record_line(letter, line)
-            } else {
-                further_line(line)
-            }
-        }
+        Place::Joined(letter) => further_line(false, letter, line),
+        Place::Body(letter, count) => body_line(letter, count, line),
     }
+}
+
+// Whether a header begins with a line.
+fn is_version(line: &Columns) -> bool
+    ensures { result ≡ is_version line.now }
+{
+    part(line, 60, 20) == b"RINEX VERSION / TYPE".as_slice()
 }
 
 // Whether the header ends with a line.
@@ -157,6 +198,37 @@ fn is_end(line: &Columns) -> bool
     ensures { result ≡ is_end line.now }
 {
     part(line, 60, 13) == b"END OF HEADER".as_slice()
+}
+
+// The place after a header.
+fn body_of(letter: u8) -> Place
+    ensures { result ≡ body_of letter }
+{
+    Place::Body(letter, lines_behind(letter))
+}
+
+// The number of lines behind the first of a record, if this one follows so many.
+fn count_after(letter: u8, count: u8, line: &Columns) -> u8
+    ensures { result ≡ count_after letter count line.now }
+{
+    if is_record(line) || is_stray(letter, count, line) {
+        0
+    } else if count < lines_behind(letter) {
+        count + 1
+    } else {
+        count
+    }
+}
+
+// The place of the line behind one after the header.
+fn after_body(letter: u8, count: u8, line: &Columns) -> Place
+    ensures { result ≡ after (Body letter count) line.now }
+{
+    if is_version(line) {
+        Place::Joined(letter_of(line[20]))
+    } else {
+        Place::Body(letter, count_after(letter, count, line))
+    }
 }
 
 /// The place of the line behind.
@@ -167,11 +239,46 @@ pub(crate) fn after(place: Place, line: &Columns) -> Place
         Place::First => Place::Header(letter_of(line[20])),
         Place::Header(letter) => {
             if is_end(line) {
-                Place::Body(letter)
+                body_of(letter)
             } else {
                 Place::Header(letter)
             }
         }
-        Place::Body(letter) => Place::Body(letter),
+        Place::Joined(letter) => {
+            if is_end(line) {
+                body_of(letter)
+            } else {
+                Place::Joined(letter)
+            }
+        }
+        Place::Body(letter, count) => after_body(letter, count, line),
+    }
+}
+
+// Whether the last number of a line ends in this column, the first being 1.
+fn ends_in(column: usize, line: &Columns) -> bool
+    requires first { 1 ≤ column }
+    requires last { column ≤ 79 }
+    ensures { result ≡ ends_in column line.now }
+{
+    line[column - 1] != b' ' && is_blank(part(line, column, 79 - column))
+}
+
+// Whether a line ends with a complete number.
+fn is_whole(line: &Columns) -> bool
+    ensures { result ≡ is_whole line.now }
+{
+    ends_in(22, line) || ends_in(41, line) || ends_in(60, line) || ends_in(79, line)
+}
+
+/// Whether the last line, if no line end is behind it, is cut off.
+pub(crate) fn is_cut(place: Place, line: &Columns) -> bool
+    ensures { result ≡ is_cut place line.now }
+{
+    match place {
+        Place::Body(letter, count) => {
+            line[0] == 26 || (!is_record(line) && count < lines_behind(letter) && !is_whole(line))
+        }
+        _ => false,
     }
 }

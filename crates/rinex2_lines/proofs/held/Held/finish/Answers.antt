@@ -10,5 +10,5 @@ returns-then-not-is_begun-clause-left c =
 pub returns-clause-left : goal.returns-clause-left
 returns-clause-left c =
     let e = c.close-2.ensures in
-    finish_line c.args.self.now c.end_line.new.self c.close-2.new.self c.requires.waiting c.requires.piece c.requires.open c.is_open.ensures
-    (c.is_begun.ensures.some c.if-not-is_begun.false) c.end_line.ensures.waiting e.waiting e.begun e.piece e.ended
+    finish_line c.args.self.now c.end_last.new.self c.close-2.new.self c.requires.waiting c.requires.piece c.requires.open c.is_open.ensures
+    (c.is_begun.ensures.some c.if-not-is_begun.false) c.end_last.ensures.waiting e.waiting e.begun e.piece e.ended
