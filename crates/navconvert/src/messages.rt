@@ -3,7 +3,7 @@
 use crate::systems::{RTCM, SBF, Skips, System, UBX, system_in};
 use arrayvec::ArrayVec;
 use memchr::memchr;
-use whole_file::Kind;
+use whole_file::{Kind, LOOKED_AT, form_of, kind_so_far};
 
 // So many bytes tell what a message is: of UBX those up to the sigId.
 const ROOM: usize = 9;
@@ -30,6 +30,8 @@ enum Format {
 /// What was seen of a stream or a log so far, under each format that it may have.
 #[derive(Drop)]
 pub(crate) struct Messages {
+    // the format under which it is read, if its first piece told that
+    read_as: Option<Kind>,
     rtcm: Walk,
     ubx: Walk,
     sbf: Walk,
@@ -39,17 +41,35 @@ impl Messages {
     /// Nothing yet.
     pub(crate) fn new() -> Messages {
         Messages {
+            read_as: None,
             rtcm: Walk::new(Format::Rtcm),
             ubx: Walk::new(Format::Ubx),
             sbf: Walk::new(Format::Sbf),
         }
     }
 
+    /// Looks at the first piece of an input for which this format is named, or none.
+    pub(crate) fn look(&mut self, named: Option<Kind>, first: &[u8]) {
+        let looked_at = &first[..first.len().min(LOOKED_AT)];
+        let mut place = 0;
+        if let Some(told) = kind_so_far(looked_at, &mut place) {
+            self.read_as = Some(form_of(named, told));
+        }
+    }
+
     /// Sees a piece.
     pub(crate) fn see(&mut self, piece: &[u8]) {
-        self.rtcm.see(piece);
-        self.ubx.see(piece);
-        self.sbf.see(piece);
+        match self.read_as {
+            Some(Kind::Stream) => self.rtcm.see(piece),
+            Some(Kind::Ubx) => self.ubx.see(piece),
+            Some(Kind::Sbf) => self.sbf.see(piece),
+            Some(_) => {}
+            None => {
+                self.rtcm.see(piece);
+                self.ubx.see(piece);
+                self.sbf.see(piece);
+            }
+        }
     }
 
     /// The messages that are skipped of a file of this format, which is at its end.

@@ -102,6 +102,7 @@ pub(crate) struct Seen {
 pub(crate) struct Place<'a> {
     folder: HostFolder<'a, HostRuntime>,
     rt: &'a HostRuntime,
+    named: Option<Kind>,
     inputs: Inputs<'a>,
     goal: Goal,
     watch: Watch,
@@ -119,9 +120,10 @@ impl<'a> Place<'a> {
         Place {
             folder: HostFolder::with(rt.alloc(), rt, settings.overwrites),
             rt,
+            named: settings.wanted.form,
             inputs,
             goal,
-            watch: Watch::new(),
+            watch: Watch::new(settings.wanted.form),
             made: Made::new(),
             letter: match settings.site {
                 None => None,
@@ -200,7 +202,7 @@ impl<'a> Folder for Place<'a> {
     /// Opens the files, whatever the name.
     fn open(&mut self, _name: &str) -> Result<Watched<'a>, FileFault> {
         match opened(self.rt, self.inputs) {
-            Ok(input) => Ok(Watched::new(input)),
+            Ok(input) => Ok(Watched::new(input, self.named)),
             Err(fault) => Err(self.folder.failed(fault)),
         }
     }

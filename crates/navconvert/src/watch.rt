@@ -20,6 +20,8 @@ const ROOM: usize = 80;
 /// What was seen of an input so far. Nothing that it does changes what is read.
 #[derive(Drop)]
 pub(crate) struct Watch {
+    // the format that is named
+    named: Option<Kind>,
     first: ArrayVec<u8, ROOM>,
     is_told: bool,
     // whether its lines are those of a capture
@@ -29,9 +31,10 @@ pub(crate) struct Watch {
 }
 
 impl Watch {
-    /// Nothing yet.
-    pub(crate) fn new() -> Watch {
+    /// Nothing yet of an input for which this format is named, or none.
+    pub(crate) fn new(named: Option<Kind>) -> Watch {
         Watch {
+            named,
             first: ArrayVec::new(),
             is_told: false,
             is_capture: false,
@@ -45,6 +48,9 @@ impl Watch {
         if self.is_told {
             self.see_more(piece);
             return;
+        }
+        if self.first.is_empty() {
+            self.messages.look(self.named, piece);
         }
         let mut taken = 0usize;
         for byte in piece {
@@ -126,13 +132,13 @@ pub(crate) struct Watched<'a> {
 }
 
 impl<'a> Watched<'a> {
-    /// An input that was not read yet.
-    pub(crate) fn new(input: Input<'a>) -> Watched<'a>
+    /// An input that was not read yet, for which this format is named, or none.
+    pub(crate) fn new(input: Input<'a>, named: Option<Kind>) -> Watched<'a>
         ensures { ⟦<Watched<'a> as Source>⟧.faults result ≡ 0 }
     {
         Watched {
             input,
-            watch: Watch::new(),
+            watch: Watch::new(named),
             faults: 0,
         }
     }

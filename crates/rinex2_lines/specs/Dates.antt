@@ -1,9 +1,8 @@
 -- The date of a record of RINEX 2, and the time of a GLONASS frame (RINEX 2.11, tables A3 and A10).
-use Rattle.std.specs.Prelude.{ℕ, ◌+◌, ◌-◌, ◌%◌, ◌==◌, nat_le, false, if◌then◌else◌, List, ◌∷◌, [], Option, Some, None, Result, Ok, Err, ℤ, pos, unsigned_abs}
+use Rattle.std.specs.Prelude.{ℕ, ◌+◌, ◌-◌, ◌%◌, ◌/◌, ◌==◌, nat_le, false, if◌then◌else◌, List, ◌∷◌, [], Option, Some, None, Result, Ok, Err, ℤ, pos, unsigned_abs}
 use Rattle.scaled_decimal.specs.declared.reading.DecimalFault.{DecimalFault}
 use Rattle.scaled_decimal.specs.declared.scales.Scale.{Scale}
 use Rattle.scaled_decimal.specs.NumberReading.{read_of, seen}
-use Rattle.scaled_decimal.specs.NumberText.{number_text}
 use Rattle.scaled_decimal.specs.ScaleValue.{size_of}
 use Rattle.gnss_week.specs.declared.calendar.Civil.{Civil}
 use Rattle.gnss_week.specs.declared.calendar.WeekFault.{WeekFault}
@@ -54,9 +53,16 @@ week_second epoch second = first_from 86400 (epoch - 43199) second % 604800
 abbrev pub whole : Scale
 whole = record { pi = false; factor = 1; two = pos 0; ten = pos 0 }
 
+-- a number as six digits at the end of 19 columns
+abbrev pub six_digits : ℕ → List ℕ
+six_digits number =
+    32 ∷ 32 ∷ 32 ∷ 32 ∷ 32 ∷ 32 ∷ 32 ∷ 32 ∷ 32 ∷ 32 ∷ 32 ∷ 32 ∷ 32
+    ∷ (48 + number / 100000) ∷ (48 + number / 10000 % 10) ∷ (48 + number / 1000 % 10)
+    ∷ (48 + number / 100 % 10) ∷ (48 + number / 10 % 10) ∷ (48 + number % 10) ∷ []
+
 -- the text of the second of the week, for the text of a second of the day; any other text is kept
 abbrev pub frame_by : Option ℕ → List ℕ → Result ℤ DecimalFault → List ℕ
-frame_by (Some epoch) text (Ok second) = number_text (size_of whole) (pos (week_second epoch (unsigned_abs second)))
+frame_by (Some epoch) text (Ok second) = six_digits (week_second epoch (unsigned_abs second))
 frame_by (Some epoch) text (Err fault) = text
 frame_by None text second = text
 

@@ -2,11 +2,11 @@
 
 ghost use Rattle.std.specs.Prelude.{◌≡◌, ◌^◌, ◌<◌, IfSome};
 ghost use Rattle.rinex2_lines.specs.Dates.{date_of, epoch_of, frame_by, frame_text, full_year};
-ghost use Rattle.rinex2_lines.specs.Dates.{week_second, year_text};
+ghost use Rattle.rinex2_lines.specs.Dates.{six_digits, week_second, year_text};
 
 use crate::columns::{Columns, number_at};
 use gnss_week::{Civil, moment_of};
-use scaled_decimal::{Scale, print, read};
+use scaled_decimal::{Scale, read};
 
 // The scale of integers.
 const WHOLE: Scale = Scale {
@@ -90,13 +90,28 @@ fn week_second(epoch: u64, second: u64) -> u64
     (low + (second + DAY - low % DAY) % DAY) % WEEK
 }
 
+// A number of at most six digits at the end of 19 columns.
+fn six_digits(number: u64) -> [u8; 19]
+    requires { number < 1_000_000 }
+    ensures { result ≡ six_digits number }
+{
+    let mut text = [b' '; 19];
+    text[13] = b'0' + (number / 100_000) as u8;
+    text[14] = b'0' + (number / 10_000 % 10) as u8;
+    text[15] = b'0' + (number / 1000 % 10) as u8;
+    text[16] = b'0' + (number / 100 % 10) as u8;
+    text[17] = b'0' + (number / 10 % 10) as u8;
+    text[18] = b'0' + (number % 10) as u8;
+    text
+}
+
 /// The third number of a GLONASS record in RINEX 3, for that of RINEX 2.
 #[tactic(auto, unfolding(crate::specs::Dates::frame_text))]
 pub(crate) fn frame_text(line: &Columns, text: &[u8; 19]) -> [u8; 19]
     ensures { result ≡ frame_text line.now text.now }
 {
     match (epoch_of(line), read(text, &WHOLE, 0, 86_399)) {
-        (Some(epoch), Ok(second)) => print(week_second(epoch, second as u64) as i64, &WHOLE),
+        (Some(epoch), Ok(second)) => six_digits(week_second(epoch, second as u64)),
         _ => *text,
     }
 }
