@@ -117,7 +117,7 @@ def gathered(args, work):
         listed, healthy = os.path.join(work, "list"), os.path.join(work, "healthy.rnx")
         gather.run(tool, "list", merged, listed)
         with open(healthy, "wb") as file:
-            file.write(merge.HEADERS[4])
+            file.write(merge.HEADERS["4"])
             found.reading.take(gather.ephemerides(merged, listed), file)
         found.cover, found.healthy = gather.cover_of(cover), {}
         if found.reading.ill:
