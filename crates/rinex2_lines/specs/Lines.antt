@@ -1,6 +1,6 @@
 -- Lines of RINEX 2 navigation files, and the lines of RINEX 3 as which they are read (RINEX 2.11, tables A3, A4, A10, A11,
 -- A15 and A16; RINEX 3.05, navigation message files).
-use Rattle.std.specs.Prelude.{ℕ, ◌+◌, ◌-◌, ◌==◌, ◌&&◌, ◌||◌, not, nat_lt, Bool, true, false, bytes_eq, codes, if◌then◌else◌, List, [], ◌∷◌, ◌++◌, get_or, length}
+use Rattle.std.specs.Prelude.{ℕ, ◌+◌, ◌-◌, ◌==◌, ◌&&◌, ◌||◌, not, nat_lt, Bool, false, bytes_eq, codes, if◌then◌else◌, List, [], ◌∷◌, ◌++◌, get_or, length}
 use Rattle.scaled_decimal.specs.NumberReading.{is_decimal, trim_end, trim_start}
 use Rattle.rinex2_lines.specs.Columns.{padded, part}
 use Rattle.rinex2_lines.specs.Dates.{frame_text, year_text}
