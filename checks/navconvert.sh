@@ -361,7 +361,7 @@ is_same "the command for RINEX 2" shown2.rnx older.rnx
 
 cat older.24n older.24g older.24h > joined.24n
 run "RINEX 2 of three systems, joined" 0 "; nothing rejected, nothing skipped" "${date[@]}" -t rinex --overwrite -o joined.rnx joined.24n
-cat <(sed -n '1,/END OF HEADER/p' every4.rnx) > parts.rnx
+sed -n '1,/END OF HEADER/p' every4.rnx > parts.rnx
 for it in n g h; do
   run "RINEX 2 of one" 0 - -q "${date[@]}" --overwrite -o part.rnx "older.24$it"
   sed '1,/END OF HEADER/d' part.rnx >> parts.rnx

@@ -24,8 +24,8 @@ pub fn is_site(text: &str) -> bool
 }
 
 /// The name of a navigation file with data of this site from the first time to the last, such as
-/// `BRDC00XXX_R_20240010000_01D_MN.rnx`. The type of the data is `MN` for several systems, and `GN`,
-/// `RN`, `EN`, `CN`, `JN`, `IN` or `SN` for one.
+/// `BRDC00XXX_R_20240010000_01D_MN.rnx`. The type of the data is `MN` for several systems, and
+/// `GN`, `RN`, `EN`, `CN`, `JN`, `IN` or `SN` for one.
 ///
 /// The period starts at the full hour if both times are in one hour, and else at the midnight
 /// before the first. A period of more than 99 days is unspecified (`00U`).
@@ -34,13 +34,14 @@ pub fn long_name(
     site: &str,
     first: Moment,
     last: Moment,
-    data: &str,
+    data_type: &str,
 ) -> Result<String, AllocError>
-    ensures { IfOk result (λ name. string_bytes name ≡ long_name site.now first last data.now) }
+    ensures { IfOk result (λ name. string_bytes name
+        ≡ long_name site.now first last data_type.now) }
 {
     let mut name = String::from_str(alloc, site)?;
     push_times(&mut name, first, last)?;
-    name.push_str(data)?;
+    name.push_str(data_type)?;
     name.push_str(".rnx")?;
     Ok(name)
 }

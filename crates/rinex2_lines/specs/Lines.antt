@@ -1,8 +1,8 @@
 -- Lines of RINEX 2 navigation files, and the lines of RINEX 3 as which they are read (RINEX 2.11, tables A3, A4, A10, A11,
 -- A15 and A16; RINEX 3.05, navigation message files).
-use Rattle.std.specs.Prelude.{ℕ, ◌+◌, ◌-◌, ◌==◌, ◌&&◌, ◌||◌, not, nat_lt, Bool, true, false, bytes_eq, codes, if◌then◌else◌, List, [], ◌∷◌, ◌++◌, get_or, length}
+use Rattle.std.specs.Prelude.{ℕ, ◌+◌, ◌-◌, ◌==◌, ◌&&◌, ◌||◌, not, nat_lt, Bool, false, bytes_eq, codes, if◌then◌else◌, List, [], ◌∷◌, ◌++◌, get_or, length}
 use Rattle.scaled_decimal.specs.NumberReading.{is_decimal, trim_end, trim_start}
-use Rattle.rinex2_lines.specs.Columns.{part}
+use Rattle.rinex2_lines.specs.Columns.{padded, part}
 use Rattle.rinex2_lines.specs.Dates.{frame_text, year_text}
 use Rattle.rinex2_lines.specs.declared.place.Place.{Place}
 use Rattle.rinex2_lines.specs.declared.place.Place.TheVariants.{First, Header, Joined, Body}
@@ -73,10 +73,15 @@ is_end line = bytes_eq (part 60 13 line) (codes "END OF HEADER")
 abbrev pub further_line : Bool → ℕ → List ℕ → List ℕ
 further_line stray letter line = (if stray then letter else 32) ∷ part 0 79 line
 
--- a line after the header, behind so many of a record; one that begins a further header belongs to none
+-- a line that begins a further header: behind a whole record it is blank, as the fifth line that GLONASS has in RINEX 3; else
+-- it is a line of the record that has no numbers
+abbrev pub version_line : ℕ → ℕ → List ℕ → List ℕ
+version_line letter count line = if count == lines_behind letter then padded [] else further_line false letter line
+
+-- a line after the header, behind so many of a record
 abbrev pub body_line : ℕ → ℕ → List ℕ → List ℕ
 body_line letter count line =
-    if is_version line then further_line false letter line
+    if is_version line then version_line letter count line
     else if is_record line then record_line letter line
     else further_line (is_stray letter count line) letter line
 

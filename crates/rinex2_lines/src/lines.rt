@@ -7,10 +7,11 @@ ghost use Rattle.rinex2_lines.specs.Lines.{after, body_line, body_of, count_afte
 ghost use Rattle.rinex2_lines.specs.Lines.{first_line, further_line, is_blank, is_cut, is_end};
 ghost use Rattle.rinex2_lines.specs.Lines.{is_record, is_stray, is_two, is_version, is_whole};
 ghost use Rattle.rinex2_lines.specs.Lines.{letter_of, line_at, lines_behind, record_line};
-ghost use Rattle.rinex2_lines.specs.Lines.{second_text, third_text, type_of, version_text};
+ghost use Rattle.rinex2_lines.specs.Lines.{second_text, third_text, type_of, version_line};
+ghost use Rattle.rinex2_lines.specs.Lines.{version_text};
 ghost use Rattle.rinex2_lines.specs.declared.place.Place.TheVariants.{Body};
 
-use crate::columns::{Columns, Line, append, part};
+use crate::columns::{Columns, Line, append, padded, part};
 use crate::dates::{frame_text, year_text};
 use crate::place::Place;
 use scaled_decimal::{is_decimal, trimmed};
@@ -159,13 +160,25 @@ fn header_line(line: &Columns) -> Line
     out
 }
 
+// A line that begins a further header.
+fn version_line(letter: u8, count: u8, line: &Columns) -> Line
+    ensures text { result.items ≡ version_line letter count line.now }
+    ensures len { array_vec_len result ≡ 80 }
+{
+    if count == lines_behind(letter) {
+        header_line(&padded(b""))
+    } else {
+        further_line(false, letter, line)
+    }
+}
+
 // A line after the header, behind so many of a record.
 fn body_line(letter: u8, count: u8, line: &Columns) -> Line
     ensures text { result.items ≡ body_line letter count line.now }
     ensures len { array_vec_len result ≡ 80 }
 {
     if is_version(line) {
-        further_line(false, letter, line)
+        version_line(letter, count, line)
     } else if is_record(line) {
         record_line(letter, line)
     } else {
