@@ -3,6 +3,7 @@
 use crate::systems::{RTCM, SBF, Skips, System, UBX, system_in};
 use arrayvec::ArrayVec;
 use memchr::memchr;
+use std::mem;
 use whole_file::{Kind, LOOKED_AT, form_of, kind_so_far};
 
 // So many bytes tell what a message is: of UBX those up to the sigId.
@@ -15,8 +16,8 @@ enum Header {
     More,
     // it is none
     Wrong,
-    // a message of so many bytes, of this system
-    Message(usize, Option<System>),
+    // that of a message: its own bytes, those of the message, and the system
+    Message(usize, usize, Option<System>),
 }
 
 // The format of messages.
@@ -128,8 +129,13 @@ impl Walk {
             match rest.split_first() {
                 None => return,
                 Some((byte, behind)) => {
-                    self.see_byte(*byte);
-                    rest = behind;
+                    let read = self.see_header(rest);
+                    if read == 0 {
+                        self.see_byte(*byte);
+                        rest = behind;
+                    } else {
+                        rest = rest.get(read..).unwrap_or(&[]);
+                    }
                 }
             }
         }
@@ -167,6 +173,23 @@ impl Walk {
         }
     }
 
+    // Sees a header that stands complete in a piece: how many bytes it has, or 0.
+    fn see_header(&mut self, rest: &[u8]) -> usize {
+        if !self.header.is_empty() {
+            return 0;
+        }
+        let Some(first) = rest.get(..ROOM) else {
+            return 0;
+        };
+        match header_of(self.format, first) {
+            Header::Message(read, size, system) => {
+                self.begin(first.get(..read).unwrap_or(&[]), size, system);
+                read
+            }
+            _ => 0,
+        }
+    }
+
     // Sees a byte of a header.
     fn see_byte(&mut self, byte: u8) {
         if self.header.try_push(byte).is_err() {
@@ -175,13 +198,18 @@ impl Walk {
         match header_of(self.format, self.header.as_slice()) {
             Header::More => {}
             Header::Wrong => self.header.clear(),
-            Header::Message(size, system) => {
-                self.left = size.saturating_sub(self.header.len());
-                self.last = system;
-                self.sums = sums_of((0, 0), self.header.as_slice().get(2..).unwrap_or(&[]));
-                self.header.clear();
+            Header::Message(_, size, system) => {
+                let header = mem::replace(&mut self.header, ArrayVec::new());
+                self.begin(header.as_slice(), size, system);
             }
         }
+    }
+
+    // Begins a message of so many bytes, of this system, behind its header.
+    fn begin(&mut self, header: &[u8], size: usize, system: Option<System>) {
+        self.left = size.saturating_sub(header.len());
+        self.last = system;
+        self.sums = sums_of((0, 0), header.get(2..).unwrap_or(&[]));
     }
 
     // Sees bytes of a UBX message, of which the last two are its checksum.
@@ -253,23 +281,23 @@ fn header_of(format: Format, header: &[u8]) -> Header {
         (Format::Ubx, [_, second, ..]) if *second != b'b' => Header::Wrong,
         (Format::Sbf, [_, second, ..]) if *second != b'@' => Header::Wrong,
         (Format::Ubx, [_, _, _, _, low, high, ..]) if two(*high, *low) > 8184 => Header::Wrong,
-        (Format::Rtcm, [_, 0, 0, _, _]) => Header::Message(6, None),
-        (Format::Rtcm, [_, 0, 1, _, _]) => Header::Message(7, None),
-        (Format::Rtcm, [_, high, low, first, second]) => {
+        (Format::Rtcm, [_, 0, 0, _, _, ..]) => Header::Message(5, 6, None),
+        (Format::Rtcm, [_, 0, 1, _, _, ..]) => Header::Message(5, 7, None),
+        (Format::Rtcm, [_, high, low, first, second, ..]) => {
             let number = two(*first, *second) / 16;
             let size = usize::from(two(*high, *low));
-            Header::Message(size + 6, system_in(&RTCM, number))
+            Header::Message(5, size + 6, system_in(&RTCM, number))
         }
-        (Format::Ubx, [_, _, class, id, low, high]) if *class != 2 || *id != 0x13 => {
-            Header::Message(usize::from(two(*high, *low)) + 8, None)
+        (Format::Ubx, [_, _, class, id, low, high, ..]) if *class != 2 || *id != 0x13 => {
+            Header::Message(6, usize::from(two(*high, *low)) + 8, None)
         }
-        (Format::Ubx, [_, _, _, _, low, high, system, _, signal]) => {
+        (Format::Ubx, [_, _, _, _, low, high, system, _, signal, ..]) => {
             let system = system_in(&UBX, two(*system, *signal));
-            Header::Message(usize::from(two(*high, *low)) + 8, system)
+            Header::Message(9, usize::from(two(*high, *low)) + 8, system)
         }
-        (Format::Sbf, [_, _, _, _, low, high, size_low, size_high]) => {
+        (Format::Sbf, [_, _, _, _, low, high, size_low, size_high, ..]) => {
             let system = system_in(&SBF, two(*high % 32, *low));
-            Header::Message(usize::from(two(*size_high, *size_low)), system)
+            Header::Message(8, usize::from(two(*size_high, *size_low)), system)
         }
         _ => Header::More,
     }
