@@ -460,12 +460,16 @@ def archive(check, draw, count):
             file.write(gzip.compress(data, 1, mtime=0) if draw.randrange(2) else data)
         paths.append(path)
     wanted = "".join(it.of("4.01", 1) for it in sorted((it for _, it in first.values()), key=Record.rank))
-    orders = {"a directory": [folder], "the other order": paths[::-1], "shuffled": draw.sample(paths, len(paths)), "shuffled again": draw.sample(paths, len(paths))}
     whole, out = None, os.path.join(check.folder, "archive.rnx")
-    for (what, names), size in zip(orders.items(), (64, 7, 1, 3)):
+    for at, size in enumerate((64, 7, 1, 3)):
+        what = f"order {at}, batches of {size}"
+        ordered = os.path.join(check.folder, f"order{at}")  # files are merged in the order of their names
+        os.mkdir(ordered)
+        for path, place in zip(paths, draw.sample(range(len(paths)), len(paths))):
+            os.link(path, os.path.join(ordered, f"{place:04}"))
         run = subprocess.run([os.path.join(TOP, "examples", "merge_archive.py"), "--program", check.program, "--date", "20240101 000000 UTC", "-o", out, "--again",
-                              "--batch", str(size), "-"], input="\n".join(names), capture_output=True, text=True, check=False)
-        check.same(f"{what} in batches of {size}: status and messages", f"{run.returncode}\n{run.stderr}", "0\n")
+                              "--batch", str(size), ordered], capture_output=True, text=True, check=False)
+        check.same(f"{what}: status and messages", f"{run.returncode}\n{run.stderr}", "0\n")
         if run.returncode > 1:
             return
         with open(out, encoding="ascii") as file:
