@@ -189,11 +189,12 @@ kept_is reads a b n k e f g h =
     ∙ sym (interleaved_length (ranked_of by_numbers by_sent (navs_of (items_of reads))) (ranked_of by_rank by_place (rows_of (items_of reads))))
 
 pub counts_are : (to : Target) (reads : List LineRead) (c : SystemCounts) (kept : ℕ) → c ≡ counts_of to reads → kept ≡ length (merged_items (items_of reads))
-    → record { records = c.records; refused = c.refused; passed = c.passed; items = c.items; kept = kept; unwritten = c.unwritten; times = c.times } ≡ merge_counts to reads
+    → record { records = c.records; refused = c.refused; passed = c.passed; carried = c.carried; items = c.items; kept = kept; unwritten = c.unwritten; times = c.times } ≡ merge_counts to reads
 counts_are to reads c kept e f = λ i. record {
   records = (e i).records;
   refused = (e i).refused;
   passed = (e i).passed;
+  carried = (e i).carried;
   items = (e i).items;
   kept = f i;
   unwritten = (e i).unwritten;

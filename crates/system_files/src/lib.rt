@@ -4,7 +4,7 @@
 //! file, frames or list. Its GPS LNAV and Galileo I/NAV ephemerides, and the ionosphere parameters,
 //! are those of [`nav_files::run_rinex`] and [`nav_files::run_rinex3`], in the same order; the
 //! others come from the tables of [`nav_rows`]. Of other records of RINEX 4 the lines are
-//! carried, by [`carried_records`]; records of other kinds are skipped and counted.
+//! carried, by [`carried_records`], behind all ephemerides; further records are skipped and counted.
 //! [`run_system_merge`] writes each once, in order of time.
 //!
 //! ```rust
@@ -13,7 +13,7 @@
 //! use system_streams::Kinds;
 //!
 //! let kinds = Kinds::all();
-//! let counts = run_system_file(&kinds, Version::Four, &Target::ToList, &mut input, &mut output, &mut report)?;
+//! let counts = run_system_file(rt.alloc(), &kinds, Version::Four, &Target::ToList, &mut input, &mut output, &mut report)?;
 //! ```
 #![tactic(auto)]
 
