@@ -5,5 +5,8 @@ pub mod RowOrder
 pub mod Merges
 pub mod Cells
 pub mod NavLaws
+pub mod NextEntries
 pub mod MergeLaws
+pub mod CarriedLaws
+pub mod CarriedFronts
 pub mod Wrote
