@@ -14,7 +14,7 @@ use Rattle.system_files.specs.Readings.{LineRead, Reading}
 use Rattle.system_files.proofs.MergeLaws.{both_equal, first_part, second_part}
 use Rattle.system_files.proofs.Merges.{all_ok, on_ok}
 use Rattle.system_files.proofs.NavLaws.{one_list}
-use Rattle.system_files.proofs.Records.{carried_more}
+use Rattle.system_files.proofs.CarriedTexts.{carried_more}
 
 pub entries_items : (reads : List LineRead) → firsts (merged_entries reads) ≡ merged_items (items_of reads)
 entries_items reads = first_part is_carried_before (merged_items (items_of reads)) (ranked_of by_text by_text (carried_of reads))

@@ -1,4 +1,5 @@
 pub mod Records
+pub mod CarriedTexts
 pub mod Items
 pub mod KeptLines
 pub mod RowOrder

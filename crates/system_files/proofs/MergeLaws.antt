@@ -23,13 +23,13 @@ use Rattle.system_files.proofs.NavLaws.{number_at, one_list, same_items, told_it
 
 -- ---- the parts
 
-no_firsts : {A B : Type 0} (bs : List B) → firsts {A = A} (map inr bs) ≡ []
-no_firsts [] = refl
-no_firsts {A} (b ∷ bs) = no_firsts {A} bs
+no_firsts : (A : Type 0) {B : Type 0} (bs : List B) → firsts {A = A} (map inr bs) ≡ []
+no_firsts A [] = refl
+no_firsts A (b ∷ bs) = no_firsts A bs
 
-all_seconds : {A B : Type 0} (bs : List B) → seconds {A = A} (map inr bs) ≡ bs
-all_seconds [] = refl
-all_seconds {A} {B} (b ∷ bs) = ap (λ (l : List B). b ∷ l) (all_seconds {A} bs)
+all_seconds : (A : Type 0) {B : Type 0} (bs : List B) → seconds {A = A} (map inr bs) ≡ bs
+all_seconds A [] = refl
+all_seconds A {B} (b ∷ bs) = ap (λ (l : List B). b ∷ l) (all_seconds A bs)
 
 behind_firsts : {A B : Type 0} (before : B → A → Bool) (a : A) (xs : List A) (bs : List B) → ((cs : List B) → firsts (interleaved before xs cs) ≡ xs) → firsts (behind before a (interleaved before xs) bs) ≡ a ∷ xs
 behind_firsts {A} before a xs [] h = ap (λ (l : List A). a ∷ l) (h [])
@@ -41,7 +41,7 @@ behind_firsts {A} before a xs (b ∷ bs) h = at (before b a) (behind_firsts befo
     at false k = ap (λ (l : List A). a ∷ l) (h (b ∷ bs))
 
 pub first_part : {A B : Type 0} (before : B → A → Bool) (xs : List A) (bs : List B) → firsts (interleaved before xs bs) ≡ xs
-first_part {A} before [] bs = no_firsts {A} bs
+first_part {A} before [] bs = no_firsts A bs
 first_part before (a ∷ xs) bs = behind_firsts before a xs bs (first_part before xs)
 
 behind_seconds : {A B : Type 0} (before : B → A → Bool) (a : A) (xs : List A) (bs : List B) → ((cs : List B) → seconds (interleaved before xs cs) ≡ cs) → seconds (behind before a (interleaved before xs) bs) ≡ bs
@@ -54,7 +54,7 @@ behind_seconds {A} {B} before a xs (b ∷ bs) h = at (before b a) (behind_second
     at false k = h (b ∷ bs)
 
 pub second_part : {A B : Type 0} (before : B → A → Bool) (xs : List A) (bs : List B) → seconds (interleaved before xs bs) ≡ bs
-second_part {A} before [] bs = all_seconds {A} bs
+second_part {A} before [] bs = all_seconds A bs
 second_part before (a ∷ xs) bs = behind_seconds before a xs bs (second_part before xs)
 
 pub merged_navs : (items : List Item) → navs_of (merged_items items) ≡ ranked_of by_numbers by_sent (navs_of items)

@@ -44,9 +44,9 @@ held_is old new (Some x) h = sym h
 
 -- ---- how many
 
-seconds_length : {A B : Type 0} (bs : List B) → length {A = A ⊎ B} (map inr bs) ≡ length bs
-seconds_length [] = refl
-seconds_length {A} (b ∷ bs) = omega (arith, seconds_length {A} bs)
+seconds_length : (A : Type 0) {B : Type 0} (bs : List B) → length {A = A ⊎ B} (map inr bs) ≡ length bs
+seconds_length A [] = refl
+seconds_length A (b ∷ bs) = omega (arith, seconds_length A bs)
 
 behind_length : {A B : Type 0} (before : B → A → Bool) (a : A) (xs : List A) (bs : List B) → ((cs : List B) → length (interleaved before xs cs) ≡ length xs + length cs)
     → length (behind before a (interleaved before xs) bs) ≡ length xs + 1 + length bs
@@ -59,7 +59,7 @@ behind_length before a xs (b ∷ bs) h = at (before b a) (behind_length before a
     at false k = omega (arith, h (b ∷ bs))
 
 pub interleaved_length : {A B : Type 0} (before : B → A → Bool) (xs : List A) (bs : List B) → length (interleaved before xs bs) ≡ length xs + length bs
-interleaved_length {A} before [] bs = let e : length bs ≡ 0 + length bs = omega arith in seconds_length {A} bs ∙ e
+interleaved_length {A} before [] bs = let e : length bs ≡ 0 + length bs = omega arith in seconds_length A bs ∙ e
 interleaved_length before (a ∷ xs) bs = omega (arith, behind_length before a xs bs (interleaved_length before xs))
 
 with_length : {X : Type 0} (by choice : X → X → Ordering) (xs : List X) (x : X) → length (with_value by choice xs x) ≤ length xs + 1

@@ -1,15 +1,14 @@
 -- What a record more adds to what is written, reported and counted.
-use Rattle.std.proofs.Common.{◌≡◌, ℕ, ◌+◌, Bool, if◌then◌else◌, List, [], ◌∷◌, ◌++◌, length, map, sum, Ok, Err, refl, sym, ap, ◌∙◌, arith, append_assoc, append-nil, length-append}
+use Rattle.std.proofs.Common.{◌≡◌, ℕ, ◌+◌, Bool, if◌then◌else◌, List, [], ◌∷◌, ◌++◌, length, map, sum, refl, sym, ap, ◌∙◌, arith, length-append}
 use Rattle.std.specs.Prelude.{Option, None}
-use Rattle.std.specs.List.{flat_map, sum_by}
-use Rattle.std.proofs.lemmas.Grind.{flat_map-append}
+use Rattle.std.specs.List.{sum_by}
 use Rattle.std.proofs.lemmas.List.{map-append}
 use Rattle.std.proofs.lemmas.List.Sums.{sum-map, sum_by-append}
 use Rattle.outlets.specs.declared.target.Target.{Target}
 use Rattle.outlets.specs.declared.times.Times.{Times}
-use Rattle.system_files.specs.Files.{carried_by, carried_in, carried_lines, carried_text, counts_by, counts_of, is_unwritten, reading_text, times_after, times_over}
-use Rattle.system_files.specs.Mirrors.{IsBehind, counted}
-use Rattle.system_files.specs.Readings.{LineRead, Reading, refused, carried, passed, is_carried, is_item, is_passed, is_refused, reading_report, readings}
+use Rattle.system_files.specs.Files.{counts_by, counts_of, is_unwritten, reading_text, times_after, times_over}
+use Rattle.system_files.specs.Mirrors.{counted}
+use Rattle.system_files.specs.Readings.{LineRead, Reading, is_carried, is_item, is_passed, is_refused, reading_report, readings}
 use Rattle.system_files.specs.declared.counts.SystemCounts.{SystemCounts}
 
 -- ---- of equal lines and readings
@@ -53,26 +52,3 @@ pub counts_more : (to : Target) (given : List LineRead) (read : LineRead) (writt
 counts_more to given read written is =
     with_more to (readings given) read.reading written is
     ∙ ap (counts_by to) (sym (map-append (λ (r : LineRead). r.reading) given (read ∷ [])))
-
--- ---- the carried records
-
-pub carried_more : (reads : List LineRead) (read : LineRead) → carried_in (reads ++ read ∷ []) ≡ carried_in reads ++ carried_lines read.reading
-carried_more [] read = append-nil (carried_lines read.reading)
-carried_more (r ∷ rs) read =
-    ap (λ (l : List (List (List ℕ))). carried_lines r.reading ++ l) (carried_more rs read)
-    ∙ sym (append_assoc (carried_lines r.reading) (carried_in rs) (carried_lines read.reading))
-
-behind_one : (to : Target) (x : Reading) (old new : List ℕ) → IsBehind to x old new → new ≡ old ++ flat_map (carried_text to) (carried_lines x)
-behind_one to (Ok item) old new h = h ∙ sym (append-nil old)
-behind_one to (Err (carried lines)) old new h = h ∙ ap (λ (l : List ℕ). old ++ l) (sym (append-nil (carried_text to lines)))
-behind_one to (Err (refused reason)) old new h = h ∙ sym (append-nil old)
-behind_one to (Err passed) old new h = h ∙ sym (append-nil old)
-
--- the text of the carried records with one record more
-pub behind_more : (to : Target) (reads : List LineRead) (read : LineRead) (x : Reading) (old new : List ℕ) → IsBehind to x old new → x ≡ read.reading → old ≡ carried_by to reads
-    → new ≡ carried_by to (reads ++ read ∷ [])
-behind_more to reads read x old new h e f =
-    behind_one to x old new h ∙ ap (λ (l : List ℕ). l ++ flat_map (carried_text to) (carried_lines x)) f
-    ∙ ap (λ y. carried_by to reads ++ flat_map (carried_text to) (carried_lines y)) e
-    ∙ sym (flat_map-append (carried_text to) (carried_in reads) (carried_lines read.reading))
-    ∙ ap (λ (l : List (List (List ℕ))). flat_map (carried_text to) l) (sym (carried_more reads read))

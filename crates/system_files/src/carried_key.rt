@@ -1,6 +1,6 @@
 //! Carried records in the order of a merged file.
 
-ghost use Rattle.std.specs.Prelude.{◌≡◌, ◌≤◌, IfOk, Some, length, pos};
+ghost use Rattle.std.specs.Prelude.{◌≡◌, ◌≤◌, IfOk, Ok, Some, length, pos};
 ghost use Rattle.std.proofs.Common.{refl};
 ghost use Rattle.std.specs.Cmp.Lexicographic.{lists_total, on_texts, slice_cmp};
 ghost use Rattle.std.specs.Cmp.{eq_by_cmp_equiv, int_cmp_total, on_total, then_total};
@@ -14,6 +14,7 @@ ghost use Rattle.system_files.specs.Merging.{record_part};
 
 use crate::select::digit;
 use carried_records::record_text;
+use gnss_week::Moment;
 use nav_io::{Failed, Sink};
 use outlets::Target;
 use ranked_list::Ranked;
@@ -81,6 +82,19 @@ fn message_place(letter: u8) -> i64
     if letter == b'C' { -1 } else { 255 }
 }
 
+// What comes first of a record with this title at this moment.
+fn dated_front(title: &[u8; 80], moment: Moment) -> [i64; 5]
+    ensures { result ≡ front_by title.now (Ok moment) }
+{
+    [
+        moment.value() as i64,
+        type_place(columns(title, 2, 3)) + letter_place(title[6]),
+        (10 * digit(title[7]) + digit(title[8])) as i64,
+        message_place(title[10]),
+        0,
+    ]
+}
+
 // What comes first of a record with this title and this first line.
 fn front_by(title: &[u8; 80], line: &[u8; 80]) -> [i64; 5]
     ensures { result ≡ front_by title.now (moment_at line.now) }
@@ -91,13 +105,7 @@ fn front_by(title: &[u8; 80], line: &[u8; 80]) -> [i64; 5]
     };
     let lines = [*line];
     match read_row_lines(&layout, &lines) {
-        Ok(said) => [
-            said.moment.value() as i64,
-            type_place(columns(title, 2, 3)) + letter_place(title[6]),
-            (10 * digit(title[7]) + digit(title[8])) as i64,
-            message_place(title[10]),
-            0,
-        ],
+        Ok(said) => dated_front(title, said.moment),
         Err(_) => UNDATED,
     }
 }

@@ -7,7 +7,8 @@ use Rattle.one_run.proofs.Surface.{prefix_after}
 use Rattle.nav_files.proofs.Surface.{grew_between, grew_more, texts_prefix}
 use Rattle.system_files.specs.Files.{is_unwritten, read_report, read_text}
 use Rattle.system_files.specs.Mirrors.{counted}
-use Rattle.system_files.proofs.Records.{behind_more, counts_more, same_report, same_text}
+use Rattle.system_files.proofs.CarriedTexts.{behind_more}
+use Rattle.system_files.proofs.Records.{counts_more, same_report, same_text}
 use Rattle.system_files.proofs.Wrote.{between_all}
 use Rattle.system_files.proofs.run.SystemsTakerRecordRead.take.Goals as goal
 
