@@ -1,6 +1,6 @@
 //! Carried records in the order of a merged file.
 
-ghost use Rattle.std.specs.Prelude.{◌≡◌, ◌≤◌, IfOk, Ok, Some, length, pos};
+ghost use Rattle.std.specs.Prelude.{◌≡◌, ◌+◌, ◌*◌, ◌≤◌, IfOk, Ok, Some, get_or, length, pos};
 ghost use Rattle.std.proofs.Common.{refl};
 ghost use Rattle.std.specs.Cmp.Lexicographic.{lists_total, on_texts, slice_cmp};
 ghost use Rattle.std.specs.Cmp.{eq_by_cmp_equiv, int_cmp_total, on_total, then_total};
@@ -8,9 +8,11 @@ ghost use Rattle.std.specs.Cmp.{partial_equiv_from_equiv, partial_order_from_agr
 ghost use Rattle.std.specs.Ordering.{int_cmp, is_eq, is_lt};
 ghost use Rattle.nav_io.specs.Writes.{Writes};
 ghost use Rattle.rinex_read.specs.Judging.{moment_at};
+ghost use Rattle.rinex_read.specs.Lines.{columns};
 ghost use Rattle.system_files.specs.CarriedOrder.{by_text, carried_front, front_by, kept_record};
 ghost use Rattle.system_files.specs.CarriedOrder.{letter_place, message_place, type_place};
 ghost use Rattle.system_files.specs.Merging.{record_part};
+ghost use Rattle.system_files.specs.Selecting.{digit};
 
 use crate::select::digit;
 use carried_records::record_text;
@@ -26,14 +28,16 @@ use std::marker::Model;
 
 // A line with a date and nothing else that is read.
 static NO_COLUMNS: [Column; 0] = [];
+
 static DATE_ROWS: [usize; 1] = [0];
 
 // What comes first of a record whose date cannot be read.
 const UNDATED: [i64; 5] = [-1, 0, 0, 0, 0];
 
 // The place of a type of record.
-fn type_place(name: &[u8]) -> i64
-    ensures { result ≡ pos (type_place name.now) }
+fn type_place(name: &[u8]) -> u64
+    ensures place { result ≡ type_place name.now }
+    ensures few { result ≤ 28 }
 {
     if name == b"EPH".as_slice() {
         return 0;
@@ -51,8 +55,9 @@ fn type_place(name: &[u8]) -> i64
 }
 
 // The place of a system.
-fn letter_place(letter: u8) -> i64
-    ensures { result ≡ pos (letter_place letter) }
+fn letter_place(letter: u8) -> u64
+    ensures place { result ≡ letter_place letter }
+    ensures few { result ≤ 6 }
 {
     if letter == b'G' {
         return 0;
@@ -82,14 +87,30 @@ fn message_place(letter: u8) -> i64
     if letter == b'C' { -1 } else { 255 }
 }
 
+// The place of the type and the system of a title.
+fn place_in(title: &[u8; 80]) -> i64
+    ensures { result ≡ pos (type_place (columns 2 3 title.now) + letter_place (get_or title.now 6 32)) }
+{
+    let place = type_place(columns(title, 2, 3)) + letter_place(title[6]);
+    place as i64
+}
+
+// The number of the satellite of a title.
+fn satellite_in(title: &[u8; 80]) -> i64
+    ensures { result ≡ pos (10 * digit (get_or title.now 7 32) + digit (get_or title.now 8 32)) }
+{
+    let number = 10 * digit(title[7]) + digit(title[8]);
+    number as i64
+}
+
 // What comes first of a record with this title at this moment.
 fn dated_front(title: &[u8; 80], moment: Moment) -> [i64; 5]
     ensures { result ≡ front_by title.now (Ok moment) }
 {
     [
         moment.value() as i64,
-        type_place(columns(title, 2, 3)) + letter_place(title[6]),
-        (10 * digit(title[7]) + digit(title[8])) as i64,
+        place_in(title),
+        satellite_in(title),
         message_place(title[10]),
         0,
     ]

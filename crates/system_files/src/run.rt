@@ -175,11 +175,6 @@ pub fn run_system_file<S: Source, T: Sink, U: Sink>(
     };
     let systems = Systems { to: *to };
     run_file::<RecordRead, SystemForm, Systems, S, T, U>(
-        &form,
-        &systems,
-        &mut state,
-        input,
-        output,
-        report,
+        &form, &systems, &mut state, input, output, report,
     )
 }
