@@ -61,7 +61,13 @@ impl<U: Sink> Conversion for TaskRun<U> {
         match &self.task {
             Task::Does(job) => do_job(self.alloc, job, input, output, &mut self.report),
             Task::Systems(job) => do_systems(self.alloc, job, input, output, &mut self.report),
-            Task::SystemFile(job) => do_system_file(job, input, output, &mut self.report),
+            Task::SystemFile(job) => do_system_file(
+                self.alloc,
+                job,
+                input,
+                output,
+                &mut self.report,
+            ),
             Task::SystemMerge(job) => do_system_merge(
                 self.alloc,
                 job,
@@ -143,6 +149,7 @@ fn do_systems<S: Source, T: Sink, U: Sink>(
 
 // Converts those in a navigation file.
 fn do_system_file<S: Source, T: Sink, U: Sink>(
+    alloc: Global,
     job: &SystemFileJob,
     input: &mut S,
     output: &mut T,
@@ -167,7 +174,16 @@ fn do_system_file<S: Source, T: Sink, U: Sink>(
     ensures breaks { IfErr result (λ fault. IfSome (S.left input.old) (λ bytes.
         breaks_by (IsSome ((system_file_of job.now).counts bytes)) bytes fault)) }
 {
-    match run_system_file(&job.kinds, job.version, &job.to, input, output, report) {
+    let read = run_system_file(
+        alloc,
+        &job.kinds,
+        job.version,
+        &job.to,
+        input,
+        output,
+        report,
+    );
+    match read {
         Ok(counts) => Ok(Some(Done::File(counts))),
         Err(fault) => Err(fault),
     }

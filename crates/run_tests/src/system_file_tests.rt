@@ -232,7 +232,7 @@ fn file_run(
     let cuts = vec![in alloc; 7u32; 4000]?;
     let mut input = MemSource::new(bytes.to_vec(alloc)?, cuts, Vec::new(alloc));
     let kinds = Kinds::all();
-    Ok(run_system_file(&kinds, version, to, &mut input, output, report))
+    Ok(run_system_file(alloc, &kinds, version, to, &mut input, output, report))
 }
 
 // Whether a file becomes this.

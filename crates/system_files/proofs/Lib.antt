@@ -1,9 +1,13 @@
 pub mod Records
+pub mod CarriedTexts
 pub mod Items
 pub mod KeptLines
 pub mod RowOrder
 pub mod Merges
 pub mod Cells
 pub mod NavLaws
+pub mod NextEntries
 pub mod MergeLaws
+pub mod CarriedLaws
+pub mod CarriedFronts
 pub mod Wrote

@@ -1,5 +1,6 @@
 -- The merged list of all systems: its parts, and that it depends on the set of the items alone.
 use Rattle.std.proofs.Common.{◌≡◌, ℕ, Bool, true, false, cond, List, [], ◌∷◌, ◌++◌, ◌↔◌, Contains, map, suc, zero, refl, sym, ap, subst, ◌∙◌, inl, inr, ◌⊎◌, Ok, Err, arith}
+use Rattle.std.specs.List.Sorted.{IsStrictlySortedBy}
 use Rattle.std.specs.Ordering.{ordering_then}
 use Rattle.std.specs.declared.cmp.Ordering.{Ordering}
 use Rattle.std.specs.declared.cmp.Ordering.TheVariants.{Less, Equal, Greater}
@@ -12,7 +13,7 @@ use Rattle.system_streams.specs.Readings.{Item}
 use Rattle.system_streams.specs.Streams.{navs}
 use Rattle.system_streams.specs.declared.kinds.Kinds.{Kinds}
 use Rattle.system_files.specs.Files.{form_of, items_in, nav_form, numbered}
-use Rattle.system_files.specs.Merging.{AreNamed, behind_rows, file_merged, interleaved, is_before, item_of, items_of, merged_items, navs_of, rows_of}
+use Rattle.system_files.specs.Merging.{AreNamed, behind, file_merged, firsts, interleaved, is_before, item_of, items_of, merged_items, navs_of, rows_of, seconds}
 use Rattle.system_files.specs.NavOrder.{by_numbers, by_sent}
 use Rattle.system_files.specs.Readings.{LineRead, Reading}
 use Rattle.system_files.specs.declared.version.Version.{Version}
@@ -22,52 +23,61 @@ use Rattle.system_files.proofs.NavLaws.{number_at, one_list, same_items, told_it
 
 -- ---- the parts
 
-no_navs : (xs : List KindRow) → navs_of (map inr xs) ≡ []
-no_navs [] = refl
-no_navs (x ∷ xs) = no_navs xs
+no_firsts : (A : Type 0) {B : Type 0} (bs : List B) → firsts {A = A} (map inr bs) ≡ []
+no_firsts A [] = refl
+no_firsts A (b ∷ bs) = no_firsts A bs
 
-all_rows : (xs : List KindRow) → rows_of (map inr xs) ≡ xs
-all_rows [] = refl
-all_rows (x ∷ xs) = ap (λ (l : List KindRow). x ∷ l) (all_rows xs)
+all_seconds : (A : Type 0) {B : Type 0} (bs : List B) → seconds {A = A} (map inr bs) ≡ bs
+all_seconds A [] = refl
+all_seconds A {B} (b ∷ bs) = ap (λ (l : List B). b ∷ l) (all_seconds A bs)
 
-behind_navs : (item : NavItem) (is : List NavItem) (xs : List KindRow) → ((ys : List KindRow) → navs_of (interleaved is ys) ≡ is) → navs_of (behind_rows item (interleaved is) xs) ≡ item ∷ is
-behind_navs item is [] h = ap (λ (l : List NavItem). item ∷ l) (h [])
-behind_navs item is (x ∷ xs) h = at (is_before x item) (behind_navs item is xs h)
+behind_firsts : {A B : Type 0} (before : B → A → Bool) (a : A) (xs : List A) (bs : List B) → ((cs : List B) → firsts (interleaved before xs cs) ≡ xs) → firsts (behind before a (interleaved before xs) bs) ≡ a ∷ xs
+behind_firsts {A} before a xs [] h = ap (λ (l : List A). a ∷ l) (h [])
+behind_firsts {A} before a xs (b ∷ bs) h = at (before b a) (behind_firsts before a xs bs h)
   where
-    at : (b : Bool) → navs_of (behind_rows item (interleaved is) xs) ≡ item ∷ is
-        → navs_of (cond b (inr x ∷ behind_rows item (interleaved is) xs) (inl item ∷ interleaved is (x ∷ xs))) ≡ item ∷ is
+    at : (t : Bool) → firsts (behind before a (interleaved before xs) bs) ≡ a ∷ xs
+        → firsts (cond t (inr b ∷ behind before a (interleaved before xs) bs) (inl a ∷ interleaved before xs (b ∷ bs))) ≡ a ∷ xs
     at true k = k
-    at false k = ap (λ (l : List NavItem). item ∷ l) (h (x ∷ xs))
+    at false k = ap (λ (l : List A). a ∷ l) (h (b ∷ bs))
 
-pub nav_part : (is : List NavItem) (xs : List KindRow) → navs_of (interleaved is xs) ≡ is
-nav_part [] xs = no_navs xs
-nav_part (item ∷ is) xs = behind_navs item is xs (nav_part is)
+pub first_part : {A B : Type 0} (before : B → A → Bool) (xs : List A) (bs : List B) → firsts (interleaved before xs bs) ≡ xs
+first_part {A} before [] bs = no_firsts A bs
+first_part before (a ∷ xs) bs = behind_firsts before a xs bs (first_part before xs)
 
-behind_rows_are : (item : NavItem) (is : List NavItem) (xs : List KindRow) → ((ys : List KindRow) → rows_of (interleaved is ys) ≡ ys) → rows_of (behind_rows item (interleaved is) xs) ≡ xs
-behind_rows_are item is [] h = h []
-behind_rows_are item is (x ∷ xs) h = at (is_before x item) (behind_rows_are item is xs h)
+behind_seconds : {A B : Type 0} (before : B → A → Bool) (a : A) (xs : List A) (bs : List B) → ((cs : List B) → seconds (interleaved before xs cs) ≡ cs) → seconds (behind before a (interleaved before xs) bs) ≡ bs
+behind_seconds before a xs [] h = h []
+behind_seconds {A} {B} before a xs (b ∷ bs) h = at (before b a) (behind_seconds before a xs bs h)
   where
-    at : (b : Bool) → rows_of (behind_rows item (interleaved is) xs) ≡ xs
-        → rows_of (cond b (inr x ∷ behind_rows item (interleaved is) xs) (inl item ∷ interleaved is (x ∷ xs))) ≡ x ∷ xs
-    at true k = ap (λ (l : List KindRow). x ∷ l) k
-    at false k = h (x ∷ xs)
+    at : (t : Bool) → seconds (behind before a (interleaved before xs) bs) ≡ bs
+        → seconds (cond t (inr b ∷ behind before a (interleaved before xs) bs) (inl a ∷ interleaved before xs (b ∷ bs))) ≡ b ∷ bs
+    at true k = ap (λ (l : List B). b ∷ l) k
+    at false k = h (b ∷ bs)
 
-pub row_part : (is : List NavItem) (xs : List KindRow) → rows_of (interleaved is xs) ≡ xs
-row_part [] xs = all_rows xs
-row_part (item ∷ is) xs = behind_rows_are item is xs (row_part is)
+pub second_part : {A B : Type 0} (before : B → A → Bool) (xs : List A) (bs : List B) → seconds (interleaved before xs bs) ≡ bs
+second_part {A} before [] bs = all_seconds A bs
+second_part before (a ∷ xs) bs = behind_seconds before a xs bs (second_part before xs)
 
 pub merged_navs : (items : List Item) → navs_of (merged_items items) ≡ ranked_of by_numbers by_sent (navs_of items)
-merged_navs items = nav_part (ranked_of by_numbers by_sent (navs_of items)) (ranked_of by_rank by_place (rows_of items))
+merged_navs items = first_part is_before (ranked_of by_numbers by_sent (navs_of items)) (ranked_of by_rank by_place (rows_of items))
 
 pub merged_rows : (items : List Item) → rows_of (merged_items items) ≡ ranked_of by_rank by_place (rows_of items)
-merged_rows items = row_part (ranked_of by_numbers by_sent (navs_of items)) (ranked_of by_rank by_place (rows_of items))
+merged_rows items = second_part is_before (ranked_of by_numbers by_sent (navs_of items)) (ranked_of by_rank by_place (rows_of items))
+
+-- each part is in the order of rank
+pub merged_order : ((xs : List NavItem) → IsRankedList by_numbers by_sent (Contains xs) (ranked_of by_numbers by_sent xs))
+    → ((xs : List KindRow) → IsRankedList by_rank by_place (Contains xs) (ranked_of by_rank by_place xs))
+    → (items : List Item) → IsStrictlySortedBy by_numbers (navs_of (merged_items items)) × IsStrictlySortedBy by_rank (rows_of (merged_items items))
+merged_order navs_are rows_are items = (
+  subst (IsStrictlySortedBy by_numbers) (sym (merged_navs items)) (navs_are (navs_of items)).ascending,
+  subst (IsStrictlySortedBy by_rank) (sym (merged_rows items)) (rows_are (rows_of items)).ascending,
+)
 
 -- ---- in several steps
 
 pub merged_again : ((some more : List NavItem) → ranked_of by_numbers by_sent (ranked_of by_numbers by_sent some ++ more) ≡ ranked_of by_numbers by_sent (some ++ more))
     → ((some more : List KindRow) → ranked_of by_rank by_place (ranked_of by_rank by_place some ++ more) ≡ ranked_of by_rank by_place (some ++ more))
     → (some more : List Item) → merged_items (merged_items some ++ more) ≡ merged_items (some ++ more)
-merged_again of_navs of_rows some more = λ i. interleaved (nav_side i) (row_side i)
+merged_again of_navs of_rows some more = λ i. interleaved is_before (nav_side i) (row_side i)
   where
     nav_side : ranked_of by_numbers by_sent (navs_of (merged_items some ++ more)) ≡ ranked_of by_numbers by_sent (navs_of (some ++ more))
     nav_side =
@@ -146,7 +156,7 @@ same_rows some other s n = (
 )
 
 -- rows that are equal in rank and choice are equal, if the names of kinds tell them apart
-both_equal : (a b : Ordering) → ordering_then a b ≡ Equal → (a ≡ Equal) × (b ≡ Equal)
+pub both_equal : (a b : Ordering) → ordering_then a b ≡ Equal → (a ≡ Equal) × (b ≡ Equal)
 both_equal Less b e = absurd (cc)
 both_equal Equal b e = (refl, e)
 both_equal Greater b e = absurd (cc)
@@ -170,7 +180,7 @@ pub merged_set : ((some other : List NavItem) → AreTold by_numbers by_sent (Co
     → ((some other : List KindRow) → AreTold by_rank by_place (Contains some) → ((i : KindRow) → Contains some i ↔ Contains other i) → ranked_of by_rank by_place some ≡ ranked_of by_rank by_place other)
     → (some other : List Item) → AreNamed (rows_of some) → ((i : Item) → Contains some i ↔ Contains other i) → merged_items some ≡ merged_items other
 merged_set of_navs of_rows some other named s =
-    λ i. interleaved (of_navs (navs_of some) (navs_of other) (told_items (Contains (navs_of some))) (same_navs some other s) i) (of_rows (rows_of some) (rows_of other) (told_rows (rows_of some) named) (same_rows some other s) i)
+    λ i. interleaved is_before (of_navs (navs_of some) (navs_of other) (told_items (Contains (navs_of some))) (same_navs some other s) i) (of_rows (rows_of some) (rows_of other) (told_rows (rows_of some) named) (same_rows some other s) i)
 
 -- ---- of a file
 

@@ -1,5 +1,5 @@
 -- Merged items: which comes next, how many there are, and what an item more adds.
-use Rattle.std.proofs.Common.{◌≡◌, ℕ, ◌+◌, ◌≤◌, Bool, true, false, cond, List, [], ◌∷◌, ◌++◌, length, map, refl, sym, ap, subst, ◌∙◌, inl, inr, arith, append_assoc, append-nil, length-append}
+use Rattle.std.proofs.Common.{◌≡◌, ℕ, ◌+◌, ◌≤◌, Bool, true, false, cond, List, [], ◌∷◌, ◌++◌, length, map, refl, sym, ap, subst, ◌∙◌, inl, inr, ◌⊎◌, arith, append_assoc, append-nil, length-append}
 use Rattle.std.specs.Prelude.{OnOk, Option, None, Some, Result, Ok, Err}
 use Rattle.std.specs.Borrow.{Bor}
 use Rattle.std.specs.Iterator.{YieldsFirstRef}
@@ -12,24 +12,30 @@ use Rattle.nav_rows.specs.Order.{KindRow, by_place, by_rank}
 use Rattle.outlets.specs.declared.target.Target.{Target}
 use Rattle.ranked_list.specs.Ranks.{first_of, ranked_of, with_value}
 use Rattle.system_streams.specs.Readings.{Item}
-use Rattle.system_files.specs.MergeMirrors.{IsNext, held}
-use Rattle.system_files.specs.Merging.{behind_rows, interleaved, is_before, item_of, items_of, merge_counts, merged_items, navs_of, rows_of}
+use Rattle.system_files.specs.MergeMirrors.{held}
+use Rattle.system_files.specs.Merging.{behind, interleaved, is_before, item_of, items_of, merge_counts, merged_items, navs_of, rows_of}
 use Rattle.system_files.specs.Files.{counts_of}
 use Rattle.system_files.specs.NavOrder.{by_numbers, by_sent}
 use Rattle.system_files.specs.Readings.{LineRead, Reading, readings}
 use Rattle.system_files.specs.declared.counts.SystemCounts.{SystemCounts}
-use Rattle.system_files.specs.declared.next.Next.{Next}
-use Rattle.system_files.specs.declared.next.Next.TheVariants.{Nav, Further}
 
 -- ---- the next one
 
+pub second_first : {A B : Type 0} (before : B → A → Bool) (a : A) (b : B) → before b a ≡ true → (xs : List A) (bs : List B)
+    → interleaved before (a ∷ xs) (b ∷ bs) ≡ inr b ∷ interleaved before (a ∷ xs) bs
+second_first before a b h xs bs = ap (λ t. cond t (inr b ∷ behind before a (interleaved before xs) bs) (inl a ∷ interleaved before xs (b ∷ bs))) h
+
+pub first_first : {A B : Type 0} (before : B → A → Bool) (a : A) (b : B) → before b a ≡ false → (xs : List A) (bs : List B)
+    → interleaved before (a ∷ xs) (b ∷ bs) ≡ inl a ∷ interleaved before xs (b ∷ bs)
+first_first before a b h xs bs = ap (λ t. cond t (inr b ∷ behind before a (interleaved before xs) bs) (inl a ∷ interleaved before xs (b ∷ bs))) h
+
 pub row_first : (item : NavItem) (x : KindRow) → is_before x item ≡ true → (is : List NavItem) (xs : List KindRow)
-    → interleaved (item ∷ is) (x ∷ xs) ≡ inr x ∷ interleaved (item ∷ is) xs
-row_first item x h is xs = ap (λ b. cond b (inr x ∷ behind_rows item (interleaved is) xs) (inl item ∷ interleaved is (x ∷ xs))) h
+    → interleaved is_before (item ∷ is) (x ∷ xs) ≡ inr x ∷ interleaved is_before (item ∷ is) xs
+row_first = second_first is_before
 
 pub item_first : (item : NavItem) (x : KindRow) → is_before x item ≡ false → (is : List NavItem) (xs : List KindRow)
-    → interleaved (item ∷ is) (x ∷ xs) ≡ inl item ∷ interleaved is (x ∷ xs)
-item_first item x h is xs = ap (λ b. cond b (inr x ∷ behind_rows item (interleaved is) xs) (inl item ∷ interleaved is (x ∷ xs))) h
+    → interleaved is_before (item ∷ is) (x ∷ xs) ≡ inl item ∷ interleaved is_before is (x ∷ xs)
+item_first = first_first is_before
 
 -- what an iterator gave, with what is left, is what was left before
 pub held_is : {X : Type 0} (old new : List X) (r : Option (Bor X)) → YieldsFirstRef (λ s. s) old r new → held r new ≡ old
@@ -38,23 +44,23 @@ held_is old new (Some x) h = sym h
 
 -- ---- how many
 
-rows_length : (xs : List KindRow) → length {A = Item} (map inr xs) ≡ length xs
-rows_length [] = refl
-rows_length (x ∷ xs) = omega (arith, rows_length xs)
+seconds_length : (A : Type 0) {B : Type 0} (bs : List B) → length {A = A ⊎ B} (map inr bs) ≡ length bs
+seconds_length A [] = refl
+seconds_length A (b ∷ bs) = omega (arith, seconds_length A bs)
 
-behind_length : (item : NavItem) (is : List NavItem) (xs : List KindRow) → ((ys : List KindRow) → length (interleaved is ys) ≡ length is + length ys)
-    → length (behind_rows item (interleaved is) xs) ≡ length is + 1 + length xs
-behind_length item is [] h = omega (arith, h [])
-behind_length item is (x ∷ xs) h = at (is_before x item) (behind_length item is xs h)
+behind_length : {A B : Type 0} (before : B → A → Bool) (a : A) (xs : List A) (bs : List B) → ((cs : List B) → length (interleaved before xs cs) ≡ length xs + length cs)
+    → length (behind before a (interleaved before xs) bs) ≡ length xs + 1 + length bs
+behind_length before a xs [] h = omega (arith, h [])
+behind_length before a xs (b ∷ bs) h = at (before b a) (behind_length before a xs bs h)
   where
-    at : (b : Bool) → length (behind_rows item (interleaved is) xs) ≡ length is + 1 + length xs
-        → length (cond b (inr x ∷ behind_rows item (interleaved is) xs) (inl item ∷ interleaved is (x ∷ xs))) ≡ length is + 1 + length (x ∷ xs)
+    at : (t : Bool) → length (behind before a (interleaved before xs) bs) ≡ length xs + 1 + length bs
+        → length (cond t (inr b ∷ behind before a (interleaved before xs) bs) (inl a ∷ interleaved before xs (b ∷ bs))) ≡ length xs + 1 + length (b ∷ bs)
     at true k = omega (arith, k)
-    at false k = omega (arith, h (x ∷ xs))
+    at false k = omega (arith, h (b ∷ bs))
 
-pub interleaved_length : (is : List NavItem) (xs : List KindRow) → length (interleaved is xs) ≡ length is + length xs
-interleaved_length [] xs = let e : length xs ≡ 0 + length xs = omega arith in rows_length xs ∙ e
-interleaved_length (item ∷ is) xs = omega (arith, behind_length item is xs (interleaved_length is))
+pub interleaved_length : {A B : Type 0} (before : B → A → Bool) (xs : List A) (bs : List B) → length (interleaved before xs bs) ≡ length xs + length bs
+interleaved_length {A} before [] bs = let e : length bs ≡ 0 + length bs = omega arith in seconds_length A bs ∙ e
+interleaved_length before (a ∷ xs) bs = omega (arith, behind_length before a xs bs (interleaved_length before xs))
 
 with_length : {X : Type 0} (by choice : X → X → Ordering) (xs : List X) (x : X) → length (with_value by choice xs x) ≤ length xs + 1
 with_length by choice [] x = omega arith
@@ -114,36 +120,9 @@ same_navs items more e = navs_append items more ∙ ap (λ (l : List NavItem). n
 pub same_rows : (items more : List Item) → rows_of more ≡ [] → rows_of (items ++ more) ≡ rows_of items
 same_rows items more e = rows_append items more ∙ ap (λ (l : List KindRow). rows_of items ++ l) e ∙ append-nil (rows_of items)
 
--- the next one is an item, or a row
-pub nav_next : (item : Option (Bor NavItem)) (x : Option (Bor KindRow)) (r : Option Next) (n : Next) (i : Bor NavItem) (j : NavItem) → IsNext item x r → r ≡ Some n → n ≡ Nav i → j ≡ i.now
-    → (is : List NavItem) (xs : List KindRow) → interleaved (held item is) (held x xs) ≡ inl j ∷ interleaved is (held x xs)
-nav_next item x r n i j h e f g is xs =
-    subst (IsNext item x) (e ∙ ap Some f) h is xs ∙ ap (λ (y : NavItem). inl y ∷ interleaved is (held x xs)) (sym g)
-
-pub row_next : (item : Option (Bor NavItem)) (x : Option (Bor KindRow)) (r : Option Next) (n : Next) (y : Bor KindRow) → IsNext item x r → r ≡ Some n → n ≡ Further y
-    → (is : List NavItem) (xs : List KindRow) → interleaved (held item is) (held x xs) ≡ inr y.now ∷ interleaved (held item is) xs
-row_next item x r n y h e f = subst (IsNext item x) (e ∙ ap Some f) h
-
-pub none_next : (item : Option (Bor NavItem)) (x : Option (Bor KindRow)) (r : Option Next) → IsNext item x r → r ≡ None
-    → (is : List NavItem) (xs : List KindRow) → interleaved (held item is) (held x xs) ≡ []
-none_next item x r h e = subst (IsNext item x) e h
-
--- what is left once the next one is taken
-pub nav_left : (item : Option (Bor NavItem)) (x : Option (Bor KindRow)) (r : Option Next) (n : Next) (i : Bor NavItem) (j : NavItem) (old new : List NavItem) (xs : List KindRow)
-    (next : Option (Bor NavItem)) → IsNext item x r → r ≡ Some n → n ≡ Nav i → j ≡ i.now → YieldsFirstRef (λ s. s) old next new
-    → interleaved (held item old) (held x xs) ≡ inl j ∷ interleaved (held next new) (held x xs)
-nav_left item x r n i j old new xs next h e f g s =
-    nav_next item x r n i j h e f g old xs ∙ ap (λ (l : List NavItem). inl j ∷ interleaved l (held x xs)) (sym (held_is old new next s))
-
-pub row_left : (item : Option (Bor NavItem)) (x : Option (Bor KindRow)) (r : Option Next) (n : Next) (y : Bor KindRow) (is : List NavItem) (old new : List KindRow) (next : Option (Bor KindRow))
-    → IsNext item x r → r ≡ Some n → n ≡ Further y → YieldsFirstRef (λ s. s) old next new
-    → interleaved (held item is) (held x old) ≡ inr y.now ∷ interleaved (held item is) (held next new)
-row_left item x r n y is old new next h e f s =
-    row_next item x r n y h e f is old ∙ ap (λ (l : List KindRow). inr y.now ∷ interleaved (held item is) l) (sym (held_is old new next s))
-
 -- ---- the merged lists with the item of a record more
 
-on_ok : {T E P Q : Type 0} (r : Result T E) → (P → Q) → OnOk r P → OnOk r Q
+pub on_ok : {T E P Q : Type 0} (r : Result T E) → (P → Q) → OnOk r P → OnOk r Q
 on_ok (Ok x) f h = f h
 on_ok (Err x) f h = tt
 
@@ -161,7 +140,7 @@ given_row r row x old new e =
     on_ok r (λ h items k.
     h (rows_of items) k ∙ ap (ranked_of by_rank by_place) (sym (rows_append items (inr row ∷ []))) ∙ ap (λ y. ranked_of by_rank by_place (rows_of (items ++ item_of y))) (sym e))
 
-all_ok : {T E P : Type 0} (r : Result T E) → P → OnOk r P
+pub all_ok : {T E P : Type 0} (r : Result T E) → P → OnOk r P
 all_ok (Ok x) p = p
 all_ok (Err x) p = tt
 
@@ -186,7 +165,7 @@ kept_is reads a b n k e f g h =
     let few = kept_length reads in
     let all = readings_length reads in
     h (omega (arith, e, f, g, few, all)) ∙ (λ i. e i + f i)
-    ∙ sym (interleaved_length (ranked_of by_numbers by_sent (navs_of (items_of reads))) (ranked_of by_rank by_place (rows_of (items_of reads))))
+    ∙ sym (interleaved_length is_before (ranked_of by_numbers by_sent (navs_of (items_of reads))) (ranked_of by_rank by_place (rows_of (items_of reads))))
 
 pub counts_are : (to : Target) (reads : List LineRead) (c : SystemCounts) (kept : ℕ) → c ≡ counts_of to reads → kept ≡ length (merged_items (items_of reads))
     → record { records = c.records; refused = c.refused; passed = c.passed; carried = c.carried; items = c.items; kept = kept; unwritten = c.unwritten; times = c.times } ≡ merge_counts to reads

@@ -1,11 +1,12 @@
 -- Items written one after another.
 use Rattle.std.proofs.Common.{◌≡◌, ℕ, List, [], ◌∷◌, ◌++◌, sym, ap, subst, ◌∙◌, append_assoc, append-nil}
-use Rattle.std.specs.Prelude.{Option, Result}
+use Rattle.std.specs.Prelude.{Option, Result, Ok, Err}
 use Rattle.std.specs.List.{flat_map}
 use Rattle.std.specs.Io.KnownBytes.{Appends}
 use Rattle.std.proofs.KnownBytes.{Appends-nil, Appends-trans}
 use Rattle.nav_io.specs.Causes.{HasCause}
 use Rattle.nav_io.specs.Prefix.{AppendsPrefix, IsPrefix}
+use Rattle.nav_io.specs.Writes.{Writes}
 use Rattle.one_run.proofs.Surface.{prefix_behind, prefix_same}
 use Rattle.one_run.specs.Runs.{AppendsBetween}
 use Rattle.system_files.specs.MergeMirrors.{WroteSome}
@@ -36,3 +37,20 @@ cause_behind before now after r is cause = subst (λ n. HasCause n after r) is c
 -- all of a longer text
 pub between_all : (start w : Option (List ℕ)) (some text : List ℕ) → IsPrefix some text → Appends start w text → AppendsBetween start w some text
 between_all start w some text prefix whole = record { prefix = text; within = prefix_same text; no_less = prefix; grew = whole }
+
+-- a text written behind one that was written whole
+pub writes_behind : {T E : Type 0} (w w1 w2 : Option (List ℕ)) (f f1 f2 : ℕ) (r : Result T E) (text more : List ℕ) → Appends w w1 text → f1 ≡ f → Writes w1 w2 f1 f2 r more
+    → Writes w w2 f f2 r (text ++ more)
+writes_behind w w1 w2 f f1 f2 (Ok x) text more first same h = record {
+  bytes = Appends-trans w w1 w2 text more first h.bytes;
+  cause = cause_behind f f1 f2 (Ok x) same h.cause;
+}
+writes_behind w w1 w2 f f1 f2 (Err x) text more first same h = record {
+  bytes = prefix_behind w w1 w2 text more first h.bytes;
+  cause = cause_behind f f1 f2 (Err x) same h.cause;
+}
+
+-- a part of a text is a part of a longer one
+pub prefix_part : (w w1 : Option (List ℕ)) (text more : List ℕ) → AppendsPrefix w w1 text → AppendsPrefix w w1 (text ++ more)
+prefix_part w w1 text more (prefix, (rest, is), grew) =
+    (prefix, (rest ++ more, ap (λ l. l ++ more) is ∙ append_assoc prefix rest more), grew)

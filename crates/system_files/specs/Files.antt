@@ -1,5 +1,5 @@
 -- What a run over a navigation file of all systems writes and counts.
-use Rattle.std.specs.Prelude.{ℕ, false, not, Bool, true, List, [], ◌∷◌, ◌++◌, codes, length, map, sum, if◌then◌else◌, Option, None, Ok, Err}
+use Rattle.std.specs.Prelude.{ℕ, not, Bool, true, false, List, [], ◌∷◌, ◌++◌, codes, length, map, sum, if◌then◌else◌, Option, None, Ok, Err}
 use Rattle.std.proofs.Common.{inl, inr, ◌⊎◌}
 use Rattle.carried_records.specs.CarriedLines.{record_text}
 use Rattle.std.specs.List.{flat_map}
@@ -109,31 +109,25 @@ carried_text Rtcm lines = []
 carried_text ToList lines = []
 carried_text Count lines = []
 
--- the text of a record at this line
+-- the text of the item of a record at this line
 abbrev pub reading_text : Target → ℕ → Reading → List ℕ
 reading_text to line (Ok item) = text_of to (line, item)
-reading_text to line (Err (carried lines)) = carried_text to lines
-reading_text to line (Err (refused reason)) = []
-reading_text to line (Err passed) = []
+reading_text to line (Err fault) = []
 
--- an item, or a carried record, with the number of its first line
-abbrev pub Entry : Type 0
-Entry = Numbered ⊎ List (List ℕ)
+-- the lines of a record, if it is carried
+abbrev pub carried_lines : Reading → List (List (List ℕ))
+carried_lines (Ok item) = []
+carried_lines (Err (carried lines)) = lines ∷ []
+carried_lines (Err (refused reason)) = []
+carried_lines (Err passed) = []
 
-abbrev pub entry : ℕ → Reading → List Entry
-entry line (Ok item) = inl (line, item) ∷ []
-entry line (Err (carried lines)) = inr lines ∷ []
-entry line (Err (refused reason)) = []
-entry line (Err passed) = []
+-- the lines of the carried records, in order, and their text
+abbrev pub carried_in : List LineRead → List (List (List ℕ))
+carried_in [] = []
+carried_in (read ∷ reads) = carried_lines read.reading ++ carried_in reads
 
--- the items and carried records, in order
-abbrev pub entries_in : List LineRead → List Entry
-entries_in [] = []
-entries_in (read ∷ reads) = entry read.line read.reading ++ entries_in reads
-
-abbrev pub entry_text : Target → Entry → List ℕ
-entry_text to (inl item) = text_of to item
-entry_text to (inr lines) = carried_text to lines
+abbrev pub carried_by : Target → List LineRead → List ℕ
+carried_by to reads = flat_map (carried_text to) (carried_in reads)
 
 -- what is written and what is reported of a record
 abbrev pub read_text : Target → LineRead → List ℕ
@@ -178,12 +172,12 @@ counts_text c =
 
 -- ---- the run
 
--- what is written of records, and of all records
+-- what is written of records while they are read, and of all records: the carried ones behind all items
 abbrev pub text_by : Target → List LineRead → List ℕ
 text_by to reads = prefix_text to ++ flat_map (read_text to) reads
 
 abbrev pub whole_by : Target → List LineRead → List ℕ
-whole_by to reads = text_by to reads ++ back_text to (counts_text (counts_of to reads))
+whole_by to reads = text_by to reads ++ (carried_by to reads ++ back_text to (counts_text (counts_of to reads)))
 
 -- what is reported of records, and of all records
 abbrev pub told_by : List LineRead → List ℕ
@@ -194,4 +188,4 @@ reported_by to reads = told_by reads ++ counts_text (counts_of to reads)
 
 -- the meaning of the run
 abbrev pub files_meaning : Kinds → Version → Target → Meaning SystemCounts
-files_meaning ks v to = file_meaning (form_of ks v) false (text_by to) told_by (whole_by to) (reported_by to) (counts_of to)
+files_meaning ks v to = file_meaning (form_of ks v) true (text_by to) told_by (whole_by to) (reported_by to) (counts_of to)

@@ -3,6 +3,7 @@ pub mod Readings
 pub mod Files
 pub mod Mirrors
 pub mod NavOrder
+pub mod CarriedOrder
 pub mod Merging
 pub mod KeptRows
 pub mod MergeMirrors

@@ -4,13 +4,13 @@
 ghost use Rattle.std.specs.Prelude.{◌≡◌, ◌++◌, ℕ, List, IsOk};
 ghost use Rattle.std.specs.List.{flat_map};
 ghost use Rattle.nav_files.specs.Files.{convert_meaning};
-ghost use Rattle.outlets.specs.Targets.{prefix_text};
+ghost use Rattle.outlets.specs.Targets.{back_text, prefix_text};
 ghost use Rattle.outlets.specs.declared.target.Target.{Target};
 ghost use Rattle.rinex_read.specs.Files.{file_reads, list_by};
 ghost use Rattle.system_streams.specs.Streams.{navs, text_of};
 ghost use Rattle.system_streams.specs.declared.kinds.Kinds.{Kinds};
-ghost use Rattle.system_files.specs.Files.{entries_in, entry_text, file_items, nav_form, nav_items};
-ghost use Rattle.system_files.specs.Files.{text_by};
+ghost use Rattle.system_files.specs.Files.{carried_in, carried_text, counts_of, counts_text};
+ghost use Rattle.system_files.specs.Files.{file_items, items_in, nav_form, nav_items, whole_by};
 ghost use Rattle.system_files.specs.Readings.{LineRead};
 ghost use Rattle.system_files.specs.declared.version.Version.{Version};
 
@@ -26,8 +26,11 @@ pub fn a_file_has_the_same_items_of_gps_and_galileo()
         ≡ prefix_text to ++ flat_map (text_of to) (nav_items (file_items ks v bytes)) }
 {}
 
-/// What a run writes record by record is the text of the items and carried records.
+/// What a run writes of a file is the leading text, the text of the items, that of the carried
+/// records, both in the order of the records, and the text of the counts.
 pub fn what_is_written_of_a_file_is_the_text_of_its_items()
-    ensures { (to : Target) (reads : List LineRead)
-        → text_by to reads ≡ prefix_text to ++ flat_map (entry_text to) (entries_in reads) }
+    ensures { (to : Target) (reads : List LineRead) → whole_by to reads
+        ≡ (prefix_text to ++ flat_map (text_of to) (items_in reads))
+        ++ (flat_map (carried_text to) (carried_in reads)
+        ++ back_text to (counts_text (counts_of to reads))) }
 {}

@@ -4,8 +4,8 @@
 //! file, frames or list. Its GPS LNAV and Galileo I/NAV ephemerides, and the ionosphere parameters,
 //! are those of [`nav_files::run_rinex`] and [`nav_files::run_rinex3`], in the same order; the
 //! others come from the tables of [`nav_rows`]. Of other records of RINEX 4 the lines are
-//! carried, by [`carried_records`]; records of other kinds are skipped and counted.
-//! [`run_system_merge`] writes each once, in order of time.
+//! carried, by [`carried_records`], behind all ephemerides; further records are skipped and counted.
+//! [`run_system_merge`] writes each ephemeris and each carried record once, in order of time.
 //!
 //! ```rust
 //! use outlets::Target;
@@ -13,10 +13,11 @@
 //! use system_streams::Kinds;
 //!
 //! let kinds = Kinds::all();
-//! let counts = run_system_file(&kinds, Version::Four, &Target::ToList, &mut input, &mut output, &mut report)?;
+//! let counts = run_system_file(rt.alloc(), &kinds, Version::Four, &Target::ToList, &mut input, &mut output, &mut report)?;
 //! ```
 #![tactic(auto)]
 
+mod carried_key;
 mod counts;
 mod form;
 mod laws;
@@ -42,6 +43,7 @@ pub use crate::merge::run_system_merge;
 pub use crate::merge_counts::SystemMergeCounts;
 pub use crate::merge_laws::{
     a_merged_file_has_the_merge_of_gps_and_galileo, merging_of_all_systems,
+    merging_of_carried_records,
 };
 pub use crate::run::run_system_file;
 pub use crate::version::Version;

@@ -1,7 +1,7 @@
 //! The run that merges navigation files of all systems.
 
 ghost use Rattle.std.specs.Prelude.{◌≡◌, ◌+◌, ◌≤◌, ◌∷◌, ◌++◌, true, List, [], IfErr, OnErr, OnOk};
-ghost use Rattle.std.specs.Prelude.{if◌then◌else◌};
+ghost use Rattle.std.specs.Prelude.{if◌then◌else◌, length, map};
 ghost use Rattle.std.specs.List.{flat_map};
 ghost use Rattle.std.specs.Io.KnownBytes.{Appends};
 ghost use Rattle.nav_io.specs.Prefix.{AppendsPrefix};
@@ -16,14 +16,16 @@ ghost use Rattle.ranked_list.specs.Ranks.{ranked_of};
 ghost use Rattle.rinex_write.specs.Columns.{AreFields};
 ghost use Rattle.rinex_write.specs.declared.words.HeaderWords.{HeaderWords as HeaderWordsOf};
 ghost use Rattle.system_streams.specs.Readings.{Item};
-ghost use Rattle.system_files.specs.Files.{counts_of, is_unwritten, told_by};
-ghost use Rattle.system_files.specs.Merging.{item_of, items_of, merge_counts, merge_report};
+ghost use Rattle.system_files.specs.CarriedOrder.{CarriedRecord, by_text, kept_record};
+ghost use Rattle.system_files.specs.Files.{carried_lines, counts_of, is_unwritten, told_by};
+ghost use Rattle.system_files.specs.Merging.{carried_of, item_of, items_of, merge_counts, merge_report};
 ghost use Rattle.system_files.specs.Merging.{merge_text, navs_of, outlet_of, rows_of};
 ghost use Rattle.system_files.specs.Merging.{system_merge_meaning};
 ghost use Rattle.system_files.specs.NavOrder.{by_numbers, by_sent};
 ghost use Rattle.system_files.specs.Mirrors.{AreCounted, HasFields, view_given};
 ghost use Rattle.system_files.specs.Readings.{reading_report};
 
+use crate::carried_key::CarriedKey;
 use crate::counts::{SystemCounts, count_read};
 use crate::form::SystemForm;
 use crate::merge_counts::{SystemMergeCounts, merge_counts_text};
@@ -44,12 +46,13 @@ use rinex_write::HeaderWords;
 use std::alloc::{AllocError, Global};
 use system_streams::Kinds;
 
-// The state of a merge: both merged lists so far, and the counts of the records.
+// The state of a merge: the merged lists so far, and the counts of the records.
 #[derive(Drop)]
 struct SystemsMerged {
     alloc: Global,
     navs: RankedList<NavKey>,
     rows: RankedList<RowKey>,
+    records: RankedList<CarriedKey>,
     counts: SystemCounts,
 }
 
@@ -139,6 +142,48 @@ fn merge_row(
     }
 }
 
+// Adds a carried record of these lines.
+fn merge_lines(
+    alloc: Global,
+    lines: &[[u8; 80]],
+    records: &mut RankedList<CarriedKey>,
+) -> Result<(), BridgeFault>
+    requires { length lines.now ≤ 12 }
+    ensures kept { OnOk result ((xs : List CarriedRecord) → records.old ≡ ranked_of by_text by_text xs
+        → records.new ≡ ranked_of by_text by_text (xs ++ kept_record lines.now ∷ [])) }
+    ensures fault { IfErr result (λ fault. fault ≡ BridgeFault.NoMemory) }
+{
+    ranking::<CarriedKey>();
+    let Ok(key) = CarriedKey::new(alloc, lines) else {
+        return Err(BridgeFault::NoMemory);
+    };
+    match records.add(key) {
+        Ok(()) => Ok(()),
+        Err(AllocError) => Err(BridgeFault::NoMemory),
+    }
+}
+
+// Adds a record, if it is carried.
+fn merge_carried(
+    alloc: Global,
+    given: &Given,
+    records: &mut RankedList<CarriedKey>,
+) -> Result<(), BridgeFault>
+    requires { HasFields given.now }
+    ensures kept { OnOk result ((xs : List CarriedRecord) → records.old ≡ ranked_of by_text by_text xs
+        → records.new ≡ ranked_of by_text by_text
+        (xs ++ map kept_record (carried_lines (view_given given.now)))) }
+    ensures fault { IfErr result (λ fault. fault ≡ BridgeFault.NoMemory) }
+{
+    match given {
+        Given::Carried(lines) => merge_lines(alloc, lines.as_slice(), records),
+        Given::Nav(_) => Ok(()),
+        Given::Further(_, _) => Ok(()),
+        Given::Refused(_) => Ok(()),
+        Given::Passed => Ok(()),
+    }
+}
+
 // Adds the item of a record, if it has one.
 fn merge_given(
     alloc: Global,
@@ -210,7 +255,8 @@ impl Taker<RecordRead> for SystemsMerging {
 
     ghost holds = { λ m s reads. (s.counts ≡ counts_of (outlet_of m.to m.words) reads)
         × AreCounted s.counts × (s.navs ≡ ranked_of by_numbers by_sent (navs_of (items_of reads)))
-        × (s.rows ≡ ranked_of by_rank by_place (rows_of (items_of reads))) };
+        × (s.rows ≡ ranked_of by_rank by_place (rows_of (items_of reads)))
+        × (s.records ≡ ranked_of by_text by_text (carried_of reads)) };
 
     fn begins(&self) {}
 
@@ -228,6 +274,7 @@ impl Taker<RecordRead> for SystemsMerging {
         let given = read.given();
         report_given(read.line(), given, report)?;
         merge_given(state.alloc, given, &mut state.navs, &mut state.rows)?;
+        merge_carried(state.alloc, given, &mut state.records)?;
         count_read(given, is_written(self.to, given), &mut state.counts);
         Ok(())
     }
@@ -248,7 +295,7 @@ impl Taker<RecordRead> for SystemsMerging {
 
     fn finish<T: Sink>(&self, state: &mut SystemsMerged, output: &mut T) -> Result<(), Failed> {
         let to = outlet_of(self.to, self.words);
-        write_merged(&to, &state.navs, &state.rows, output)
+        write_merged(&to, &state.navs, &state.rows, &state.records, output)
     }
 
     fn counts_text(&self, counts: &SystemMergeCounts) -> Text {
@@ -257,12 +304,13 @@ impl Taker<RecordRead> for SystemsMerging {
 }
 
 /// Reads navigation files of a version, concatenated, to their end, and writes one file with the
-/// merged list of their items of all systems.
+/// merged list of their items of all systems and of the carried records.
 ///
 /// The header is checked first, and that of the merged file is written. A rejected record gives a
 /// line of the report, with the number of its first line. At the end of the input the items are
-/// written in order of time, of duplicates the one with the earliest transmission time, and the
-/// counts are reported.
+/// written in order of time, of duplicates the one with the earliest transmission time. So are, in
+/// RINEX 4, the records of other kinds that are carried as [`run_system_file`](crate::run_system_file())
+/// has them, each once. Then the counts are reported.
 ///
 /// # Errors
 ///
@@ -285,6 +333,7 @@ pub fn run_system_merge<S: Source, T: Sink, U: Sink>(
         alloc,
         navs: RankedList::new(alloc),
         rows: RankedList::new(alloc),
+        records: RankedList::new(alloc),
         counts: SystemCounts::new(),
     };
     let form = SystemForm {

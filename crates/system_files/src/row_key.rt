@@ -132,6 +132,13 @@ impl RowKey {
         })
     }
 
+    // What comes first in its rank.
+    pub(crate) fn front(&self) -> &[i64; 5]
+        ensures { result.now ≡ front_of self.now.kind self.now.row }
+    {
+        &self.front
+    }
+
     // It comes before an item of GPS or Galileo.
     pub(crate) fn is_before(&self, other: &NavKey) -> bool
         ensures { result ≡ is_before self.now other.now }

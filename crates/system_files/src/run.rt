@@ -1,28 +1,29 @@
 //! The run over a navigation file of all systems.
 
-ghost use Rattle.std.specs.Prelude.{◌≡◌, ◌⊎◌, IfErr, IfOk, OnErr, OnOk, false, if◌then◌else◌};
+ghost use Rattle.std.specs.Prelude.{◌≡◌, ◌⊎◌, IfErr, IfOk, OnErr, OnOk, true, if◌then◌else◌};
 ghost use Rattle.std.specs.Io.KnownBytes.{Appends};
 ghost use Rattle.nav_io.specs.Prefix.{AppendsPrefix};
 ghost use Rattle.one_run.specs.Causes.{HasItsCause, faults_of};
 ghost use Rattle.one_run.specs.Runs.{Ran};
-ghost use Rattle.system_files.specs.Files.{counts_of, files_meaning, is_unwritten, reading_text};
-ghost use Rattle.system_files.specs.Files.{reported_by, text_by, told_by, whole_by};
+ghost use Rattle.system_files.specs.Files.{carried_by, counts_of, files_meaning, is_unwritten};
+ghost use Rattle.system_files.specs.Files.{reading_text, reported_by, text_by, told_by, whole_by};
 ghost use Rattle.system_files.specs.Mirrors.{AreCounted, HasFields, view_given};
 ghost use Rattle.system_files.specs.Readings.{reading_report};
 
 use crate::counts::{SystemCounts, count_read, counts_text};
 use crate::form::SystemForm;
 use crate::read::{Given, RecordRead};
-use crate::text::{has_text, write_carried, write_row};
+use crate::text::{has_carried, has_text, keep_given, write_behind, write_row};
 use crate::version::Version;
 use nav_files::{Taker, reason_word, run_file};
 use nav_io::{Failed, Sink, Source};
 use one_run::{BridgeFault, Text, report_text};
 use outlets::Target;
+use std::alloc::Global;
 use system_streams::Kinds;
 
-// Writes the item or the carried lines of a record, or reports why there is none; whether these
-// have a text.
+// Writes the item of a record, or reports why it is rejected; whether an item or carried lines have
+// a text.
 fn tell_read<T: Sink, U: Sink>(
     to: &Target,
     line: u32,
@@ -62,22 +63,27 @@ fn tell_read<T: Sink, U: Sink>(
                 Err(Failed) => Err(BridgeFault::ReportFault),
             }
         }
-        Given::Carried(lines) => match write_carried(to, lines.as_slice(), output) {
-            Ok(has) => Ok(has),
-            Err(Failed) => Err(BridgeFault::WriteFault),
-        },
+        Given::Carried(_) => Ok(has_carried(to)),
         Given::Passed => Ok(true),
     }
 }
 
-// The conversion that writes each item as soon as its record was read.
+// The state of a conversion: the counts, and the text of the carried records.
+#[derive(Drop)]
+struct SystemsWritten {
+    counts: SystemCounts,
+    behind: Vec<u8>,
+}
+
+// The conversion that writes each item as soon as its record was read, and the carried records
+// behind them.
 #[derive(Drop)]
 struct Systems {
     to: Target,
 }
 
 impl Taker<RecordRead> for Systems {
-    type State = SystemCounts;
+    type State = SystemsWritten;
 
     type Counts = SystemCounts;
 
@@ -93,9 +99,10 @@ impl Taker<RecordRead> for Systems {
 
     ghost count = { λ s reads. counts_of s.to reads };
 
-    ghost memory = { false };
+    ghost memory = { true };
 
-    ghost holds = { λ s counts reads. (counts ≡ counts_of s.to reads) × AreCounted counts };
+    ghost holds = { λ s state reads. (state.counts ≡ counts_of s.to reads)
+        × AreCounted state.counts × (state.behind.items ≡ carried_by s.to reads) };
 
     fn begins(&self) {}
 
@@ -105,23 +112,25 @@ impl Taker<RecordRead> for Systems {
 
     fn take<T: Sink, U: Sink>(
         &self,
-        state: &mut SystemCounts,
+        state: &mut SystemsWritten,
         read: &RecordRead,
         output: &mut T,
         report: &mut U,
     ) -> Result<(), BridgeFault> {
         let given = read.given();
         let written = tell_read(&self.to, read.line(), given, output, report)?;
-        count_read(given, written, state);
+        keep_given(&self.to, given, &mut state.behind)?;
+        count_read(given, written, &mut state.counts);
         Ok(())
     }
 
-    fn counts(&self, state: &SystemCounts) -> SystemCounts {
-        *state
+    fn counts(&self, state: &SystemsWritten) -> SystemCounts {
+        state.counts
     }
 
-    fn finish<T: Sink>(&self, state: &mut SystemCounts, output: &mut T) -> Result<(), Failed> {
-        self.to.end(counts_text(state).as_slice(), output)
+    fn finish<T: Sink>(&self, state: &mut SystemsWritten, output: &mut T) -> Result<(), Failed> {
+        let counts = counts_text(&state.counts);
+        write_behind(&self.to, state.behind.as_slice(), counts.as_slice(), output)
     }
 
     fn counts_text(&self, counts: &SystemCounts) -> Text {
@@ -135,13 +144,16 @@ impl Taker<RecordRead> for Systems {
 /// The header is checked first. Then the leading text is written, and after each record the text of
 /// its item, repeats included. A rejected record gives a line of the report, with the number of its
 /// first line, and the report ends with the counts. Of a record of RINEX 4 of another kind the lines
-/// are carried, if there are at most 12; further records of kinds that are not read are counted. So
-/// are items and carried records that have no text in the output format.
+/// are carried, if there are at most 12: they are written behind all items, in the order of the
+/// records. Further records of kinds that are not read are counted. So are items and carried records
+/// that have no text in the output format.
 ///
 /// # Errors
 ///
-/// As those of [`nav_files::run_rinex`]. It allocates no memory.
+/// As those of [`nav_files::run_rinex`], and `NoMemory`: the text of carried records is held until
+/// the input ends. Without such records no memory is allocated.
 pub fn run_system_file<S: Source, T: Sink, U: Sink>(
+    alloc: Global,
     kinds: &Kinds,
     version: Version,
     to: &Target,
@@ -153,18 +165,16 @@ pub fn run_system_file<S: Source, T: Sink, U: Sink>(
         S.left S.never_fails S.faults T.written T.faults U.written U.faults
         input.old input.new output.old output.new report.old report.new result }
 {
-    let mut counts = SystemCounts::new();
+    let mut state = SystemsWritten {
+        counts: SystemCounts::new(),
+        behind: Vec::new(alloc),
+    };
     let form = SystemForm {
         kinds: *kinds,
         version,
     };
     let systems = Systems { to: *to };
     run_file::<RecordRead, SystemForm, Systems, S, T, U>(
-        &form,
-        &systems,
-        &mut counts,
-        input,
-        output,
-        report,
+        &form, &systems, &mut state, input, output, report,
     )
 }

@@ -81,7 +81,7 @@ fn is_fnav(lines: &[[u8; 80]]) -> bool
 }
 
 // A decimal digit; 0 for another character.
-fn digit(c: u8) -> u64
+pub(crate) fn digit(c: u8) -> u64
     ensures { result ≡ digit c }
 {
     if is_decimal(c) {

@@ -1,4 +1,4 @@
-use Rattle.std.proofs.Common.{[], ◌∷◌, ◌++◌, List, ℕ, ap, subst, sym, ◌∙◌}
+use Rattle.std.proofs.Common.{[], ◌∷◌, ◌++◌, List, ℕ, map, ap, subst, sym, ◌∙◌}
 use Rattle.std.proofs.lemmas.Result.{err_from_is_err_and}
 use Rattle.std.specs.Io.KnownBytes.{Appends}
 use Rattle.nav_io.specs.Prefix.{AppendsPrefix}
@@ -7,10 +7,12 @@ use Rattle.ranked_list.specs.Ranks.{ranked_of}
 use Rattle.one_run.proofs.Surface.{between_whole}
 use Rattle.nav_files.proofs.Surface.{grew_between, grew_more, texts_prefix}
 use Rattle.system_streams.specs.Readings.{Item}
-use Rattle.system_files.specs.Files.{is_unwritten, read_report}
-use Rattle.system_files.specs.Merging.{item_of, items_of, navs_of, outlet_of, rows_of}
+use Rattle.system_files.specs.CarriedOrder.{by_text, kept_record}
+use Rattle.system_files.specs.Files.{carried_lines, is_unwritten, read_report}
+use Rattle.system_files.specs.Merging.{carried_of, item_of, items_of, navs_of, outlet_of, rows_of}
 use Rattle.system_files.specs.Mirrors.{counted}
 use Rattle.system_files.specs.NavOrder.{by_numbers, by_sent}
+use Rattle.system_files.proofs.CarriedLaws.{records_more}
 use Rattle.system_files.proofs.Merges.{items_more}
 use Rattle.system_files.proofs.Records.{counts_more, same_report}
 use Rattle.system_files.proofs.Wrote.{between_all}
@@ -41,6 +43,19 @@ returns-in_err-merge_given-clause-report g c =
     (subst (λ (l : List ℕ). Appends (g.U.Sink.written c.args.report.now) (g.U.Sink.written c.report_given.new.report) l)
     (same_report _ _ _ _ c.line.ensures c.given-given.ensures.same) c.in_ok-report_given.ensures.report)))
 
+pub returns-in_err-merge_carried-clause-output : goal.returns-in_err-merge_carried-clause-output
+returns-in_err-merge_carried-clause-output g c =
+    let p = err_from_is_err_and c.from_residual-in_err-merge_carried.result c.from_residual-in_err-merge_carried.ensures.1 in
+    rw p.1 (λ reads start held so_far. between_whole start _ _ so_far)
+
+pub returns-in_err-merge_carried-clause-report : goal.returns-in_err-merge_carried-clause-report
+returns-in_err-merge_carried-clause-report g c =
+    let p = err_from_is_err_and c.from_residual-in_err-merge_carried.result c.from_residual-in_err-merge_carried.ensures.1 in
+    rw p.1 (λ reads start held so_far. between_all start _ _ _ (texts_prefix read_report reads (c.args.read.now ∷ []))
+    (grew_more [] read_report reads c.args.read.now start _ _ so_far
+    (subst (λ (l : List ℕ). Appends (g.U.Sink.written c.args.report.now) (g.U.Sink.written c.report_given.new.report) l)
+    (same_report _ _ _ _ c.line.ensures c.given-given.ensures.same) c.in_ok-report_given.ensures.report)))
+
 pub returns-clause-report : goal.returns-clause-report
 returns-clause-report g c = λ reads start held so_far. grew_more [] read_report reads c.args.read.now start _ _ so_far
     (subst (λ (l : List ℕ). Appends (g.U.Sink.written c.args.report.now) (g.U.Sink.written c.report_given.new.report) l)
@@ -61,4 +76,7 @@ returns-clause-held g c =
       c.in_ok-merge_given.ensures.rows (items_of reads) held.3
           ∙ ap (λ x. ranked_of by_rank by_place (rows_of (items_of reads ++ item_of x))) c.given-given.ensures.same
           ∙ ap (λ (l : List Item). ranked_of by_rank by_place (rows_of l)) (sym (items_more reads c.args.read.now)),
+      c.in_ok-merge_carried.ensures.kept (carried_of reads) held.4
+          ∙ ap (λ x. ranked_of by_text by_text (carried_of reads ++ map kept_record (carried_lines x))) c.given-given.ensures.same
+          ∙ ap (ranked_of by_text by_text) (records_more reads c.args.read.now),
     )
