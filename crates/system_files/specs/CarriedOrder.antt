@@ -1,4 +1,4 @@
--- The order of carried records: by moment, type, system, satellite and message type, and then by their text.
+-- The order of carried records: by date, type, system, satellite and message type, and then by their text.
 use Rattle.std.specs.Prelude.{ℕ, ◌+◌, ◌*◌, ◌==◌, bytes_eq, if◌then◌else◌, List, [], ◌∷◌, codes, get_or, Result, Ok, Err, ℤ, pos, negsuc}
 use Rattle.std.specs.Cmp.Lexicographic.{slice_cmp}
 use Rattle.std.specs.Ordering.{int_cmp, nat_cmp, on, then_cmp}

@@ -13,7 +13,8 @@
 //! use system_streams::Kinds;
 //!
 //! let kinds = Kinds::all();
-//! let counts = run_system_file(rt.alloc(), &kinds, Version::Four, &Target::ToList, &mut input, &mut output, &mut report)?;
+//! let (version, to) = (Version::Four, Target::ToList);
+//! let counts = run_system_file(rt.alloc(), &kinds, version, &to, &mut input, &mut output, &mut report)?;
 //! ```
 #![tactic(auto)]
 

@@ -25,9 +25,10 @@ use crate::row_key::RowKey;
 use nav_lists::merging;
 use ranked_list::ranking;
 
-/// The merged list has the items of GPS and Galileo of their merged list, and each row once, each in
-/// the order of rank, no two of one rank. Items may be merged in several steps. The list depends on the set of the items alone, not on their
-/// order nor on repetition, if rows of one system and message type are of one kind.
+/// The merged list has the items of GPS and Galileo of their merged list, and each row once, in the
+/// order of rank, no two of one rank. Items may be merged in several steps. The list depends on the
+/// set of the items alone, not on their order nor on repetition, if rows of one system and message
+/// type are of one kind.
 pub fn merging_of_all_systems()
     ensures navs { (items : List Item) (item : NavItem) →
         Contains (navs_of (merged_items items)) item ↔ Contains (merged_of (navs_of items)) item }
