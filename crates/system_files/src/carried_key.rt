@@ -89,7 +89,8 @@ fn message_place(letter: u8) -> i64
 
 // The place of the type and the system of a title.
 fn place_in(title: &[u8; 80]) -> i64
-    ensures { result ≡ pos (type_place (columns 2 3 title.now) + letter_place (get_or title.now 6 32)) }
+    ensures { result
+        ≡ pos (type_place (columns 2 3 title.now) + letter_place (get_or title.now 6 32)) }
 {
     let place = type_place(columns(title, 2, 3)) + letter_place(title[6]);
     place as i64
@@ -177,7 +178,8 @@ impl CarriedKey {
 
     // Writes its text, if it has one in the output format.
     pub(crate) fn write<T: Sink>(&self, to: &Target, out: &mut T) -> Result<(), Failed>
-        ensures { Writes (T.written out.old) (T.written out.new) (T.faults out.old) (T.faults out.new)
+        ensures { Writes (T.written out.old) (T.written out.new)
+            (T.faults out.old) (T.faults out.new)
             result (record_part to.now self.now) }
     {
         match to {

@@ -15,8 +15,8 @@ ghost use Rattle.system_files.specs.Readings.{LineRead};
 ghost use Rattle.system_files.specs.declared.version.Version.{Version};
 
 /// Of any bytes, the items that [`nav_files::run_rinex`] and [`nav_files::run_rinex3`] write are
-/// those of GPS and Galileo I/NAV among the ones that [`crate::run_system_file`] writes, in the same
-/// order, each with the same number of its line; and so is their text.
+/// those of GPS and Galileo I/NAV among the ones that [`crate::run_system_file`] writes, in the
+/// same order, each with the same number of its line; and so is their text.
 pub fn a_file_has_the_same_items_of_gps_and_galileo()
     ensures items { (ks : Kinds) (v : Version) (bytes : List ℕ)
         → navs (file_items ks v bytes) ≡ list_by (nav_form v) bytes }

@@ -4,8 +4,9 @@
 //! file, frames or list. Its GPS LNAV and Galileo I/NAV ephemerides, and the ionosphere parameters,
 //! are those of [`nav_files::run_rinex`] and [`nav_files::run_rinex3`], in the same order; the
 //! others come from the tables of [`nav_rows`]. Of other records of RINEX 4 the lines are
-//! carried, by [`carried_records`], behind all ephemerides; further records are skipped and counted.
-//! [`run_system_merge`] writes each ephemeris and each carried record once, in order of time.
+//! carried, by [`carried_records`], behind all ephemerides; further records are skipped and
+//! counted. [`run_system_merge`] writes each ephemeris and each carried record once, in order of
+//! time.
 //!
 //! ```rust
 //! use outlets::Target;
@@ -14,7 +15,8 @@
 //!
 //! let kinds = Kinds::all();
 //! let (version, to) = (Version::Four, Target::ToList);
-//! let counts = run_system_file(rt.alloc(), &kinds, version, &to, &mut input, &mut output, &mut report)?;
+//! let (input, output, report) = (&mut input, &mut output, &mut report);
+//! let counts = run_system_file(rt.alloc(), &kinds, version, &to, input, output, report)?;
 //! ```
 #![tactic(auto)]
 

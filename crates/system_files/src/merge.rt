@@ -18,7 +18,8 @@ ghost use Rattle.rinex_write.specs.declared.words.HeaderWords.{HeaderWords as He
 ghost use Rattle.system_streams.specs.Readings.{Item};
 ghost use Rattle.system_files.specs.CarriedOrder.{CarriedRecord, by_text, kept_record};
 ghost use Rattle.system_files.specs.Files.{carried_lines, counts_of, is_unwritten, told_by};
-ghost use Rattle.system_files.specs.Merging.{carried_of, item_of, items_of, merge_counts, merge_report};
+ghost use Rattle.system_files.specs.Merging.{carried_of, item_of, items_of, merge_counts};
+ghost use Rattle.system_files.specs.Merging.{merge_report};
 ghost use Rattle.system_files.specs.Merging.{merge_text, navs_of, outlet_of, rows_of};
 ghost use Rattle.system_files.specs.Merging.{system_merge_meaning};
 ghost use Rattle.system_files.specs.NavOrder.{by_numbers, by_sent};
@@ -104,7 +105,8 @@ fn merge_nav(
     item: &NavItem,
     navs: &mut RankedList<NavKey>,
 ) -> Result<(), BridgeFault>
-    ensures kept { OnOk result ((items : List NavItem) → navs.old ≡ ranked_of by_numbers by_sent items
+    ensures kept { OnOk result ((items : List NavItem) →
+        navs.old ≡ ranked_of by_numbers by_sent items
         → navs.new ≡ ranked_of by_numbers by_sent (items ++ item.now ∷ [])) }
     ensures fault { IfErr result (λ fault. fault ≡ BridgeFault.NoMemory) }
 {
@@ -149,7 +151,8 @@ fn merge_lines(
     records: &mut RankedList<CarriedKey>,
 ) -> Result<(), BridgeFault>
     requires { length lines.now ≤ 12 }
-    ensures kept { OnOk result ((xs : List CarriedRecord) → records.old ≡ ranked_of by_text by_text xs
+    ensures kept { OnOk result ((xs : List CarriedRecord) →
+        records.old ≡ ranked_of by_text by_text xs
         → records.new ≡ ranked_of by_text by_text (xs ++ kept_record lines.now ∷ [])) }
     ensures fault { IfErr result (λ fault. fault ≡ BridgeFault.NoMemory) }
 {
@@ -170,7 +173,8 @@ fn merge_carried(
     records: &mut RankedList<CarriedKey>,
 ) -> Result<(), BridgeFault>
     requires { HasFields given.now }
-    ensures kept { OnOk result ((xs : List CarriedRecord) → records.old ≡ ranked_of by_text by_text xs
+    ensures kept { OnOk result ((xs : List CarriedRecord) →
+        records.old ≡ ranked_of by_text by_text xs
         → records.new ≡ ranked_of by_text by_text
         (xs ++ map kept_record (carried_lines (view_given given.now)))) }
     ensures fault { IfErr result (λ fault. fault ≡ BridgeFault.NoMemory) }
@@ -192,8 +196,10 @@ fn merge_given(
     rows: &mut RankedList<RowKey>,
 ) -> Result<(), BridgeFault>
     requires { HasFields given.now }
-    ensures navs { OnOk result ((items : List Item) → navs.old ≡ ranked_of by_numbers by_sent (navs_of items)
-        → navs.new ≡ ranked_of by_numbers by_sent (navs_of (items ++ item_of (view_given given.now)))) }
+    ensures navs { OnOk result ((items : List Item) →
+        navs.old ≡ ranked_of by_numbers by_sent (navs_of items)
+        → navs.new ≡ ranked_of by_numbers by_sent
+        (navs_of (items ++ item_of (view_given given.now)))) }
     ensures rows { OnOk result ((items : List Item)
         → rows.old ≡ ranked_of by_rank by_place (rows_of items)
         → rows.new ≡ ranked_of by_rank by_place
@@ -309,8 +315,8 @@ impl Taker<RecordRead> for SystemsMerging {
 /// The header is checked first, and that of the merged file is written. A rejected record gives a
 /// line of the report, with the number of its first line. At the end of the input the items are
 /// written in order of time, of duplicates the one with the earliest transmission time. So are, in
-/// RINEX 4, the records of other kinds that are carried as [`run_system_file`](crate::run_system_file())
-/// has them, each once. Then the counts are reported.
+/// RINEX 4, the records of other kinds that are carried as
+/// [`run_system_file`](crate::run_system_file()) has them, each once. Then the counts are reported.
 ///
 /// # Errors
 ///

@@ -86,7 +86,8 @@ fn compare(a: &NavKey, b: &NavKey) -> Ordering
 impl PartialEq for NavKey {
     ghost eq = { λ a b. is_eq (by_numbers a b) };
 
-    ghost laws = { partial_equiv_from_equiv (eq_by_cmp_equiv (on_total nav_rank (lists_total int_cmp_total))) };
+    ghost laws = { partial_equiv_from_equiv
+        (eq_by_cmp_equiv (on_total nav_rank (lists_total int_cmp_total))) };
 
     fn eq(&self, other: &NavKey) -> bool {
         compare(self, other).is_eq()

@@ -159,7 +159,8 @@ impl RecordRead {
 
     // What the lines of a record give that begins at this line.
     pub(crate) fn of(kinds: &Kinds, version: Version, line: u32, lines: &RecordLines) -> RecordRead
-        ensures { result ≡ record { line = line; reading = reading_in kinds.now version lines.now } }
+        ensures { result
+            ≡ record { line = line; reading = reading_in kinds.now version lines.now } }
     {
         RecordRead {
             line,

@@ -148,7 +148,8 @@ impl RowKey {
 
     // Writes its record.
     pub(crate) fn write<T: Sink>(&self, to: &Target, out: &mut T) -> Result<(), Failed>
-        ensures { Writes (T.written out.old) (T.written out.new) (T.faults out.old) (T.faults out.new)
+        ensures { Writes (T.written out.old) (T.written out.new)
+            (T.faults out.old) (T.faults out.new)
             result (row_text to.now 0 self.now) }
     {
         put_row(to, 0, &self.kept.kind, &self.kept.row, out)
@@ -158,7 +159,8 @@ impl RowKey {
 impl PartialEq for RowKey {
     ghost eq = { λ a b. is_eq (by_rank a b) };
 
-    ghost laws = { partial_equiv_from_equiv (eq_by_cmp_equiv (on_total rank_in_order (lists_total int_cmp_total))) };
+    ghost laws = { partial_equiv_from_equiv
+        (eq_by_cmp_equiv (on_total rank_in_order (lists_total int_cmp_total))) };
 
     fn eq(&self, other: &RowKey) -> bool {
         compare(self, other).is_eq()

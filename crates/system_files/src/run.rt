@@ -143,10 +143,10 @@ impl Taker<RecordRead> for Systems {
 ///
 /// The header is checked first. Then the leading text is written, and after each record the text of
 /// its item, repeats included. A rejected record gives a line of the report, with the number of its
-/// first line, and the report ends with the counts. Of a record of RINEX 4 of another kind the lines
-/// are carried, if there are at most 12: they are written behind all items, in the order of the
-/// records. Further records of kinds that are not read are counted. So are items and carried records
-/// that have no text in the output format.
+/// first line, and the report ends with the counts. Of a record of RINEX 4 of another kind
+/// the lines are carried, if there are at most 12: they are written behind all items, in the order
+/// of the records. Further records of kinds that are not read are counted. So are items and carried
+/// records that have no text in the output format.
 ///
 /// # Errors
 ///

@@ -87,7 +87,8 @@ pub(crate) fn has_carried(to: &Target) -> bool
 // Appends the text of the lines of a carried record, if they have one.
 fn keep_carried(to: &Target, lines: &[[u8; 80]], behind: &mut Vec<u8>) -> Result<(), BridgeFault>
     requires { length lines.now ≤ 12 }
-    ensures kept { OnOk result (IsBehind to.now (Err (carried lines.now)) behind.old.items behind.new.items) }
+    ensures kept { OnOk result (IsBehind to.now (Err (carried lines.now)) behind.old.items
+        behind.new.items) }
     ensures fault { IfErr result (λ fault. fault ≡ BridgeFault.NoMemory) }
 {
     match to {
@@ -106,7 +107,8 @@ pub(crate) fn keep_given(
     behind: &mut Vec<u8>,
 ) -> Result<(), BridgeFault>
     requires { HasFields given.now }
-    ensures kept { OnOk result (IsBehind to.now (view_given given.now) behind.old.items behind.new.items) }
+    ensures kept { OnOk result (IsBehind to.now (view_given given.now) behind.old.items
+        behind.new.items) }
     ensures fault { IfErr result (λ fault. fault ≡ BridgeFault.NoMemory) }
 {
     match given {
