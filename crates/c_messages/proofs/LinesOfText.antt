@@ -50,7 +50,7 @@ drop_next (suc k) [] line more e = absurd cc
 drop_next (suc k) (x ∷ all) line more e = drop_next k all line more e
 
 -- one more is kept
-pub next_kept : (all kept : List (List ℕ)) (k : ℕ) (line : List ℕ) (more : List (List ℕ)) → k < 9 → kept ≡ map padded (take k all) → drop k all ≡ line ∷ more
+pub next_kept : (all kept : List (List ℕ)) (k : ℕ) (line : List ℕ) (more : List (List ℕ)) → k < 18 → kept ≡ map padded (take k all) → drop k all ≡ line ∷ more
     → kept_with kept line ≡ map padded (take (k + 1) all)
 next_kept all kept k line more few is e =
     let short : nat_lt (length (map padded (take k all))) 18 ≡ true =
@@ -68,10 +68,10 @@ next_rest all k line more e =
     sym (drop_next k all line more e) ∙ ap (λ (n : ℕ). drop n all) next
 
 -- no line is left
-pub none_left : (all kept : List (List ℕ)) (k : ℕ) (rest : List ℕ) → k < 9 → kept ≡ map padded (take k all) → lines_of rest ≡ drop k all → true ≡ (length rest == 0)
-    → kept ≡ map padded (take 9 all)
+pub none_left : (all kept : List (List ℕ)) (k : ℕ) (rest : List ℕ) → k < 18 → kept ≡ map padded (take k all) → lines_of rest ≡ drop k all → true ≡ (length rest == 0)
+    → kept ≡ map padded (take 18 all)
 none_left all kept k [] few is left e =
     let none : length (drop k all) ≡ 0 = ap length (sym left) in
     let short : length all ≤ k = omega (arith, none, length-drop k all) in
-    is ∙ ap (map padded) (take_all k all short ∙ sym (take_all 9 all (omega arith)))
+    is ∙ ap (map padded) (take_all k all short ∙ sym (take_all 18 all (omega arith)))
 none_left all kept k (x ∷ rest) few is left e = absurd (omega (arith, eqb-true (length (x ∷ rest)) 0 (sym e)))

@@ -27,13 +27,13 @@ fn cut_line(text: &[u8]) -> (&[u8], &[u8])
     }
 }
 
-// The lines of a text, as far as a record looks at them: the first nine.
+// The lines of a text, as far as a record looks at them: the first eighteen.
 pub(crate) fn lines_in(text: &[u8]) -> RecordLines
-    ensures { result ≡ map padded (take 9 (lines_of text.now)) }
+    ensures { result ≡ map padded (take 18 (lines_of text.now)) }
 {
     let mut lines = RecordLines::new();
     let mut rest = text;
-    for _count in 0..9usize {
+    for _count in 0..18usize {
         if rest.is_empty() {
             return lines;
         }

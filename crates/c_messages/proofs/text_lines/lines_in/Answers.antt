@@ -17,5 +17,5 @@ loop-count-preserved c = record {
 
 pub returns : goal.returns
 returns c =
-    let nine : c.loop-count._count ≡ 9 = omega arith in
-    c.loop-count.invariant.kept ∙ ap (λ (n : ℕ). map padded (take n (lines_of c.args.text.now))) nine
+    let all : c.loop-count._count ≡ 18 = omega arith in
+    c.loop-count.invariant.kept ∙ ap (λ (n : ℕ). map padded (take n (lines_of c.args.text.now))) all
