@@ -7,7 +7,7 @@ use Rattle.rinex_read.specs.Kept.{padded}
 use Rattle.rinex_read.specs.declared.judged.Judged.{Judged}
 use Rattle.rinex_read.specs.declared.judged.Judged.TheVariants.{Item, Refused, PassedOver}
 use Rattle.system_streams.specs.declared.kinds.Kinds.{Kinds}
-use Rattle.system_files.specs.Readings.{lines_reading, nav_judged, reading_by, reading_in}
+use Rattle.system_files.specs.Readings.{lines_reading, nav_judged, own_lines, reading_by, reading_in}
 use Rattle.system_files.specs.declared.version.Version.{Version}
 use Rattle.system_files.specs.declared.version.Version.TheVariants.{Four, Three}
 
@@ -39,4 +39,4 @@ reading_kept four three ks v lines = ap (reading_by ks v (map padded (take 18 li
     by : (j : Judged) → reading_by ks v (map padded (take 18 lines)) j ≡ reading_by ks v lines j
     by (Item item) = refl
     by (Refused reason) = refl
-    by PassedOver = ap (lines_reading ks v) (kept_again 18 lines)
+    by PassedOver = ap (λ (ls : List (List ℕ)). lines_reading ks v (own_lines ls)) (kept_again 18 lines)

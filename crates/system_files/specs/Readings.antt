@@ -1,10 +1,12 @@
 -- The records of all systems in a navigation file: what one gives, and what is reported of it.
-use Rattle.std.specs.Prelude.{ℕ, nat_le, if◌then◌else◌, List, [], ◌∷◌, codes, get_or, length, map, replicate, set, take, Option, None, Some, Result, Ok, Err}
+use Rattle.std.specs.Prelude.{ℕ, nat_le, not, Bool, bytes_eq, if◌then◌else◌, List, [], ◌∷◌, codes, get_or, length, map, replicate, set, take, Option, None, Some, Result, Ok, Err}
 use Rattle.std.proofs.Common.{inl, inr}
+use Rattle.std.specs.List.{prefix_len}
 use Rattle.one_run.specs.Reports.{report_line}
 use Rattle.rinex_read.specs.Form3.{judged3}
 use Rattle.rinex_read.specs.Judging.{judged}
 use Rattle.rinex_read.specs.Kept.{padded}
+use Rattle.rinex_read.specs.Lines.{columns}
 use Rattle.rinex_read.specs.declared.judged.Judged.{Judged}
 use Rattle.rinex_read.specs.declared.judged.Judged.TheVariants.{Item as ItemOf, Refused, PassedOver}
 use Rattle.rinex_read.specs.declared.reason.Reason.{Reason}
@@ -56,6 +58,14 @@ kind_reading (Some k) v lines = row_reading k (row_in v k lines)
 abbrev pub lines_reading : Kinds → Version → List (List ℕ) → Reading
 lines_reading ks v lines = kind_reading (kind_in ks v lines) v lines
 
+-- the line begins no header, which has a label in columns 61 to 80
+abbrev pub is_own : List ℕ → Bool
+is_own line = not (bytes_eq (columns 60 20 line) (codes "RINEX VERSION / TYPE"))
+
+-- the lines of a record up to the header of a file that was joined to its own
+abbrev pub own_lines : List (List ℕ) → List (List ℕ)
+own_lines lines = take (prefix_len is_own lines) lines
+
 -- how a record is judged as one of GPS LNAV, Galileo I/NAV or their ionosphere parameters
 abbrev pub nav_judged : Version → List (List ℕ) → Judged
 nav_judged Four lines = judged lines
@@ -65,7 +75,7 @@ nav_judged Three lines = judged3 lines
 abbrev pub reading_by : Kinds → Version → List (List ℕ) → Judged → Reading
 reading_by ks v lines (ItemOf item) = Ok (inl item)
 reading_by ks v lines (Refused reason) = Err (refused reason)
-reading_by ks v lines PassedOver = lines_reading ks v (map padded (take 18 lines))
+reading_by ks v lines PassedOver = lines_reading ks v (own_lines (map padded (take 18 lines)))
 
 -- the reading of a record
 abbrev pub reading_in : Kinds → Version → List (List ℕ) → Reading

@@ -1,12 +1,14 @@
 //! What a record gives.
 
+ghost use Rattle.std.specs.List.{prefix_len};
 ghost use Rattle.std.specs.Prelude.{◌≡◌, ◌≤◌, Err, IfOk, length};
 ghost use Rattle.rinex_read.specs.Mirrors.{Gives};
 ghost use Rattle.rinex_write.specs.Columns.{AreFields};
 ghost use Rattle.nav_rows.specs.Kinds.{IsKind};
 ghost use Rattle.nav_rows.specs.Rows.{value};
 ghost use Rattle.system_files.specs.Mirrors.{HasFields, view_given};
-ghost use Rattle.system_files.specs.Readings.{lines_reading, nav_judged, reading_in, row_in};
+ghost use Rattle.system_files.specs.Readings.{is_own, lines_reading, nav_judged, own_lines};
+ghost use Rattle.system_files.specs.Readings.{reading_in, row_in};
 ghost use Rattle.system_files.specs.Readings.{other_reading, row_reading, sat_title};
 
 use crate::select::kind_in;
@@ -14,7 +16,7 @@ use crate::version::Version;
 use arrayvec::ArrayVec;
 use nav_eph::NavItem;
 use nav_rows::{Kind, Row, read_record};
-use rinex_read::{Judged, Reason, RecordLines, judge3};
+use rinex_read::{Judged, Reason, RecordLines, columns, judge3};
 use std::marker::Model;
 use system_streams::Kinds;
 
@@ -111,6 +113,28 @@ fn read_lines(kinds: &Kinds, version: Version, lines: &[[u8; 80]]) -> Given
     }
 }
 
+// Whether the line begins no header.
+fn is_own(line: &[u8; 80]) -> bool
+    ensures { result ≡ is_own line.now }
+{
+    columns(line, 60, 20) != b"RINEX VERSION / TYPE".as_slice()
+}
+
+// How many lines stand before the first that begins a header.
+fn own_count(lines: &[[u8; 80]]) -> usize
+    ensures count { result ≡ prefix_len is_own lines.now }
+    ensures few { result ≤ length lines.now }
+{
+    lines.iter().take_while(|line| is_own(line)).count()
+}
+
+// The lines of a record up to the header of a file that was joined to its own.
+fn own_lines(lines: &[[u8; 80]]) -> &[[u8; 80]]
+    ensures { result.now ≡ own_lines lines.now }
+{
+    &lines[..own_count(lines)]
+}
+
 // How a record is judged as one of GPS LNAV, Galileo I/NAV or their ionosphere parameters.
 fn nav_judged(version: Version, lines: &RecordLines) -> Judged
     ensures { result ≡ nav_judged version lines.now }
@@ -130,7 +154,7 @@ fn read_in(kinds: &Kinds, version: Version, lines: &RecordLines) -> Given
     match nav_judged(version, lines) {
         Judged::Item(item) => Given::Nav(item),
         Judged::Refused(reason) => Given::Refused(reason),
-        Judged::PassedOver => read_lines(kinds, version, lines.lines()),
+        Judged::PassedOver => read_lines(kinds, version, own_lines(lines.lines())),
     }
 }
 
