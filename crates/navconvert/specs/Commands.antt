@@ -20,7 +20,8 @@ form_words =
 -- the values of `--to`
 abbrev pub target_words : List Text
 target_words =
-    codes "rinex" ∷ codes "rinex3" ∷ codes "rtcm" ∷ codes "list" ∷ codes "count" ∷ codes "frames" ∷ codes "merged" ∷ codes "cover"
+    codes "rinex" ∷ codes "rinex3" ∷ codes "rtcm" ∷ codes "list" ∷ codes "count" ∷ codes "frames" ∷ codes "merged" ∷ codes "merged3"
+    ∷ codes "cover"
     ∷ codes "capture" ∷ []
 
 -- the files: one or more words that belong to no option
