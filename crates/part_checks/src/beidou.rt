@@ -29,16 +29,15 @@ fn is_even(code: u64, mask: u64) -> bool
 }
 
 // Whether fifteen bits are a code word.
+#[tactic(auto, unfolding(crate::specs::Beidou::is_code_word))]
 fn is_code_word(code: u64) -> bool
     ensures { result ≡ is_code_word code }
 {
-    is_even(code, 0x7591)
-        && is_even(code, 0x1eb2)
-        && is_even(code, 0x3d64)
-        && is_even(code, 0x7ac8)
+    is_even(code, 0x7591) && is_even(code, 0x1eb2) && is_even(code, 0x3d64) && is_even(code, 0x7ac8)
 }
 
 // Every second bit of a number, from the lowest on, as a number of so many bits.
+#[tactic(auto, unfolding(crate::specs::Beidou::evens))]
 fn evens(count: u32, number: u64) -> u64
     requires { count ≤ 15 }
     ensures same { result ≡ evens count number }
@@ -52,6 +51,7 @@ fn evens(count: u32, number: u64) -> u64
 }
 
 // The first code word of a word.
+#[tactic(auto, unfolding(crate::specs::Beidou::first_code))]
 fn first_code(order: WordOrder, word: u64) -> u64
     requires { word < 2 ^ 30 }
     ensures same { result ≡ first_code order word }
@@ -65,6 +65,7 @@ fn first_code(order: WordOrder, word: u64) -> u64
 }
 
 // The second code word of a word.
+#[tactic(auto, unfolding(crate::specs::Beidou::second_code))]
 fn second_code(order: WordOrder, word: u64) -> u64
     requires { word < 2 ^ 30 }
     ensures same { result ≡ second_code order word }
@@ -78,6 +79,7 @@ fn second_code(order: WordOrder, word: u64) -> u64
 }
 
 // Whether a word is right; of the first word only the last fifteen bits are covered.
+#[tactic(auto, unfolding(crate::specs::Beidou::are_code_words))]
 fn are_code_words(order: WordOrder, index: usize, word: u64) -> bool
     requires { word < 2 ^ 30 }
     ensures { result ≡ are_code_words order index word }
@@ -89,6 +91,7 @@ fn are_code_words(order: WordOrder, index: usize, word: u64) -> bool
 }
 
 // A word with its code words parted; the first is the same in all orders.
+#[tactic(auto, unfolding(crate::specs::Beidou::parted_word))]
 fn parted_word(order: WordOrder, index: usize, word: u64) -> u64
     requires { word < 2 ^ 30 }
     ensures same { result ≡ parted_word order index word }
@@ -103,6 +106,7 @@ fn parted_word(order: WordOrder, index: usize, word: u64) -> u64
 }
 
 // Whether all ten words are right in an order.
+#[tactic(auto, unfolding(crate::specs::Beidou::are_good))]
 fn are_good(bits: &Bits<38>, order: WordOrder) -> bool
     ensures { result ≡ are_good bits.now order 10 }
 {
@@ -115,6 +119,7 @@ fn are_good(bits: &Bits<38>, order: WordOrder) -> bool
 }
 
 /// The first order in which all nineteen code words of the first 300 bits are right.
+#[tactic(auto, unfolding(crate::specs::Beidou::order_in))]
 pub fn order_of(bits: &Bits<38>) -> Option<WordOrder>
     ensures { result ≡ order_in bits.now }
 {

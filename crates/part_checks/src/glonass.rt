@@ -15,6 +15,7 @@ fn is_even(string: u128, mask: u128) -> bool
 }
 
 // Whether the eight sums are even.
+#[tactic(auto, unfolding(crate::specs::Glonass::are_even))]
 fn are_even(string: u128) -> bool
     ensures { result ≡ are_even string }
 {

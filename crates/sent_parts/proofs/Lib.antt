@@ -1,1 +1,3 @@
-
+mod SourceLemmas
+mod FrameLemmas
+mod RunLemmas

@@ -23,7 +23,7 @@ toe_near frame s sent = moment_near sent (s.step * number_in frame s.toe)
 unfoldable pub times_at : List ℕ → Sending → ℕ → Option SentTimes
 times_at frame s r =
     if nat_lt (s.unit * number_in frame s.tow) 604800
-        && nat_lt (s.step * number_in frame s.toe) 604800
+    && nat_lt (s.step * number_in frame s.toe) 604800
     then Some (record {
       week = toe_near frame s (sent_at frame s r) / 604800;
       sent = sent_at frame s r;

@@ -88,6 +88,7 @@ fn with_sent(row: Row, column: usize, sent: i64) -> Row
 }
 
 // The row of the message of a frame near a reference week, with a week number of toe.
+#[tactic(auto, unfolding(crate::specs::Frames::row_near))]
 fn row_near(
     kind: &FrameKind,
     heard: &Heard<'_>,
@@ -115,6 +116,7 @@ fn row_near(
 }
 
 // The row of a frame whose message has its times.
+#[tactic(auto, unfolding(crate::specs::Frames::row_untimed))]
 fn row_untimed(kind: &FrameKind, heard: &Heard<'_>) -> Result<Row, FrameFault>
     requires kind { IsFrameKind kind.now }
     requires bytes { HasBytes kind.now heard.now }
@@ -130,6 +132,7 @@ fn row_untimed(kind: &FrameKind, heard: &Heard<'_>) -> Result<Row, FrameFault>
 }
 
 // The row of a frame with these times.
+#[tactic(auto, unfolding(crate::specs::Frames::row_sent))]
 fn row_sent(
     kind: &FrameKind,
     heard: &Heard<'_>,
@@ -158,11 +161,8 @@ fn row_sent(
 }
 
 // The row of a frame that tells when it was sent.
-fn row_timed(
-    kind: &FrameKind,
-    heard: &Heard<'_>,
-    sending: &Sending,
-) -> Result<Row, FrameFault>
+#[tactic(auto, unfolding(crate::specs::Frames::row_timed))]
+fn row_timed(kind: &FrameKind, heard: &Heard<'_>, sending: &Sending) -> Result<Row, FrameFault>
     requires kind { IsFrameKind kind.now }
     requires bytes { HasBytes kind.now heard.now }
     requires sending { IsTrue (has_sending (8 * kind.now.bytes) kind.now.kind (Some sending.now)) }
@@ -186,6 +186,7 @@ fn row_timed(
 ///
 /// The error is the first one, in the order of [`FrameFault`]; a satellite or a frequency that the
 /// kind does not have is out of range, too.
+#[tactic(auto, unfolding(crate::specs::Frames::row_of))]
 pub fn row_of_frame(kind: &FrameKind, heard: &Heard<'_>) -> Result<Row, FrameFault>
     requires kind { IsFrameKind kind.now }
     requires bytes { HasBytes kind.now heard.now }

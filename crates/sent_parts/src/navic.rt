@@ -143,10 +143,7 @@ pub fn frame_navic() -> FrameKind
         part_bytes: 37,
         checks: &NAVIC_CHECKS,
         sending: Some(Sending {
-            rule: WeekRule {
-                bits: 10,
-                zero: 0,
-            },
+            rule: WeekRule { bits: 10, zero: 0 },
             week: number!(0 30 10),
             unit: 12,
             tow: number!(0 8 17),

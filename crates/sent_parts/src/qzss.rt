@@ -163,10 +163,7 @@ pub fn frame_qzss() -> FrameKind
         part_bytes: 38,
         checks: &LNAV_CHECKS,
         sending: Some(Sending {
-            rule: WeekRule {
-                bits: 10,
-                zero: 0,
-            },
+            rule: WeekRule { bits: 10, zero: 0 },
             week: number!(0 60 10),
             unit: 6,
             tow: number!(0 30 17),

@@ -14,6 +14,9 @@ pub struct Run {
     pub width: u32,
 }
 
+/// No bits.
+pub const NONE: Run = Run { from: 0, width: 0 };
+
 /// A number of a frame: its bits lie in up to three runs, the highest first; a run of width 0 has
 /// none.
 #[derive(Clone, Copy)]
@@ -47,5 +50,10 @@ pub(crate) fn number_in(number: &Number, frame: &[u8]) -> u64
     let middle = number_in_bytes(frame, number.middle.from, number.middle.width as usize);
     let low = number_in_bytes(frame, number.low.from, number.low.width as usize);
     let upper = joined(high, number.high.width, middle, number.middle.width);
-    joined(upper, number.high.width + number.middle.width, low, number.low.width)
+    joined(
+        upper,
+        number.high.width + number.middle.width,
+        low,
+        number.low.width,
+    )
 }

@@ -51,12 +51,7 @@ fn pair_of(source: &Source, frame: &[u8], given: &[u64]) -> (u32, u64)
 
 // Appends the fields of sources.
 #[tactic(auto, unfolding(crate::specs::Sources::pairs_of))]
-fn push_pairs(
-    sources: &[Source],
-    frame: &[u8],
-    given: &[u64],
-    pairs: &mut ArrayVec<(u32, u64), 96>,
-)
+fn push_pairs(sources: &[Source], frame: &[u8], given: &[u64], pairs: &mut ArrayVec<(u32, u64), 96>)
     requires sources { IsTrue (are_sources (8 * length frame.now) sources.now) }
     requires given { length given.now ≡ 4 }
     requires room { length pairs.old.items + length sources.now ≤ 96 }

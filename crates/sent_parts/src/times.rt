@@ -47,6 +47,7 @@ pub(crate) fn reference_of(week: u32) -> Option<RefWeek>
 }
 
 // The times of a frame near a reference week.
+#[tactic(auto, unfolding(crate::specs::Times::times_at))]
 fn times_at(sending: &Sending, frame: &[u8], reference: RefWeek) -> Option<SentTimes>
     requires { IsTrue (is_sending (8 * length frame.now) sending.now) }
     ensures value { result ≡ times_at frame.now sending.now reference }

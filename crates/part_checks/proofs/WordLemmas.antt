@@ -1,0 +1,54 @@
+-- Words at their bit offsets: a word that is written leaves the others as they were.
+use Rattle.std.proofs.Common.{◌≡◌, ℕ, suc, ◌+◌, ◌*◌, ◌/◌, ◌%◌, ◌<◌, ◌≤◌, List, refl, ◌∙◌, ◌&&◌, arith}
+use Rattle.std.proofs.Common.{below_more}
+use Rattle.nav_bits.specs.Bits.{number_at, Puts}
+use Rattle.nav_bits.specs.Laws.{number_at-before}
+use Rattle.lnav_subframe.specs.Parity.{IsGood, IsSource}
+use Rattle.lnav_subframe.specs.Words.{AreGood, AreSource, last_before, word_of}
+use Rattle.part_checks.specs.declared.beidou.WordOrder.{WordOrder}
+use Rattle.part_checks.specs.Beidou.{are_code_words, are_good, parted_word}
+
+pub good_more : (bytes : List ℕ) (order : WordOrder) (k : ℕ) → are_good bytes order (k + 1)
+    ≡ (are_good bytes order k && are_code_words order k (number_at bytes (30 * k) 30))
+unfolding are_good
+good_more bytes order k = let e : k + 1 ≡ suc k = omega arith in rw e refl
+
+-- the first words are parted
+pub AreParted : WordOrder → List ℕ → List ℕ → ℕ → Type 0
+AreParted order bytes part n = (k : ℕ) → k < n
+    → number_at part (30 * k) 30 ≡ parted_word order k (number_at bytes (30 * k) 30)
+
+pub parted_more : (order : WordOrder) (bytes old new : List ℕ) (k value : ℕ)
+    → AreParted order bytes old k → Puts old new (30 * k) 30 value
+    → value ≡ parted_word order k (number_at bytes (30 * k) 30)
+    → AreParted order bytes new (k + 1)
+parted_more order bytes old new k value before puts here =
+    below_more (λ j. number_at new (30 * j) 30
+    ≡ parted_word order j (number_at bytes (30 * j) 30)) k
+    (λ j h. let e : number_at new (30 * j) 30 ≡ number_at old (30 * j) 30
+    = number_at-before old new (30 * k) (30 * k + 30) puts.others (30 * j) 30 (omega arith) in
+    e ∙ before j h)
+    (puts.number ∙ here)
+
+-- ---- LNAV
+
+pub last_more : (bits : List ℕ) (k : ℕ) → last_before bits (k + 1) ≡ word_of bits k % 4
+unfolding last_before
+last_more bits k = let e : k + 1 ≡ suc k = omega arith in rw e refl
+
+pub goods_more : (bits : List ℕ) (k : ℕ) → AreGood bits k
+    → IsGood (word_of bits k) (last_before bits k) → AreGood bits (k + 1)
+goods_more bits k before here = below_more
+    (λ j. IsGood (word_of bits j) (last_before bits j)) k before here
+
+-- the data bits of one more word
+pub sources_more : (bits old new : List ℕ) (k value : ℕ) → AreSource bits old k
+    → Puts old new (30 * k) 24 value
+    → IsSource (word_of bits k) (last_before bits k) value → AreSource bits new (k + 1)
+sources_more bits old new k value before puts here =
+    below_more
+    (λ j. IsSource (word_of bits j) (last_before bits j) (number_at new (30 * j) 24)) k
+    (λ j h. let e : number_at new (30 * j) 24 ≡ number_at old (30 * j) 24
+    = number_at-before old new (30 * k) (30 * k + 24) puts.others (30 * j) 24 (omega arith) in
+    rw e (before j h))
+    (rw puts.number here)
