@@ -21,6 +21,7 @@ sent_is (Unread n) e = absurd cc
 
 pub sent_inside : (cs : List Column) (k : ℕ) (zs : List ℤ) → is_sent_at cs k ≡ true
     → AreFields cs zs → k < length zs
+unfolding is_sent_at
 sent_inside [] k zs e fields = absurd cc
 sent_inside (c ∷ cs) k [] e fields = absurd fields
 sent_inside (c ∷ cs) zero (z ∷ zs) e fields = omega arith
@@ -29,6 +30,7 @@ sent_inside (c ∷ cs) (suc k) (z ∷ zs) e fields
 
 pub sent_set : (cs : List Column) (k : ℕ) (zs : List ℤ) (sent : ℤ) → is_sent_at cs k ≡ true
     → AreFields cs zs → IsField Sent sent → AreFields cs (set zs k sent)
+unfolding is_sent_at
 sent_set [] k zs sent e fields is = absurd cc
 sent_set (c ∷ cs) k [] sent e fields is = absurd fields
 sent_set (c ∷ cs) zero (z ∷ zs) sent e fields is

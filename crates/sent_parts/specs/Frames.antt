@@ -1,6 +1,6 @@
 -- Kinds of frames, and the rows of frames.
-use Rattle.std.specs.Prelude.{◌≡◌, ℕ, zero, suc, ◌*◌, ◌/◌, ◌&&◌, Bool, true, false, List, [], ◌∷◌}
-use Rattle.std.specs.Prelude.{length, set, ℤ, pos, ◌-ℤ◌, nat_le, IsTrue, Option, Some, None, Result}
+use Rattle.std.specs.Prelude.{◌≡◌, ℕ, ◌-◌, ◌*◌, ◌/◌, ◌&&◌, Bool, true, false, List, [], ◌∷◌}
+use Rattle.std.specs.Prelude.{length, set, ℤ, pos, ◌-ℤ◌, nat_eq, nat_le, IsTrue, Option, Some, None, Result}
 use Rattle.std.specs.Prelude.{Ok, Err, if◌then◌else◌}
 use Rattle.rinex_write.specs.declared.columns.Rule.{Rule}
 use Rattle.rinex_write.specs.declared.columns.Rule.TheVariants.{Sent}
@@ -28,20 +28,19 @@ is_sent_rule Sent = true
 is_sent_rule _ = false
 
 -- column k has a time of transmission
-abbrev pub is_sent_at : List Column → ℕ → Bool
+unfoldable pub is_sent_at : List Column → ℕ → Bool
 is_sent_at [] k = false
-is_sent_at (c ∷ cs) zero = is_sent_rule c.rule
-is_sent_at (c ∷ cs) (suc k) = is_sent_at cs k
+is_sent_at (c ∷ cs) k = if nat_eq k 0 then is_sent_rule c.rule else is_sent_at cs (k - 1)
 
-abbrev pub has_sending : ℕ → Kind → Option Sending → Bool
-has_sending bits k None = true
-has_sending bits k (Some s) = is_sending bits s && is_sent_at k.layout.columns.now k.sent
+abbrev pub has_sending : ℕ → Option Sending → Bool
+has_sending bits None = true
+has_sending bits (Some s) = is_sending bits s
 
 -- the tables of a kind of frame fit one another
 pub record IsFrameKind (k : FrameKind) : Type 0 where
   pub kind : IsKind k.kind
   pub checks : IsTrue (are_checks (8 * k.bytes) k.checks.now)
-  pub sending : IsTrue (has_sending (8 * k.bytes) k.kind k.sending)
+  pub sending : IsTrue (has_sending (8 * k.bytes) k.sending)
   pub sources : IsTrue (is_message (8 * k.bytes) k.sources.now)
 
 -- the parts have the bytes of the kind
@@ -82,8 +81,13 @@ with_sent row column z = record {
   columns = set row.columns column z;
 }
 
+-- the row of a kind, with the time sent where its records have a column for it
+abbrev pub with_time : Kind → RowValue → ℤ → RowValue
+with_time k row z =
+    if is_sent_at k.layout.columns.now k.sent then with_sent row k.sent z else row
+
 abbrev pub sent_by : FrameKind → SentTimes → Result RowValue FrameFault → Result RowValue FrameFault
-sent_by k t (Ok row) = Ok (with_sent row k.kind.sent (sent_of t))
+sent_by k t (Ok row) = Ok (with_time k.kind row (sent_of t))
 sent_by k t (Err fault) = Err fault
 
 abbrev pub sent_near : FrameKind → Heard → WeekRule → SentTimes → Option ℕ

@@ -6,10 +6,10 @@ ghost use Rattle.rinex_write.specs.Columns.{AreFields, IsField};
 ghost use Rattle.rinex_write.specs.declared.columns.Rule.TheVariants.{Sent};
 ghost use Rattle.nav_rows.specs.Rows.{value};
 ghost use Rattle.nav_days.specs.Weeks.{is_week_rule};
-ghost use Rattle.sent_parts.specs.Times.{IsSent};
-ghost use Rattle.sent_parts.specs.Frames.{HasBytes, IsFrameKind, has_sending, is_sent_at};
+ghost use Rattle.sent_parts.specs.Times.{IsSent, is_sending};
+ghost use Rattle.sent_parts.specs.Frames.{HasBytes, IsFrameKind, is_sent_at, is_sent_rule};
 ghost use Rattle.sent_parts.specs.Frames.{row_near, row_of, row_sent, row_timed, row_untimed};
-ghost use Rattle.sent_parts.specs.Frames.{sent_of, with_sent};
+ghost use Rattle.sent_parts.specs.Frames.{sent_of, with_sent, with_time};
 
 use crate::check::{Check, first_fault};
 use crate::source::{Source, message_of};
@@ -17,6 +17,7 @@ use crate::times::{Sending, SentTimes, reference_of, times_in};
 use gnss_week::{Moment, RefWeek, Week};
 use nav_days::{WeekRule, number_of_week};
 use nav_rows::{Kind, Row, RowFault, row_of_message};
+use rinex_write::{Column, Rule};
 
 /// A kind of frame: how its parts make up the message of its kind of ephemeris.
 #[derive(Clone, Copy)]
@@ -87,6 +88,47 @@ fn with_sent(row: Row, column: usize, sent: i64) -> Row
     }
 }
 
+// Whether a rule is that of times of transmission.
+fn is_sent_rule(rule: &Rule) -> bool
+    ensures { result ≡ is_sent_rule rule.now }
+{
+    match rule {
+        Rule::Sent => true,
+        _ => false,
+    }
+}
+
+// Whether a column has times of transmission.
+fn is_sent_at(columns: &[Column], place: usize) -> bool
+    ensures { result ≡ is_sent_at columns.now place }
+{
+    match columns {
+        [] => false,
+        [column, rest @ ..] => {
+            if place == 0 {
+                is_sent_rule(&column.rule)
+            } else {
+                is_sent_at(rest, place - 1)
+            }
+        }
+    }
+}
+
+// The row of a kind, with the time sent where its records have a column for it.
+fn with_time(kind: &Kind, row: Row, sent: i64) -> Row
+    requires fields { AreFields kind.now.layout.columns.now row.columns.items }
+    requires low { negsuc 302399 ≤ℤ sent }
+    requires high { sent ≤ℤ pos 907199 }
+    ensures same { value result ≡ with_time kind.now (value row) sent }
+    ensures fields { AreFields kind.now.layout.columns.now result.columns.items }
+{
+    if is_sent_at(kind.layout.columns, kind.sent) {
+        with_sent(row, kind.sent, sent)
+    } else {
+        row
+    }
+}
+
 // The row of the message of a frame near a reference week, with a week number of toe.
 #[tactic(auto, unfolding(crate::specs::Frames::row_near))]
 fn row_near(
@@ -142,7 +184,6 @@ fn row_sent(
     requires kind { IsFrameKind kind.now }
     requires bytes { HasBytes kind.now heard.now }
     requires rule { IsTrue (is_week_rule rule.now) }
-    requires column { IsTrue (is_sent_at kind.now.kind.layout.columns.now kind.now.kind.sent) }
     requires sent { IsSent times }
     ensures ok { IfOk result
         (λ row. row_sent kind.now heard.now rule.now times ≡ Ok (value row)) }
@@ -156,7 +197,7 @@ fn row_sent(
     let number = number_of_week(rule, Week::from_number(times.week));
     match row_near(kind, heard, number, reference) {
         Err(fault) => Err(fault),
-        Ok(row) => Ok(with_sent(row, kind.kind.sent, sent_of(times))),
+        Ok(row) => Ok(with_time(&kind.kind, row, sent_of(times))),
     }
 }
 
@@ -165,7 +206,7 @@ fn row_sent(
 fn row_timed(kind: &FrameKind, heard: &Heard<'_>, sending: &Sending) -> Result<Row, FrameFault>
     requires kind { IsFrameKind kind.now }
     requires bytes { HasBytes kind.now heard.now }
-    requires sending { IsTrue (has_sending (8 * kind.now.bytes) kind.now.kind (Some sending.now)) }
+    requires sending { IsTrue (is_sending (8 * kind.now.bytes) sending.now) }
     ensures ok { IfOk result
         (λ row. row_timed kind.now heard.now sending.now ≡ Ok (value row)) }
     ensures fields { IfOk result

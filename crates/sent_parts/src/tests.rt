@@ -1,21 +1,16 @@
 //! Frames of each kind and their records, as an independent program writes them.
 
 ghost use Rattle.std.specs.Prelude.{◌≤◌};
-ghost use Rattle.sent_parts.specs.Frames.{IsFrameKind};
 
-use crate::beidou::{frame_d1, frame_d2};
-use crate::fnav::frame_fnav;
-use crate::frame::{FrameFault, FrameKind, Heard, row_of_frame};
-use crate::glonass::frame_fdma;
-use crate::navic::frame_navic;
-use crate::qzss::frame_qzss;
+use crate::frame::{FrameFault, Heard, row_of_frame};
+use crate::kinds::frame_kind_of;
 use gnss_week::Moment;
 use hex::decode_to_slice;
 use nav_io::MemSink;
 use nav_rows::{Row, write_record};
 use std::alloc::Global;
 
-// The parts of a frame in hexadecimal digits, and its record; the kind by a letter, D for D2.
+// The parts of a frame in hexadecimal digits, and its record, and the letter of its system.
 struct FrameRow {
     name: &'static str,
     kind: u8,
@@ -64,7 +59,7 @@ const FRAMES: [FrameRow; 6] = [
     },
     FrameRow {
         name: "C63 D2",
-        kind: b'D',
+        kind: b'C',
         satellite: 63,
         frequency: 0,
         near: 1388895960,
@@ -150,20 +145,6 @@ const FRAMES: [FrameRow; 6] = [
     },
 ];
 
-// The kind of a frame.
-fn kind_of(letter: u8) -> FrameKind
-    ensures { IsFrameKind result }
-{
-    match letter {
-        b'R' => frame_fdma(),
-        b'C' => frame_d1(),
-        b'D' => frame_d2(),
-        b'J' => frame_qzss(),
-        b'E' => frame_fnav(),
-        _ => frame_navic(),
-    }
-}
-
 // The bytes of hexadecimal digits, and how many they are.
 fn bytes_of(digits: &[u8]) -> ([u8; 400], usize)
     ensures { result.1 ≤ 400 }
@@ -178,7 +159,7 @@ fn bytes_of(digits: &[u8]) -> ([u8; 400], usize)
 
 // The row of a frame in the first bytes, of this satellite.
 fn row_in(row: &FrameRow, bytes: &[u8; 400], satellite: u8) -> Option<Result<Row, FrameFault>> {
-    let kind = kind_of(row.kind);
+    let kind = frame_kind_of(row.kind, row.satellite)?;
     let near = Moment::new(row.near)?;
     let count = kind.bytes;
     if count > 400 {
@@ -195,7 +176,7 @@ fn row_in(row: &FrameRow, bytes: &[u8; 400], satellite: u8) -> Option<Result<Row
 
 // Whether the frame has the record.
 fn has_record(row: &FrameRow, alloc: Global) -> Option<bool> {
-    let kind = kind_of(row.kind);
+    let kind = frame_kind_of(row.kind, row.satellite)?;
     let near = Moment::new(row.near)?;
     let (bytes, count) = bytes_of(row.frame);
     if count != kind.bytes {
