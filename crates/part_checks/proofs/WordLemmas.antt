@@ -1,6 +1,8 @@
 -- Words at their bit offsets: a word that is written leaves the others as they were.
-use Rattle.std.proofs.Common.{◌≡◌, ℕ, suc, ◌+◌, ◌*◌, ◌/◌, ◌%◌, ◌<◌, ◌≤◌, List, refl, ◌∙◌, ◌&&◌, arith}
+use Rattle.std.proofs.Common.{◌≡◌, ℕ, suc, ◌+◌, ◌-◌, ◌*◌, ◌/◌, ◌%◌, ◌^◌, ◌<◌, ◌≤◌, List, refl}
+use Rattle.std.proofs.Common.{sym, ap, ◌∙◌, ◌&&◌, arith}
 use Rattle.std.proofs.Common.{below_more}
+use Rattle.std.proofs.lemmas.Nat.{pow-add}
 use Rattle.nav_bits.specs.Bits.{number_at, Puts}
 use Rattle.nav_bits.specs.Laws.{number_at-before}
 use Rattle.lnav_subframe.specs.Parity.{IsGood, IsSource}
@@ -14,7 +16,7 @@ unfolding are_good
 good_more bytes order k = let e : k + 1 ≡ suc k = omega arith in rw e refl
 
 -- the first words are parted
-pub AreParted : WordOrder → List ℕ → List ℕ → ℕ → Type 0
+abbrev pub AreParted : WordOrder → List ℕ → List ℕ → ℕ → Type 0
 AreParted order bytes part n = (k : ℕ) → k < n
     → number_at part (30 * k) 30 ≡ parted_word order k (number_at bytes (30 * k) 30)
 
@@ -52,3 +54,13 @@ sources_more bits old new k value before puts here =
     = number_at-before old new (30 * k) (30 * k + 24) puts.others (30 * j) 24 (omega arith) in
     rw e (before j h))
     (rw puts.number here)
+
+-- ---- bits in turn
+
+pub evens_fit : (k n r : ℕ) → 1 ≤ k → r < 2 ^ (k - 1) → n % 2 + 2 * r < 2 ^ k
+evens_fit k n r some less =
+    let e : k - 1 + 1 ≡ k = omega (arith, some) in
+    let two : 2 ^ 1 ≡ 2 = refl in
+    let q : 2 ^ k ≡ 2 ^ (k - 1) * 2 = ap (λ j. 2 ^ j) (sym e) ∙ pow-add 2 (k - 1) 1
+    ∙ ap (λ t. 2 ^ (k - 1) * t) two in
+    omega (arith, q, less)

@@ -59,3 +59,10 @@ order_in bytes =
 abbrev pub IsPartIn : WordOrder → List ℕ → List ℕ → Type 0
 IsPartIn order bytes part =
     (k : ℕ) → k < 10 → number_at part (30 * k) 30 ≡ parted_word order k (number_at bytes (30 * k) 30)
+
+-- the ten words in the order Parted, where some order is right
+abbrev pub IsPart : List ℕ → Option WordOrder → Option (List ℕ) → Type 0
+IsPart bytes None None = Unit {0}
+IsPart bytes None (Some part) = ⊥
+IsPart bytes (Some order) None = ⊥
+IsPart bytes (Some order) (Some part) = IsPartIn order bytes part

@@ -1,10 +1,9 @@
 //! The BCH code of BeiDou's words.
 
-ghost use Rattle.std.specs.Prelude.{◌≡◌, ◌+◌, ◌*◌, ◌<◌, ◌≤◌, ◌^◌, IfSome, IfNone, false};
-ghost use Rattle.std.specs.Prelude.{MatchOption, ◌&&◌};
+ghost use Rattle.std.specs.Prelude.{◌≡◌, ◌+◌, ◌*◌, ◌<◌, ◌≤◌, ◌^◌, ◌&&◌};
 ghost use Rattle.nav_bits.specs.Bits.{number_at};
 ghost use Rattle.part_checks.specs.Parity.{is_even};
-ghost use Rattle.part_checks.specs.Beidou.{IsPartIn, are_code_words, are_good, evens, first_code};
+ghost use Rattle.part_checks.specs.Beidou.{IsPart, IsPartIn, are_code_words, are_good, evens, first_code};
 ghost use Rattle.part_checks.specs.Beidou.{is_code_word, order_in, parted_word, second_code};
 
 use nav_bits::Bits;
@@ -150,8 +149,7 @@ fn parted(bits: &Bits<38>, order: WordOrder) -> Bits<38>
 /// them some code word is wrong (BDS-SIS-ICD-B1I-3.0, section 5.1.3). The first fifteen bits, with
 /// the preamble, are in no code word.
 pub fn beidou_part(bits: &Bits<38>) -> Option<Bits<38>>
-    ensures { MatchOption (λ order. IfSome result (IsPartIn order bits.now)) (IfNone result ⊤)
-        (order_in bits.now) }
+    ensures { IsPart bits.now (order_in bits.now) result }
 {
     match order_of(bits) {
         Some(order) => Some(parted(bits, order)),

@@ -9,17 +9,23 @@ use Rattle.sent_parts.specs.declared.run.Number.{Number}
 use Rattle.sent_parts.specs.Runs.{is_number, is_run, width_of}
 
 -- the value of two numbers side by side has the bits of both
-pub record AreJoined (high hw low lw : ℕ) : Type 0 where
-  pub fits : high * 2 ^ lw + low < 2 ^ (hw + lw)
-  pub small : high * 2 ^ lw + low < 2 ^ 32
+pub joined_fits : (high hw low lw : ℕ) → high < 2 ^ hw → low < 2 ^ lw
+    → high * 2 ^ lw + low < 2 ^ (hw + lw)
+joined_fits high hw low lw h l
+    = omega (arith, pow-add 2 hw lw, mul-add-lt high (2 ^ lw) low (2 ^ hw) h l)
 
-pub joined_fit : (high hw low lw : ℕ) → high < 2 ^ hw → low < 2 ^ lw → hw + lw ≤ 32
-    → AreJoined high hw low lw
-joined_fit high hw low lw h l most =
-    let fits : high * 2 ^ lw + low < 2 ^ (hw + lw)
-    = omega (arith, pow-add 2 hw lw, mul-add-lt high (2 ^ lw) low (2 ^ hw) h l) in
+pub joined_small : (high hw low lw : ℕ) → high < 2 ^ hw → low < 2 ^ lw → hw + lw ≤ 32
+    → high * 2 ^ lw + low < 2 ^ 32
+joined_small high hw low lw h l most =
+    let fits : high * 2 ^ lw + low < 2 ^ (hw + lw) = joined_fits high hw low lw h l in
     let top : 2 ^ (hw + lw) ≤ 2 ^ 32 = pow-le-pow_right (omega arith) most in
-    record { fits = fits; small = omega arith }
+    omega arith
+
+-- a number of a week's width
+pub week_fits : (n w bits : ℕ) → n < 2 ^ w → w ≤ bits → n < 2 ^ bits
+week_fits n w bits less few =
+    let top : 2 ^ w ≤ 2 ^ bits = pow-le-pow_right (omega arith) few in
+    omega arith
 
 -- the runs of a number lie within so many bits
 pub record IsWithin (bits : ℕ) (n : Number) : Type 0 where

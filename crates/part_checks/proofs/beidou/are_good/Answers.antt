@@ -1,7 +1,5 @@
-use Rattle.std.proofs.Common.{◌*◌, ◌&&◌, sym, ap, ap₂, ◌∙◌, arith}
+use Rattle.std.proofs.Common.{◌*◌, arith}
 use Rattle.nav_bits.specs.Laws.{number_at-lt}
-use Rattle.part_checks.specs.Beidou.{are_code_words, are_good}
-use Rattle.part_checks.proofs.WordLemmas.{good_more}
 use Rattle.part_checks.proofs.beidou.are_good.Goals as goal
 
 pub are_code_words-right-requires : goal.are_code_words-right-requires
