@@ -39,8 +39,8 @@ fn string_of(bits: &Bits<11>) -> u128
 }
 
 /// Whether the first 85 bits are a string whose check bits are all right: C1 to C7, and the sum of
-/// all bits (GLONASS ICD L1, L2, edition 5.1, section 4.7). Any single wrong bit is noticed, and any
-/// two; none is repaired.
+/// all bits (GLONASS ICD L1, L2, edition 5.1, section 4.7). Any single wrong bit is noticed, and
+/// any two; none is repaired.
 pub fn is_good_string(bits: &Bits<11>) -> bool
     ensures { result ≡ is_good_string bits.now }
 {

@@ -1,5 +1,5 @@
-//! The checks of the parts of navigation messages: whether a string, a subframe, a page or a message
-//! is as it was sent.
+//! The checks of the parts of navigation messages: whether a string, a subframe, a page or a
+//! message is as it was sent.
 //!
 //! - GLONASS strings: the Hamming code (GLONASS ICD L1, L2, edition 5.1, section 4.7),
 //!   [`is_good_string`];
