@@ -4,7 +4,8 @@ ghost use Rattle.std.specs.Prelude.{◌≡◌, ◌+◌, ◌*◌, ◌<◌, ◌≤
 ghost use Rattle.nav_bits.specs.Bits.{number_at};
 ghost use Rattle.part_checks.specs.Parity.{is_even};
 ghost use Rattle.part_checks.specs.Beidou.{IsPart, IsPartIn, are_code_words, are_good, evens};
-ghost use Rattle.part_checks.specs.Beidou.{first_code, is_code_word, order_in, parted_word, second_code};
+ghost use Rattle.part_checks.specs.Beidou.{first_code, is_code_word, order_in, parted_word};
+ghost use Rattle.part_checks.specs.Beidou.{second_code};
 
 use nav_bits::Bits;
 
