@@ -1,6 +1,6 @@
 -- Words at their bit offsets: a word that is written leaves the others as they were.
-use Rattle.std.proofs.Common.{◌≡◌, ℕ, suc, ◌+◌, ◌-◌, ◌*◌, ◌/◌, ◌%◌, ◌^◌, ◌<◌, ◌≤◌, List, refl}
-use Rattle.std.proofs.Common.{sym, ap, ◌∙◌, ◌&&◌, arith}
+use Rattle.std.proofs.Common.{◌≡◌, ℕ, suc, ◌+◌, ◌-◌, ◌*◌, ◌%◌, ◌^◌, ◌<◌, ◌≤◌, List, refl}
+use Rattle.std.proofs.Common.{sym, ap, ◌∙◌, arith}
 use Rattle.std.proofs.Common.{below_more}
 use Rattle.std.proofs.lemmas.Nat.{pow-add}
 use Rattle.nav_bits.specs.Bits.{number_at, Puts}
@@ -8,12 +8,7 @@ use Rattle.nav_bits.specs.Laws.{number_at-before}
 use Rattle.lnav_subframe.specs.Parity.{IsGood, IsSource}
 use Rattle.lnav_subframe.specs.Words.{AreGood, AreSource, last_before, word_of}
 use Rattle.part_checks.specs.declared.beidou.WordOrder.{WordOrder}
-use Rattle.part_checks.specs.Beidou.{are_code_words, are_good, parted_word}
-
-pub good_more : (bytes : List ℕ) (order : WordOrder) (k : ℕ) → are_good bytes order (k + 1)
-    ≡ (are_good bytes order k && are_code_words order k (number_at bytes (30 * k) 30))
-unfolding are_good
-good_more bytes order k = let e : k + 1 ≡ suc k = omega arith in rw e refl
+use Rattle.part_checks.specs.Beidou.{parted_word}
 
 -- the first words are parted
 abbrev pub AreParted : WordOrder → List ℕ → List ℕ → ℕ → Type 0

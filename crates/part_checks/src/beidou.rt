@@ -1,7 +1,6 @@
 //! The BCH code of BeiDou's words.
 
-ghost use Rattle.std.specs.Prelude.{◌≡◌, ◌+◌, ◌*◌, ◌<◌, ◌≤◌, ◌^◌, ◌&&◌};
-ghost use Rattle.nav_bits.specs.Bits.{number_at};
+ghost use Rattle.std.specs.Prelude.{◌≡◌, ◌<◌, ◌≤◌, ◌^◌};
 ghost use Rattle.part_checks.specs.Parity.{is_even};
 ghost use Rattle.part_checks.specs.Beidou.{IsPart, IsPartIn, are_code_words, are_good, evens};
 ghost use Rattle.part_checks.specs.Beidou.{first_code, is_code_word, order_in, parted_word};

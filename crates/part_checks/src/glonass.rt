@@ -1,6 +1,6 @@
 //! The Hamming code of GLONASS strings.
 
-ghost use Rattle.std.specs.Prelude.{◌≡◌, ◌<◌, ◌^◌};
+ghost use Rattle.std.specs.Prelude.{◌≡◌};
 ghost use Rattle.nav_bits.specs.Bits.{number_at};
 ghost use Rattle.part_checks.specs.Parity.{is_even_wide};
 ghost use Rattle.part_checks.specs.Glonass.{are_even, is_good_string};

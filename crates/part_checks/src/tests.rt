@@ -1,5 +1,7 @@
 //! Parts of each kind, and each with one wrong bit.
 
+ghost use Rattle.std.specs.Prelude.{◌*◌, ◌<◌};
+
 use crate::beidou::{WordOrder, beidou_part, order_of};
 use crate::crc::has_crc;
 use crate::glonass::is_good_string;

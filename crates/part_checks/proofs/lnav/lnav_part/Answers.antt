@@ -1,4 +1,4 @@
-use Rattle.std.proofs.Common.{◌≡◌, ◌+◌, ◌*◌, ◌%◌, refl, sym, ◌∙◌, ap, arith}
+use Rattle.std.proofs.Common.{◌≡◌, ◌*◌, ◌%◌, refl, sym, ◌∙◌, ap, arith}
 use Rattle.nav_bits.specs.Laws.{number_at-lt}
 use Rattle.lnav_subframe.specs.Parity.{IsGood}
 use Rattle.lnav_subframe.specs.Words.{last_before, word_of}
