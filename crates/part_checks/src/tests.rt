@@ -97,8 +97,7 @@ fn words_with_a_wrong_bit_are_refused(rt: HostRuntime) {
 
 #[test]
 fn subframes_with_a_wrong_bit_are_refused(rt: HostRuntime) {
-    let part = lnav_part(&Bits::from_bytes(SUBFRAME)).unwrap();
-    assert!(rt; part.get(0, 8) == 0x8b);
+    assert!(rt; lnav_part(&Bits::from_bytes(SUBFRAME)).is_some());
     for bit in 0..300usize {
         assert!(rt; lnav_part(&turned(&SUBFRAME, bit)).is_none());
     }
