@@ -99,6 +99,7 @@ fn is_sent_rule(rule: &Rule) -> bool
 }
 
 // Whether a column has times of transmission.
+#[tactic(auto, unfolding(crate::specs::Frames::is_sent_at))]
 fn is_sent_at(columns: &[Column], place: usize) -> bool
     ensures { result ≡ is_sent_at columns.now place }
 {

@@ -1,7 +1,7 @@
-use Rattle.std.proofs.Common.{◌≡◌, ◌*◌, true, sym, ap, subst, ◌∙◌}
+use Rattle.std.proofs.Common.{◌≡◌, ◌*◌, true, [], ◌∷◌, sym, ap, subst, ◌∙◌}
 use Rattle.nav_rows.specs.Rows.{row_in}
-use Rattle.sent_parts.specs.Sources.{is_message}
-use Rattle.sent_parts.specs.Frames.{faulted, row_near}
+use Rattle.sent_parts.specs.Sources.{is_message, message_of}
+use Rattle.sent_parts.specs.Frames.{faulted, message, row_near}
 use Rattle.sent_parts.proofs.frame.row_near.Goals as goal
 
 pub message_of-message-requires : goal.message_of-message-requires
@@ -12,11 +12,31 @@ message_of-message-requires c =
 pub returns-in-Ok-clause-ok : goal.returns-in-Ok-clause-ok
 unfolding row_near
 returns-in-Ok-clause-ok c =
-    ap faulted (ap (λ m. row_in c.args.kind.now.kind m c.args.reference)
-    (sym c.message_of-message.ensures) ∙ c.in-Ok.ensures.ok)
+    let k = c.args.kind.now in
+    let h = c.args.heard.now in
+    let ss = k.sources.now in
+    let said : c.message_of-message.result ≡ message k h c.args.week
+    = c.message_of-message.ensures
+    ∙ ap (λ n. message_of h.frame.now (n ∷ c.from-2.result ∷ c.from-3.result ∷ 0 ∷ []) ss)
+    c.from.ensures
+    ∙ ap (λ n. message_of h.frame.now (h.satellite ∷ n ∷ c.from-3.result ∷ 0 ∷ []) ss)
+    c.from-2.ensures
+    ∙ ap (λ n. message_of h.frame.now (h.satellite ∷ h.frequency ∷ n ∷ 0 ∷ []) ss)
+    c.from-3.ensures in
+    ap faulted (ap (λ m. row_in k.kind m c.args.reference) (sym said) ∙ c.in-Ok.ensures.ok)
 
 pub returns-in-Err-clause-err : goal.returns-in-Err-clause-err
 unfolding row_near
 returns-in-Err-clause-err c =
-    ap faulted (ap (λ m. row_in c.args.kind.now.kind m c.args.reference)
-    (sym c.message_of-message.ensures) ∙ c.in-Err.ensures.err)
+    let k = c.args.kind.now in
+    let h = c.args.heard.now in
+    let ss = k.sources.now in
+    let said : c.message_of-message.result ≡ message k h c.args.week
+    = c.message_of-message.ensures
+    ∙ ap (λ n. message_of h.frame.now (n ∷ c.from-2.result ∷ c.from-3.result ∷ 0 ∷ []) ss)
+    c.from.ensures
+    ∙ ap (λ n. message_of h.frame.now (h.satellite ∷ n ∷ c.from-3.result ∷ 0 ∷ []) ss)
+    c.from-2.ensures
+    ∙ ap (λ n. message_of h.frame.now (h.satellite ∷ h.frequency ∷ n ∷ 0 ∷ []) ss)
+    c.from-3.ensures in
+    ap faulted (ap (λ m. row_in k.kind m c.args.reference) (sym said) ∙ c.in-Err.ensures.err)
