@@ -1,4 +1,5 @@
 use Rattle.std.proofs.Common.{◌≡◌, true, length, set, sym, ap, subst, ◌∙◌, inl}
+use Rattle.std.proofs.Math.Facts.{to_z-of_z}
 use Rattle.rinex_write.specs.Columns.{AreFields}
 use Rattle.nav_rows.specs.Rows.{RowValue}
 use Rattle.sent_parts.proofs.FrameLemmas.{sent_inside, sent_set}
@@ -12,7 +13,8 @@ with_sent-requires c =
 pub returns-then-is_sent_at-clause-fields : goal.returns-then-is_sent_at-clause-fields
 returns-then-is_sent_at-clause-fields c =
     subst (λ zs. AreFields c.args.kind.now.layout.columns.now zs)
-    (sym (ap {A = RowValue} (λ row. row.columns) c.with_sent.ensures))
+    (sym (ap {A = RowValue} (λ row. row.columns) c.with_sent.ensures
+    ∙ ap (λ z. set c.args.row.columns.items c.args.kind.now.sent z) (to_z-of_z c.ranges.sent.sfits)))
     (sent_set c.args.kind.now.layout.columns.now c.args.kind.now.sent c.args.row.columns.items
     c.args.sent (sym c.is_sent_at.ensures ∙ c.if-is_sent_at.true) c.requires.fields
     (inl (c.requires.low, c.requires.high)))
