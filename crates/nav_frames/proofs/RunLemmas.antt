@@ -1,12 +1,12 @@
 -- A run over parts in turn.
-use Rattle.std.proofs.Common.{◌≡◌, ℕ, ◌<◌, ◌≤◌, ◌-◌, max, inl, inr, Bool, true, false, cond, nat_lt, List, [], ◌∷◌, ◌++◌, sym, ap, subst, ◌∙◌, append_assoc}
+use Rattle.std.proofs.Common.{◌≡◌, ℕ, ◌<◌, ◌≤◌, ◌-◌, max, inl, inr, Bool, true, false, cond, nat_lt, List, [], ◌∷◌, ◌++◌, refl, sym, ap, subst, ◌∙◌, arith, append_assoc, le-ltb}
 use Rattle.std.specs.List.{AllByRecursion}
 use Rattle.std.specs.BTreeSet.{insert_key}
 use Rattle.nav_frames.specs.declared.part.FramePart.{FramePart}
 use Rattle.nav_frames.specs.declared.rule.FrameRule.{FrameRule}
 use Rattle.nav_frames.specs.declared.verdict.Judged.{Judged}
 use Rattle.nav_frames.specs.Parts.{part_cmp}
-use Rattle.nav_frames.specs.Frames.{Stands, accepted, frames_of, frames_before}
+use Rattle.nav_frames.specs.Frames.{IsTimely, Stands, accepted, frames_of, frames_before}
 use Rattle.nav_frames.specs.Verdicts.{judged_in, AreJudged, IsRun, IsStep}
 use Rattle.nav_frames.proofs.Lists.{In, All-in, sorted_in, in_back}
 use Rattle.nav_frames.proofs.StandLemmas.{stands_taken, stands_given, given_before, all_before, later_before, nothing_before, stands_nothing, judged_append}
@@ -75,3 +75,22 @@ run_ended rules taken limit higher kept new judged all_judged m h r t =
     ]) in
     t.judged_is ∙ ap (λ (ts : List Judged). ts ++ judged_in rules t.given) r.judged_is ∙ sym (judged_append rules (frames_before limit taken) t.given)
     ∙ ap (judged_in rules) (sym (given_before kept new taken limit higher t.given m r.stands t.are_given) ∙ all_before new taken higher s all)
+
+-- where no part is late, all are accepted
+higher_all : (lag limit : ℕ) (p : FramePart) (ps : List FramePart) → AllByRecursion (λ q. limit ≤ q.begin) ps → AllByRecursion (λ q. p.begin ≤ q.begin + lag) ps
+    → AllByRecursion (λ q. max limit (p.begin - lag) ≤ q.begin) ps
+higher_all lag limit p [] a t = tt
+higher_all lag limit p (q ∷ qs) a t = (let x = a.0 in let y = t.0 in grind (arith), higher_all lag limit p qs a.1 t.1)
+
+timely_from : (lag limit : ℕ) (ps : List FramePart) → AllByRecursion (λ q. limit ≤ q.begin) ps → IsTimely lag ps → accepted lag limit ps ≡ ps
+timely_from lag limit [] a t = refl
+timely_from lag limit (p ∷ ps) a t =
+    ap (λ (b : Bool). cond b (accepted lag limit ps) (p ∷ accepted lag (max limit (p.begin - lag)) ps)) (le-ltb p.begin limit a.0)
+    ∙ ap (λ (xs : List FramePart). p ∷ xs) (timely_from lag (max limit (p.begin - lag)) ps (higher_all lag limit p ps a.1 t.0) t.1)
+
+from_zero : (ps : List FramePart) → AllByRecursion (λ q. 0 ≤ q.begin) ps
+from_zero [] = tt
+from_zero (p ∷ ps) = (omega (arith), from_zero ps)
+
+pub timely : (lag : ℕ) (ps : List FramePart) → IsTimely lag ps → accepted lag 0 ps ≡ ps
+timely lag ps t = timely_from lag 0 ps (from_zero ps) t

@@ -1,5 +1,5 @@
 -- The frames of a set of parts.
-use Rattle.std.specs.Prelude.{◌≡◌, ℕ, ◌<◌, ◌≤◌, ◌-◌, max, nat_lt, true, cond, List, [], ◌∷◌, ◌++◌, Contains, filter, Option, None, Some}
+use Rattle.std.specs.Prelude.{◌≡◌, ℕ, ◌<◌, ◌≤◌, ◌+◌, ◌-◌, max, nat_lt, true, cond, List, [], ◌∷◌, ◌++◌, Contains, filter, Option, None, Some}
 use Rattle.std.specs.List.{AllByRecursion}
 use Rattle.std.specs.BTreeSet.{insert_key}
 use Rattle.std.specs.declared.cmp.Ordering.TheVariants.{Less}
@@ -105,6 +105,11 @@ pub record AreGiven (limit : ℕ) (old : List FramePart) (given : List Frame) (n
   pub before : AllBefore limit moved
   pub begin_before : AllByRecursion (λ f. f.key.begin < limit) given
   pub none_before : NoneBefore limit new
+
+-- no part begins more than the lag before one that came earlier
+abbrev pub IsTimely : ℕ → List FramePart → Type 0
+IsTimely lag [] = Unit {0}
+IsTimely lag (p ∷ ps) = AllByRecursion (λ q. p.begin ≤ q.begin + lag) ps × IsTimely lag ps
 
 -- the parts that are not late: none begins more than the lag before one that was taken earlier
 abbrev pub accepted : ℕ → ℕ → List FramePart → List FramePart

@@ -3,7 +3,8 @@
 ghost use Rattle.std.specs.Prelude.{◌≡◌, ◌↔◌, ◌++◌, ◌≤◌, ℕ, List, All, Contains};
 ghost use Rattle.nav_frames.specs.declared.part.FramePart.{FramePart};
 ghost use Rattle.nav_frames.specs.declared.rule.FrameRule.{FrameRule};
-ghost use Rattle.nav_frames.specs.Frames.{AreFrames, Frame, frames_before, frames_of};
+ghost use Rattle.nav_frames.specs.Frames.{AreFrames, Frame, IsTimely, accepted};
+ghost use Rattle.nav_frames.specs.Frames.{frames_before, frames_of};
 ghost use Rattle.periods.specs.declared.closed.Closed.{Closed};
 ghost use Rattle.nav_frames.specs.Together.{LieBefore, LieFrom, periods_in, together};
 ghost use Rattle.nav_frames.specs.Verdicts.{IsVerdict, verdict_of};
@@ -19,6 +20,16 @@ pub fn frames_are()
 pub fn order_does_not_matter()
     ensures { (some other : List FramePart) → ((p : FramePart) → Contains some p ↔ Contains other p)
         → frames_of some ≡ frames_of other }
+{}
+
+/// Parts that come within the lag, in whatever order, are all accepted; so what is judged of them
+/// depends on their set alone.
+pub fn timely_parts_are_accepted()
+    ensures all { (lag : ℕ) (parts : List FramePart) → IsTimely lag parts
+        → accepted lag 0 parts ≡ parts }
+    ensures same { (lag : ℕ) (some other : List FramePart) → IsTimely lag some
+        → IsTimely lag other → ((p : FramePart) → Contains some p ↔ Contains other p)
+        → frames_of (accepted lag 0 some) ≡ frames_of (accepted lag 0 other) }
 {}
 
 /// Frames that begin before a limit stay: parts of later frames change none of them, and they come

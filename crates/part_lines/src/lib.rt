@@ -22,6 +22,8 @@
 mod laws;
 mod part;
 mod read;
+#[cfg(test)]
+mod tests;
 mod write;
 
 pub use crate::laws::{lines_are_short, parts_and_lines, written_parts_are_read};
