@@ -1,4 +1,4 @@
--- Which ephemerides say something new.
+-- Which ephemerides are new: they differ from the last one of their satellite in more than the time sent.
 use Rattle.std.specs.Prelude.{◌≡◌, ◌++◌, Bool, true, false, cond, ◌==◌, ◌&&◌, List, [], ◌∷◌}
 use Rattle.std.specs.Prelude.{Option, None, Some}
 use Rattle.std.specs.Map.{lookup}
@@ -9,7 +9,7 @@ use Rattle.std.specs.declared.cmp.Ordering.{Ordering}
 use Rattle.nav_again.specs.declared.ephemeris.Ephemeris.{Ephemeris}
 use Rattle.nav_again.specs.declared.ephemeris.Sender.{Sender}
 
--- an ephemeris says what the one before said: all but the time sent is equal
+-- an ephemeris repeats the one before: all but the time sent is equal
 abbrev pub is_again : Option Ephemeris → Ephemeris → Bool
 is_again None e = false
 is_again (Some before) e = pointwise int_eq before.numbers e.numbers
@@ -18,12 +18,12 @@ is_again (Some before) e = pointwise int_eq before.numbers e.numbers
 abbrev pub is_from : Sender → Ephemeris → Bool
 is_from s e = (s.kind == e.sender.kind) && (s.satellite == e.sender.satellite)
 
--- the last one of the sender among those before, of which the latest stands first
+-- the last one of the sender among those before, of which the latest is first
 abbrev pub last_from : Sender → List Ephemeris → Option Ephemeris
 last_from s [] = None
 last_from s (e ∷ before) = cond (is_from s e) (Some e) (last_from s before)
 
--- those that say something new after those before: each is compared to the last one of its sender, written or not
+-- those that are new after those before: each is compared to the last one of its sender, written or not
 abbrev pub new_after : List Ephemeris → List Ephemeris → List Ephemeris
 new_after before [] = []
 new_after before (e ∷ es) =
@@ -39,7 +39,7 @@ sender_cmp a b = ordering_then (nat_cmp a.kind b.kind) (nat_cmp a.satellite b.sa
 abbrev pub known_at : List (Sender × Ephemeris) → Sender → Option Ephemeris
 known_at known s = lookup (is_at (sender_cmp s)) known
 
--- an ephemeris is added, unless it is said again
+-- an ephemeris is added, unless it repeats the last one
 abbrev pub IsPut : Bool → Ephemeris → List Ephemeris → List Ephemeris → Type 0
 IsPut true e old new = new ≡ old
 IsPut false e old new = new ≡ old ++ e ∷ []

@@ -6,8 +6,8 @@ use crate::ephemeris::{Ephemeris, Sender};
 use std::alloc::{AllocError, Global};
 use std::collections::BTreeMap;
 
-// Whether it equals the one before in all but the time sent.
-fn is_said(before: Option<Ephemeris>, ephemeris: &Ephemeris) -> bool
+// It equals the one before in all but the time sent.
+fn is_repeated(before: Option<Ephemeris>, ephemeris: &Ephemeris) -> bool
     ensures { result ≡ is_again before ephemeris.now }
 {
     match before {
@@ -17,7 +17,7 @@ fn is_said(before: Option<Ephemeris>, ephemeris: &Ephemeris) -> bool
 }
 
 /// Whether an ephemeris differs, in more than the time it was sent, from the last one of its
-/// sender; it becomes the last one. `AllocError` where memory runs out; nothing is changed then.
+/// sender; it becomes the last one. `AllocError` if memory runs out; nothing is changed then.
 pub fn is_new(
     known: &mut BTreeMap<Sender, Ephemeris>,
     ephemeris: &Ephemeris,
@@ -28,14 +28,14 @@ pub fn is_new(
         ≡ insert_entry sender_cmp known.old.entries ephemeris.now.sender ephemeris.now) }
     ensures err { OnErr result (known.new.entries ≡ known.old.entries) }
 {
-    let said = is_said(known.get(&ephemeris.sender).copied(), ephemeris);
+    let repeated = is_repeated(known.get(&ephemeris.sender).copied(), ephemeris);
     match known.insert(ephemeris.sender, *ephemeris) {
-        Ok(_) => Ok(!said),
+        Ok(_) => Ok(!repeated),
         Err(none) => Err(none.into()),
     }
 }
 
-// Adds an ephemeris, where it says something new.
+// Adds an ephemeris that is new.
 fn put_new(
     known: &mut BTreeMap<Sender, Ephemeris>,
     ephemeris: &Ephemeris,
@@ -53,7 +53,8 @@ fn put_new(
     Ok(())
 }
 
-/// Adds those of the ephemerides that say something new, in order, to an empty list.
+/// Adds those of the ephemerides that are new, in order, to an empty list: each that differs, in
+/// more than the time it was sent, from the last one of its sender. `AllocError` if memory runs out.
 pub fn keep_new(
     alloc: Global,
     ephemerides: &[Ephemeris],

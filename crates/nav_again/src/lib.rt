@@ -1,4 +1,4 @@
-//! Of the ephemerides that satellites send in turn, those that say something new.
+//! Of the ephemerides that satellites send in turn, those that are new.
 //!
 //! An ephemeris that equals the last one of its satellite in all but the time it was sent is not
 //! written again.

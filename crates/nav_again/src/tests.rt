@@ -19,15 +19,15 @@ fn sent(satellite: u8, sent: i64, number: i64) -> Ephemeris {
 fn kept_of(alloc: Global, all: &[Ephemeris]) -> Result<[(u8, i64); 4], AllocError> {
     let mut kept = Vec::new(alloc);
     keep_new(alloc, all, &mut kept)?;
-    let mut said = [(0u8, 0i64); 4];
-    for (place, one) in said.iter_mut().zip(kept.iter()) {
+    let mut places = [(0u8, 0i64); 4];
+    for (place, one) in places.iter_mut().zip(kept.iter()) {
         *place = (one.sender.satellite, one.sent);
     }
-    Ok(said)
+    Ok(places)
 }
 
 #[test]
-fn what_is_said_again_is_left_out(rt: HostRuntime) -> Result<(), AllocError> {
+fn repeated_ephemerides_are_left_out(rt: HostRuntime) -> Result<(), AllocError> {
     let all = [
         sent(5, 0, 1),
         sent(6, 0, 1),

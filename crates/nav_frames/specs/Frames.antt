@@ -40,7 +40,7 @@ abbrev pub sorted_from : List FramePart → List FramePart → List FramePart
 sorted_from sorted [] = sorted
 sorted_from sorted (p ∷ ps) = sorted_from (insert_key part_cmp sorted p) ps
 
--- one more part before some frames: it goes into the first one, where it is of that
+-- one more part before some frames: it joins the first one, if it is of that
 abbrev pub with_part : FramePart → List Frame → List Frame
 with_part p [] = record { key = frame_of p; parts = p ∷ [] } ∷ []
 with_part p (f ∷ fs) = cond (is_of f.key p) (record { key = f.key; parts = p ∷ f.parts } ∷ fs) (record { key = frame_of p; parts = p ∷ [] } ∷ f ∷ fs)
@@ -58,7 +58,7 @@ frames_of parts = grouped (sorted_from [] parts)
 unfoldable pub frames_before : ℕ → List FramePart → List Frame
 frames_before limit parts = filter (λ f. nat_lt f.key.begin limit) (frames_of parts)
 
--- the first part, where it is of the frame
+-- the first part, if it is of the frame
 abbrev pub first_in : FrameKey → List FramePart → Option FramePart
 first_in key [] = None
 first_in key (p ∷ ps) = cond (is_of key p) (Some p) None
@@ -90,7 +90,7 @@ NoneBefore limit parts = AllByRecursion (λ p. limit ≤ p.begin) parts
 
 -- ---- a run
 
--- what is kept of some parts, where all frames that begin before the limit were given
+-- what remains of some parts after all frames that begin before the limit were given
 pub record Stands (kept parts : List FramePart) (limit : ℕ) : Type 0 where
   pub gone : List FramePart
   pub split : sorted_from [] parts ≡ gone ++ kept

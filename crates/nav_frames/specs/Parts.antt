@@ -14,7 +14,7 @@ frame_of p = record { begin = p.begin; kind = p.kind; satellite = p.satellite }
 abbrev pub is_of : FrameKey → FramePart → Bool
 is_of key p = (p.begin == key.begin) && ((p.kind == key.kind) && (p.satellite == key.satellite))
 
--- the order of frames: by the moment at which they begin, then by kind and satellite
+-- the order of frames: by the time at which they begin, then by kind and satellite
 abbrev pub frame_cmp : FrameKey → FrameKey → Ordering
 frame_cmp a b = ordering_then (nat_cmp a.begin b.begin) (ordering_then (nat_cmp a.kind b.kind) (nat_cmp a.satellite b.satellite))
 

@@ -41,7 +41,7 @@ IsVerdictBy rule set key Partial =
 IsVerdictBy rule set key Whole =
     (IsContradicted rule set key → ⊥) × HasAll rule.needed.now set key
 
--- the same where a rule was looked for; a frame of a kind without one is partial
+-- the same by the rule that was found; a frame of a kind without one is partial
 abbrev pub IsVerdictIf : Option FrameRule → (FramePart → Type 0) → FrameKey → Verdict → Type 0
 IsVerdictIf (Some rule) set key verdict = IsVerdictBy rule set key verdict
 IsVerdictIf None set key verdict = verdict ≡ Partial
@@ -104,7 +104,7 @@ pub record IsRun (rules : List FrameRule) (taken : List FramePart) (limit : ℕ)
   pub stands : Stands kept taken limit
   pub judged_is : judged ≡ judged_in rules (frames_before limit taken)
 
--- one more part is taken, where it is not late
+-- one more part is taken, if it is not late
 abbrev pub IsStep : Bool → List FrameRule → FramePart → ℕ → ℕ → ℕ → List FramePart → List Judged → List FramePart → List Judged → Type 0
 IsStep true rules p lag limit higher kept judged new_kept new_judged = (higher ≡ limit) × (new_kept ≡ kept) × (new_judged ≡ judged)
 IsStep false rules p lag limit higher kept judged new_kept new_judged =

@@ -7,7 +7,7 @@ ghost use Rattle.nav_frames.specs.declared.begin.FrameClock.{FrameClock};
 
 use gnss_week::{Moment, Second, nearest_moment, one_nearest_moment};
 
-/// How the parts of a kind say in which frame they were sent: by a count of units in the week.
+/// How the parts of a kind give the frame in which they were sent: by a count of units in the week.
 #[derive(Clone, Copy)]
 pub struct FrameClock {
     /// Seconds in a unit.
@@ -25,8 +25,8 @@ pub enum PartFault {
     Time,
 }
 
-/// The moment nearest to that of reception at which the frame of a part with this count and number
-/// may begin.
+/// The GPS time, in seconds, nearest to that of reception at which the frame of a part with this
+/// count and number may begin.
 pub fn frame_begin(clock: &FrameClock, received: Moment, count: u32, number: u8) -> Moment
     requires week { IsWeek (week_of received) }
     ensures { IsNearestMoment received (begin_second clock.now count number) result }
@@ -37,8 +37,8 @@ pub fn frame_begin(clock: &FrameClock, received: Moment, count: u32, number: u8)
     nearest_moment(received, Second::from_number(second))
 }
 
-/// The same, where it is no further from the moment of reception than a tolerance in seconds;
-/// otherwise the clock of the receiver or the bits are wrong, and the part is rejected.
+/// The same, if it is no further from the time of reception than a tolerance in seconds; otherwise
+/// the clock of the receiver or the bits are wrong, and the part is rejected.
 pub fn begin_within(
     clock: &FrameClock,
     tolerance: u32,
@@ -62,8 +62,8 @@ pub fn begin_within(
     Ok(begin)
 }
 
-/// Parts of a frame that begins at `m` say so, each by itself, where it is received within half a
-/// week of `m`.
+/// Parts of a frame that begins at `m` give the same begin, each by itself, if each is received
+/// within half a week of `m`.
 pub fn parts_of_a_frame_agree()
     ensures { (clock : FrameClock) (m s t count other number more a b : ℕ)
         → begin_second clock count number ≡ m % 604800

@@ -24,7 +24,7 @@ impl Model for Frames {
     ghost view = { λ frames. frames.parts.keys };
 }
 
-// The first part, where it is of the frame.
+// The first part, if it is of the frame.
 fn first_of(parts: &BTreeSet<FramePart>, key: FrameKey) -> Option<FramePart>
     ensures { result ≡ first_in key parts.now.keys }
 {
@@ -61,8 +61,8 @@ impl Frames {
         }
     }
 
-    /// Takes a part; one that is there already changes nothing. `AllocError` where memory runs
-    /// out; nothing is changed then.
+    /// Adds a part; one that is there already changes nothing. `AllocError` if memory runs out;
+    /// nothing is changed then.
     pub fn take(&mut self, part: &FramePart) -> Result<(), AllocError>
         ensures ok { OnOk result (self.new ≡ insert_key part_cmp self.old part.now) }
         ensures err { OnErr result (self.new ≡ self.old) }
@@ -74,9 +74,8 @@ impl Frames {
         }
     }
 
-    /// The first frame, where it begins before the limit: its parts, in order, leave for `frame`;
-    /// `false` where there is none. `AllocError` where memory runs out; what is kept is of no use
-    /// then.
+    /// Moves the parts of the first frame, in order, to `frame`, if it begins before the limit;
+    /// `false` if none does. `AllocError` if memory runs out; what remains is of no use then.
     pub fn next_frame(&mut self, limit: u64, frame: &mut Vec<FramePart>) -> Result<bool, AllocError>
         ensures given { IfOk result (λ given. given ≡ true
             → IsFirstGiven self.old frame.new.items self.new) }

@@ -32,8 +32,8 @@ pub fn timely_parts_are_accepted()
         → frames_of (accepted lag 0 some) ≡ frames_of (accepted lag 0 other) }
 {}
 
-/// Frames that begin before a limit stay: parts of later frames change none of them, and they come
-/// first in the frames of all parts.
+/// Frames that begin before a limit stay: parts of later frames change none of them, and they are
+/// the first of the frames of all parts.
 pub fn closed_frames_stay()
     ensures later { (limit : ℕ) (parts later : List FramePart) → All (λ p. limit ≤ p.begin) later
         → frames_before limit (parts ++ later) ≡ frames_before limit parts }
@@ -49,7 +49,7 @@ pub fn verdicts_are()
 {}
 
 /// Periods and frames in one order: the periods stay as they are, and what is given at several
-/// limits in turn is what is given at once.
+/// limits in turn equals what is given at once.
 pub fn periods_and_frames_go_together()
     ensures stay { (periods : List Closed) (frames : List Frame)
         → periods_in (together periods frames) ≡ periods }

@@ -1,8 +1,8 @@
 //! Frames of received parts: the strings, subframes or pages of one satellite that were sent in one
 //! frame.
 //!
-//! A part is bits with a place: the moment at which its frame begins, the kind of message, the
-//! satellite, and its number in the frame. All four are read from the part and its stamp alone.
+//! A part is bits with a place: the GPS time at which its frame begins, the kind of message, the
+//! satellite, and its number in the frame. All four are read from the part and its time tag alone.
 //! The frames depend on the set of the parts; [`Frames`] gives each frame once, in order, as soon
 //! as no further part can belong to it.
 #![tactic(auto)]

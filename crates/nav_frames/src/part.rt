@@ -4,7 +4,7 @@ ghost use Rattle.nav_frames.specs.Parts.{frame_of, is_of};
 /// Which frame: when it begins, of which kind of message, and of which satellite.
 #[derive(Clone, Copy, PartialEq, Eq, PartialOrd, Ord, Drop)]
 pub struct FrameKey {
-    /// The moment at which the frame begins, in seconds.
+    /// The GPS time at which the frame begins, in seconds.
     pub begin: u64,
     /// The kind of message.
     pub kind: u8,
@@ -15,7 +15,7 @@ pub struct FrameKey {
 /// A string, subframe or page of a frame, as received: its place and its bits.
 #[derive(Clone, Copy, PartialEq, Eq, PartialOrd, Ord, Drop)]
 pub struct FramePart {
-    /// The moment at which the frame begins, in seconds.
+    /// The GPS time at which the frame begins, in seconds.
     pub begin: u64,
     /// The kind of message.
     pub kind: u8,

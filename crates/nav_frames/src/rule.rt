@@ -14,7 +14,7 @@ pub struct FrameRule {
     pub clock: FrameClock,
     /// The numbers of the parts that an ephemeris needs.
     pub needed: &'static [u8],
-    /// The numbers of further parts that are used where they were received.
+    /// The numbers of further parts that are used if they were received.
     pub useful: &'static [u8],
 }
 
@@ -37,8 +37,8 @@ pub const KIND_NAVIC: u8 = b'I';
 /// Galileo F/NAV (Galileo OS SIS ICD 2.1, 4.2): pages of 10 s, counted by their TOW.
 pub const KIND_FNAV: u8 = b'E';
 
-/// SBAS message type 9 (RTCA DO-229, A.4.4.11): a message of 1 s, which tells no second of the
-/// week, counted by that of its reception.
+/// SBAS message type 9 (RTCA DO-229, A.4.4.11): a message of 1 s, which has no second of the week,
+/// counted by that of its reception.
 pub const KIND_SBAS: u8 = b'S';
 
 // A kind with the unit, shift and step of its clock.
@@ -57,8 +57,8 @@ macro_rules! rule {
     };
 }
 
-/// The kinds. Shifts are modulo a week: BeiDou's time is 14 s behind that of GPS, GLONASS counts in
-/// UTC + 3 h, 10,782 s ahead of it (18 leap seconds).
+/// The kinds. Shifts are modulo a week: BeiDou's time is GPS time less 14 s, GLONASS counts in
+/// UTC + 3 h, which is GPS time and 10,782 s (18 leap seconds).
 pub const FRAME_RULES: [FrameRule; 7] = [
     rule!(KIND_FDMA, 30, 594_018, 0, &[1, 2, 3, 4], &[5]),
     rule!(KIND_D1, 1, 14, 6, &[1, 2, 3], &[]),
@@ -69,7 +69,7 @@ pub const FRAME_RULES: [FrameRule; 7] = [
     rule!(KIND_SBAS, 1, 604_799, 0, &[9], &[]),
 ];
 
-/// The rule of a kind: the first that names it; `None` where there is none.
+/// The rule of a kind: the first that names it; `None` for a kind without one.
 pub fn rule_of(rules: &[FrameRule], kind: u8) -> Option<FrameRule>
     ensures { result ≡ rule_of rules.now kind }
 {

@@ -28,20 +28,20 @@ fn judge(
     }
 }
 
-/// Adds the frames that begin before the limit, in order, with their verdicts; `room` is for the
-/// parts of one of them.
+/// Adds the frames that begin before the limit, in order, with their verdicts; `frame` is a buffer
+/// for the parts of one of them.
 pub fn judge_frames(
     frames: &mut Frames,
     limit: u64,
     rules: &[FrameRule],
-    room: &mut Vec<FramePart>,
+    frame: &mut Vec<FramePart>,
     judged: &mut Vec<Judged>,
 ) -> Result<(), AllocError>
     ensures { OnOk result (AreJudged rules.now limit frames.old judged.old.items frames.new
         judged.new.items) }
 {
-    'judging: while frames.next_frame(limit, room)? {
-        judge(rules, room, judged)?;
+    'judging: while frames.next_frame(limit, frame)? {
+        judge(rules, frame, judged)?;
     }
     Ok(())
 }
@@ -54,7 +54,7 @@ fn take_part(
     lag: u64,
     limit: u64,
     rules: &[FrameRule],
-    room: &mut Vec<FramePart>,
+    frame: &mut Vec<FramePart>,
     judged: &mut Vec<Judged>,
 ) -> Result<u64, AllocError>
     ensures fits { IfOk result (λ higher. higher ≤ 18446744073709551615) }
@@ -66,13 +66,13 @@ fn take_part(
     }
     frames.take(part)?;
     let higher = limit.max(part.begin.saturating_sub(lag));
-    judge_frames(frames, higher, rules, room, judged)?;
+    judge_frames(frames, higher, rules, frame, judged)?;
     Ok(higher)
 }
 
 /// Adds to an empty list the frames of the parts, in order, with their verdicts. Each is added as
-/// soon as no further part can belong to it, which is where a part of a frame that begins more than
-/// `lag` later was taken; a part that comes later than that is left out.
+/// soon as no further part can belong to it: when a part of a frame that begins more than `lag`
+/// seconds later was received. A part that comes later than that is left out.
 pub fn add_frames(
     alloc: Global,
     rules: &[FrameRule],
@@ -86,11 +86,11 @@ pub fn add_frames(
         ≡ judged_in rules.now (frames_of (accepted lag 0 parts.now))) }
 {
     let mut frames = Frames::new(alloc);
-    let mut room: Vec<FramePart> = Vec::new(alloc);
+    let mut frame: Vec<FramePart> = Vec::new(alloc);
     let mut limit: u64 = 0;
     'taking: for part in parts {
-        limit = take_part(&mut frames, part, lag, limit, rules, &mut room, judged)?;
+        limit = take_part(&mut frames, part, lag, limit, rules, &mut frame, judged)?;
     }
-    judge_frames(&mut frames, u64::MAX, rules, &mut room, judged)?;
+    judge_frames(&mut frames, u64::MAX, rules, &mut frame, judged)?;
     Ok(())
 }

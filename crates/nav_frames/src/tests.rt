@@ -157,16 +157,11 @@ fn are_judged(alloc: Global) -> Result<bool, AllocError> {
     for part in &received() {
         frames.take(part)?;
     }
-    let mut room = Vec::new(alloc);
+    let mut frame = Vec::new(alloc);
     let mut judged = Vec::new(alloc);
-    judge_frames(&mut frames, 1000, &FRAME_RULES, &mut room, &mut judged)?;
+    judge_frames(&mut frames, 1000, &FRAME_RULES, &mut frame, &mut judged)?;
     let all_alike = judged.iter().zip(FRAMES.iter()).all(|(one, row)| {
-        (
-            one.key.begin,
-            one.key.kind,
-            one.key.satellite,
-            one.verdict,
-        ) == *row
+        (one.key.begin, one.key.kind, one.key.satellite, one.verdict) == *row
     });
     Ok(all_alike && judged.len() == FRAMES.len())
 }

@@ -74,8 +74,8 @@ fn verdict_by(rule: &FrameRule, parts: &[FramePart]) -> Verdict
     }
 }
 
-/// The verdict on the parts of a frame of a kind, in order, by the rule of the kind; partial where
-/// it has none.
+/// The verdict on the parts of a frame of a kind, in order, by the rule of the kind; partial if it
+/// has none.
 pub fn verdict_on(rules: &[FrameRule], kind: u8, parts: &[FramePart]) -> Verdict
     ensures { result ≡ verdict_of rules.now kind parts.now }
 {

@@ -15,7 +15,7 @@ with_bytes stamp kind satellite (Ok bytes) =
     Some (record { stamp = stamp; kind = kind; satellite = satellite; bytes = record { items = bytes } })
 with_bytes stamp kind satellite (Err e) = None
 
--- the number of two digits, where it is not 0
+-- the number of two digits, if it is not 0
 unfoldable pub satellite_in : ℕ → ℕ → Option ℕ
 satellite_in tens units =
     let number = (tens - 48) * 10 + (units - 48) in

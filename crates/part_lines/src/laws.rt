@@ -7,8 +7,7 @@ ghost use Rattle.part_lines.specs.Lines.{IsPart, IsPartLine, part_text, written_
 ghost use Rattle.part_lines.specs.Reading.{part_in};
 ghost use Rattle.part_lines.specs.declared.part.PartLine.{PartLine};
 
-/// A line is read as a part exactly where it is a line of that part; so it is a line of at most
-/// one.
+/// A line is read as a part exactly if it is a line of that part, so it is a line of at most one.
 pub fn parts_and_lines()
     ensures read { (line : List ℕ) (part : PartLine)
         → (part_in line ≡ Some part) ↔ IsPartLine part line }

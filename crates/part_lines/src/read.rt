@@ -1,10 +1,11 @@
 //! Reading a line.
 
-ghost use Rattle.std.specs.Prelude.{◌≡◌, ◌≤◌, ◌<◌, ◌^◌, length, take};
+ghost use Rattle.std.specs.Prelude.{◌≡◌, ◌≤◌, ◌<◌, ◌^◌, IfSome, length, take};
 ghost use Rattle.std.specs.List.{prefix_len};
 ghost use Rattle.std.specs.Char.{is_ascii_digit};
 ghost use Rattle.std.specs.Str.Parse.{digits_value};
 ghost use Rattle.capture_lines.specs.Reading.{number_in};
+ghost use Rattle.part_lines.specs.Lines.{IsPart};
 ghost use Rattle.part_lines.specs.Reading.{bits_in, body_in, part_in, satellite_in};
 
 use crate::part::PartLine;
@@ -15,9 +16,10 @@ use hex::decode_to_slice;
 ///
 /// The time tag has one to ten decimal digits and is at most 4,294,967,295; there are 10 to 80
 /// hexadecimal digits, an even number, of either case.
-#[tactic(auto, unfolding(crate::specs::Reading::part_in))]
+#[tactic(auto, unfolding(crate::specs::Reading::part_in), using(crate::proofs::Parts::read_is_part))]
 pub fn read_part(line: &[u8]) -> Option<PartLine>
-    ensures { result ≡ part_in line.now }
+    ensures read { result ≡ part_in line.now }
+    ensures valid { IfSome result (λ part. IsPart part) }
 {
     let count = digit_count(line);
     match decimal_number(line, count) {
@@ -99,16 +101,16 @@ fn read_bits(stamp: u32, text: &[u8]) -> Option<PartLine>
         return None;
     };
     let digits = &text[4..];
-    let mut room = [0u8; 40];
+    let mut bytes = [0u8; 40];
     let count = digits.len() / 2;
-    if decode_to_slice(digits, &mut room[..count]).is_err() {
+    if decode_to_slice(digits, &mut bytes[..count]).is_err() {
         return None;
     }
     Some(PartLine {
         stamp,
         kind: text[0],
         satellite,
-        bytes: copied(&room[..count]),
+        bytes: copied(&bytes[..count]),
     })
 }
 
