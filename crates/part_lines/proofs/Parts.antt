@@ -1,5 +1,5 @@
 -- A line and the part read from it.
-use Rattle.std.proofs.Common.{◌≡◌, ℕ, ◌+◌, ◌*◌, ◌^◌, ◌<◌, ◌≤◌, List, [], ◌∷◌, ◌++◌, length, take, drop, Option, Some, None, refl, sym, ap, subst, ◌∙◌, arith}
+use Rattle.std.proofs.Common.{◌≡◌, ℕ, ◌^◌, ◌<◌, ◌≤◌, List, ◌∷◌, ◌++◌, length, take, drop, Option, Some, None, refl, sym, ap, subst, ◌∙◌, arith}
 use Rattle.std.specs.Prelude.{decimal, IfSome}
 use Rattle.std.proofs.lemmas.List.{take-append-drop, length-append}
 use Rattle.std.proofs.Math.Seq.{take-append_seam, drop-append_seam}
@@ -53,12 +53,12 @@ read_line line part e =
     line_with line (take n line) (drop n line) (number_in (take n line)) part (sym (take-append-drop n line)) (λ stamp f. text_of_number stamp (take n line) (prefix_digits line) f) e
 
 -- what is read is a part
-valid_at : (line : List ℕ) (o : Option PartLine) → part_in line ≡ o → IfSome o (λ part. IsPart part)
-valid_at line None e = tt
-valid_at line (Some part) e = (read_line line part e).part_is
+valid_body : (stamp : ℕ) (rest : List ℕ) (o : Option PartLine) → HasBody stamp o rest → IfSome o (λ part. IsPart part)
+valid_body stamp rest None h = tt
+valid_body stamp rest (Some part) h = h.1.part_is
 
-pub read_is_part : (line : List ℕ) → IfSome (part_in line) (λ part. IsPart part)
-read_is_part line = valid_at line (part_in line) refl
+pub read_is_part : (stamp : ℕ) (rest : List ℕ) (o : Option PartLine) → o ≡ body_in stamp rest → IfSome o (λ part. IsPart part)
+read_is_part stamp rest o e = valid_body stamp rest o (subst (λ (x : Option PartLine). HasBody stamp x rest) (sym e) (body_of_rest stamp rest))
 
 -- what is written is a line of the part
 pub written : (part : PartLine) → IsPart part → part.stamp < 2 ^ 32 → IsBytes part.bytes.items → IsPartLine part (written_line part)

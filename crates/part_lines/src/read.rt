@@ -16,7 +16,7 @@ use hex::decode_to_slice;
 ///
 /// The time tag has one to ten decimal digits and is at most 4,294,967,295; there are 10 to 80
 /// hexadecimal digits, an even number, of either case.
-#[tactic(auto, unfolding(crate::specs::Reading::part_in), using(crate::proofs::Parts::read_is_part))]
+#[tactic(auto, unfolding(crate::specs::Reading::part_in))]
 pub fn read_part(line: &[u8]) -> Option<PartLine>
     ensures read { result ≡ part_in line.now }
     ensures valid { IfSome result (λ part. IsPart part) }
