@@ -1,6 +1,6 @@
 -- The parts of a frame name one moment.
-use Rattle.std.proofs.Common.{◌≡◌, ℕ, ◌<◌, ◌≤◌, ◌+◌, ◌%◌, refl, sym, ap, subst, ◌∙◌, arith}
-use Rattle.gnss_week.specs.Weeks.{IsNearestMoment, second_of}
+use Rattle.std.proofs.Common.{◌≡◌, ℕ, ◌<◌, ◌≤◌, ◌+◌, ◌%◌, sym}
+use Rattle.gnss_week.specs.Weeks.{IsNearestMoment}
 
 pub one_begin : (one : (t second m n : ℕ) → IsNearestMoment t second m → IsNearestMoment t second n → m ≡ n)
     → (m s second a : ℕ) → second ≡ m % 604800 → m ≤ s + 302400 → s < m + 302400 → IsNearestMoment s second a → a ≡ m
