@@ -39,7 +39,7 @@ run() {
 # What is there, and what it should be
 is_same() { cmp -s "$2" "$3" || differs "$1" "$2 is not $3"; }
 # What navbridge makes of a file of which all systems are converted to RINEX 4: the records of GPS and Galileo I/NAV
-bridged_part() { awk '/^>/ { other = !/^> (EPH|ION) (G.. LNAV|E.. I.?NAV)/ } !other' "$1"; }
+bridged_part() { awk '/^>/ { other = !/^> (EPH (G.. LNAV|E.. INAV)|ION (G.. LNAV|E.. IFNV))/ } !other' "$1"; }
 # What is not there
 is_gone() { [ ! -e "$2" ] || differs "$1" "$2 is there"; }
 
@@ -363,8 +363,8 @@ cat older.24n older.24g older.24h > joined.24n
 run "RINEX 2 of three systems, joined" 0 "; nothing rejected, nothing skipped" "${date[@]}" -t rinex --overwrite -o joined.rnx joined.24n
 sed -n '1,/END OF HEADER/p' every4.rnx > parts.rnx
 for it in n g h; do
-  run "RINEX 2 of one" 0 - -q "${date[@]}" --overwrite -o part.rnx "older.24$it"
-  sed '1,/END OF HEADER/d' part.rnx >> parts.rnx
+  run "RINEX 2 of one" 0 - -q "${date[@]}" --overwrite -o single.rnx "older.24$it"
+  sed '1,/END OF HEADER/d' single.rnx >> parts.rnx
 done
 is_same "RINEX 2 of three systems, joined" joined.rnx parts.rnx
 lines=$(wc -l < older.24n)

@@ -419,7 +419,7 @@ def archived(draw, records, further):
     if version[0] == "4":
         beside = draw.sample(further, draw.randrange(6))
         texts += [it for it, _ in beside]
-    texts += [texts[0].replace(".", "x")] * (draw.randrange(4) == 0)
+    texts += [texts[0].replace(".", "x", 1)] * (draw.randrange(4) == 0)  # whose data sources are as they were
     faults["rejected", some[0].system] += len(texts) - len(some) - len(beside)
     if version[0] != "2" and draw.randrange(4) == 0:
         texts.append("X07 2024 01 01 00 00 00 0.000000000000D+00\n" if version[0] == "3" else "> EPH X07 LONG\n" + "X07\n" * 12)
