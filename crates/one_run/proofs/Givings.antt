@@ -27,7 +27,7 @@ says_given f m taken b a WriteFault says = (says.0, accepts_given f m.counts _ s
 says_given f m taken b a ReportFault says = (says.0, says.1, accepts_given f m.counts _ says.2)
 says_given f m taken b a NotThisForm says = (ap (option_map f) says.0, refuses_given f m.counts _ says.1, says.2, says.3)
 says_given f m taken b a TooLong says = says
-says_given f m taken b a NoMemory says = (says.0, accepts_given f m.counts _ says.1)
+says_given f m taken b a NoMemory says = (says.0, accepts_given f m.counts _ says.1, says.2)
 
 done_given : {C D S T U : Type 0} (f : C → D) (m : Meaning C) (b a : World S T U) (counts : C) → Done m b a counts → Done (giving f m) b a (f counts)
 done_given f m b a counts done = record {
@@ -51,7 +51,8 @@ broke_given f m b a fault broke = record {
   text = broke.text;
   told = broke.told;
   ahead = broke.ahead;
-  no_counts = broke.no_counts;
+  stopped = broke.stopped;
+  counts_last = broke.counts_last;
   cause = broke.cause;
   leaves = record { unread = broke.leaves.unread; silent = broke.leaves.silent };
   says = says_given f m broke.taken b a fault broke.says;

@@ -1,5 +1,5 @@
 -- The contract of a run: what it writes and reports of its input, and how it ended.
-use Rattle.std.specs.Prelude.{◌≡◌, ◌<◌, ℕ, Bool, true, false, List, [], length, Option, None, Some, Result, Ok, Err, IfSome, IsSome, IsTrue, if◌then◌else◌}
+use Rattle.std.specs.Prelude.{◌≡◌, ◌<◌, ◌⊎◌, ℕ, Bool, true, false, List, [], length, Option, None, Some, Result, Ok, Err, IfSome, IsSome, IsTrue, if◌then◌else◌}
 use Rattle.std.specs.Io.KnownBytes.{Appends, Consumes, IsAtEnd}
 use Rattle.nav_io.specs.Causes.{Rose}
 use Rattle.nav_io.specs.Prefix.{AppendsPrefix, IsPrefix}
@@ -30,7 +30,7 @@ pub record Meaning (C : Type 0) : Type 0 where
   pub rejections : List ℕ → List ℕ
   -- what it has written and reported at least once these bytes were read, whatever fails
   pub least : Texts
-  -- exactly what was written and reported of the bytes read when a read fails, if the meaning determines it
+  -- exactly what is written and reported of bytes before more is read, if the meaning determines it
   pub flushed : Option Texts
 
 -- nothing: the least output or report if no more is guaranteed
@@ -43,6 +43,10 @@ pub record AppendsBetween (old new : Option (List ℕ)) (least whole : List ℕ)
   pub within : IsPrefix prefix whole
   pub no_less : IsPrefix least prefix
   pub grew : Appends old new prefix
+
+-- known bytes grew by a text that begins with this one
+abbrev pub AppendsAll : Option (List ℕ) → Option (List ℕ) → List ℕ → Type 0
+AppendsAll old new text = (all : List ℕ) × IsPrefix text all × Appends old new all
 
 -- Input, output and report as a run sees them: the objects, the bytes known of them, whether the
 -- input is known not to fail, and the counts of errors.
@@ -94,6 +98,20 @@ abbrev pub IsAheadOf : Texts → Option (List ℕ) → Option (List ℕ) → Opt
 IsAheadOf whole input written written_new reported reported_new =
     IfSome input (λ bytes. AppendsPrefix written written_new (whole.output bytes) × AppendsPrefix reported reported_new (whole.report bytes))
 
+-- output and report stop at one place: of each beginning of the input both have all that it decides, or neither has more
+abbrev pub StopAtOnePlace : Option Texts → Option (List ℕ) → Option (List ℕ) → Option (List ℕ) → Option (List ℕ) → Option (List ℕ) → Type 0
+StopAtOnePlace None input written written_new reported reported_new = Unit {0}
+StopAtOnePlace (Some decided) input written written_new reported reported_new =
+    IfSome input (λ bytes. (front : List ℕ) → IsPrefix front bytes
+        → (AppendsAll written written_new (decided.output front) × AppendsAll reported reported_new (decided.report front))
+        ⊎ (AppendsPrefix written written_new (decided.output front) × AppendsPrefix reported reported_new (decided.report front)))
+
+-- no counts were reported, or the report failed after the input was read to its end and the whole output written
+abbrev pub CountsAreLast : {C S T U : Type 0} → Meaning C → List ℕ → World S T U → World S T U → BridgeFault → Type 0
+CountsAreLast m taken before after fault =
+    IfSome (bytes_for m before) (λ bytes. AppendsPrefix before.reported after.reported (m.rejections bytes))
+    ⊎ ((fault ≡ ReportFault) × IsAtEnd (bytes_for m after) × Appends before.written after.written (m.whole.output taken))
+
 -- an object that the run does not use is unchanged
 pub record Leaves {C S T U : Type 0} (m : Meaning C) (before after : World S T U) : Type 0 where
   pub unread : m.reads ≡ false → after.input ≡ before.input
@@ -128,18 +146,19 @@ Says m taken before after ReportFault = (m.reports ≡ true) × Rose before.repo
 Says m taken before after NotThisForm =
     (m.counts taken ≡ None) × Refuses m before × (after.output ≡ before.output) × (after.report ≡ before.report)
 Says m taken before after TooLong = length taken ≡ m.limit
-Says m taken before after NoMemory = (m.memory ≡ true) × Accepts m before
+Says m taken before after NoMemory = (m.memory ≡ true) × Accepts m before × (length taken < m.limit)
 
 -- The run ended early with an error: a prefix of the output of the bytes read was written, and a
 -- prefix of their report, neither less than its least; both are prefixes of what the complete input
--- gives. Unless the report failed, no counts were reported. Nothing else failed.
+-- gives. Both stop at one place, and counts are reported last. Nothing else failed.
 pub record Broke {C S T U : Type 0} (m : Meaning C) (before after : World S T U) (fault : BridgeFault) : Type 0 where
   pub taken : List ℕ
   pub consumes : Consumes (bytes_for m before) (bytes_for m after) taken
   pub text : AppendsBetween before.written after.written (m.least.output taken) (m.whole.output taken)
   pub told : AppendsBetween before.reported after.reported (m.least.report taken) (m.whole.report taken)
   pub ahead : IsAheadOf m.whole (bytes_for m before) before.written after.written before.reported after.reported
-  pub no_counts : (fault ≡ ReportFault → ⊥) → IfSome (bytes_for m before) (λ bytes. AppendsPrefix before.reported after.reported (m.rejections bytes))
+  pub stopped : StopAtOnePlace m.flushed (bytes_for m before) before.written after.written before.reported after.reported
+  pub counts_last : CountsAreLast m taken before after fault
   pub cause : HasItsCause {T = Unit {0}} (faults_in before) (faults_in after) (Err fault)
   pub leaves : Leaves m before after
   pub says : Says m taken before after fault
