@@ -7,7 +7,7 @@ use Rattle.nav_io.specs.Prefix.{AppendsPrefix}
 use Rattle.one_run.specs.declared.fault.BridgeFault.{BridgeFault}
 use Rattle.one_run.specs.declared.fault.BridgeFault.TheVariants.{ReadFault, WriteFault, ReportFault, NotThisForm, TooLong, NoMemory}
 use Rattle.one_run.specs.Causes.{HasItsCause, faults_of}
-use Rattle.one_run.specs.Runs.{Accepts, Broke, Done, Ended, IsAheadOf, Leaves, Meaning, Says, Texts, World, bytes_for, faults_in}
+use Rattle.one_run.specs.Runs.{Accepts, Broke, Done, Ended, IsAheadOf, Leaves, Meaning, Texts, World, bytes_for, faults_in}
 use Rattle.one_run.specs.Ends.{EndedBy, fault_status, status_of}
 use Rattle.one_run.proofs.Prefixes.{no_prefix}
 

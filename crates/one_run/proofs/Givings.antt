@@ -1,5 +1,5 @@
 -- A run that ended as its meaning says, whatever is read of its counts.
-use Rattle.std.proofs.Common.{◌≡◌, ℕ, List, Bool, false, true, Option, None, Some, Result, Ok, Err, refl, sym, ap, subst}
+use Rattle.std.proofs.Common.{◌≡◌, ℕ, List, false, true, Option, None, Some, Result, Ok, Err, refl, sym, ap, subst}
 use Rattle.std.specs.Prelude.{IfErr, IfSome, IsSome, IsOkAnd, MatchResult, OnErr, option_map}
 use Rattle.one_run.specs.Ends.{giving, status_of, uncounted}
 use Rattle.one_run.specs.Runs.{Broke, Done, Ended, IsAheadOf, Meaning, Says, World, bytes_for}
