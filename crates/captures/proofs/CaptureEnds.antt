@@ -1,5 +1,5 @@
 -- How a run over a capture ends: in its first line, the leading text, the further lines, the trailing text, or done.
-use Rattle.std.proofs.Common.{◌≡◌, ℕ, ◌+◌, ◌-◌, ◌<◌, ◌≤◌, ◌^◌, true, false, List, [], ◌∷◌, ◌++◌, length, take, drop, length-drop, refl, sym, ap, subst, ◌∙◌, arith, ⊎_elim, append_assoc, append-nil}
+use Rattle.std.proofs.Common.{◌≡◌, ℕ, ◌+◌, ◌-◌, ◌<◌, ◌≤◌, ◌^◌, true, false, List, [], ◌∷◌, ◌++◌, length, take, drop, length-drop, inl, inr, refl, sym, ap, subst, ◌∙◌, arith, ⊎_elim, append_assoc, append-nil}
 use Rattle.std.specs.Prelude.{Option, None, Some, Err, IsTrue, ◌⊎◌}
 use Rattle.std.proofs.lemmas.Bool.{true≢false}
 use Rattle.std.proofs.lemmas.List.{take-append-drop}
@@ -21,19 +21,20 @@ use Rattle.captures.specs.declared.counts.Said.{Said}
 use Rattle.one_run.specs.declared.fault.BridgeFault.{BridgeFault}
 use Rattle.one_run.specs.declared.fault.BridgeFault.TheVariants.{ReadFault, WriteFault, ReportFault, TooLong, NoMemory, NotThisForm}
 use Rattle.outlets.specs.Targets.{back_text, prefix_text}
-use Rattle.captures.specs.Captures.{Capture, accepted_line, capture_in, capture_meaning, capture_of, capture_with, counts_in, counts_of, counts_text, least_output, least_report, output_of, periods, refusals_text, report_of_capture, flushed_output, flushed_report, flushed_text, target_meaning, target_of, texts_of}
+use Rattle.captures.specs.Captures.{Capture, accepted_line, capture_in, capture_meaning, capture_of, capture_with, counts_in, counts_of, counts_text, least_output, least_report, output_of, periods, refusals_text, report_of_capture, flushed_output, flushed_report, flushed_text, flushed_texts, target_meaning, target_of, texts_of}
 use Rattle.captures.specs.declared.hearing.Hearing.{Hearing}
 use Rattle.captures.specs.Conversions.{ConvertsAll, ConversionBroke, ConversionSays}
 use Rattle.captures.specs.Converts.{AcceptsHead, CaptureAhead, CapturePrefix, GivesHead, GivesNoHead, RejectionsPrefix, Stop, StopSays, closed_texts, no_tally}
 use Rattle.captures.specs.Notes.{line_report, tallied}
 use Rattle.captures.specs.Reports.{count_in, is_late, is_malformed, is_refused_event, is_unused}
 use Rattle.one_run.specs.Causes.{Faults, HasItsCause, faults_of}
-use Rattle.one_run.specs.Runs.{AppendsBetween, Broke, Done, Leaves, Says, World}
+use Rattle.one_run.specs.Runs.{AppendsBetween, Broke, Done, Leaves, Says, StopAtOnePlace, World}
 use Rattle.captures.specs.Flushed.{said_of, with_counts}
 use Rattle.captures.proofs.CapturePrefixes.{Follow, accepts_first, capture_by, capture_lines, prefix_all, prefix_head, prefixes_of, known_lines, last_all, last_prefix, last_texts, least_prefix, least_none, least_reported, lines_follow, none_reported, nothing_part, output_is, refuses_first, refuses_none, rejections_of, report_prefix, report_is, flushed_is, flushed_report_is}
 use Rattle.captures.proofs.Converting.{all_lines, ended_lines}
 use Rattle.one_run.proofs.Surface.{between_behind, between_within, nothing_told, prefix_of, prefix_same, taken_all}
 use Rattle.captures.proofs.Prefixes.{LogLaws, appends_whole, prefix_behind, prefix_more, prefix_nil, prefix_trans}
+use Rattle.captures.proofs.Stopping.{conversion_stopped_at, end_stopped_at, head_stopped_at}
 use Rattle.captures.proofs.Writing.{texts_prefix}
 
 -- lines of which none was read
@@ -135,7 +136,9 @@ head_part to week left left1 written written_new reported old new head fresh h (
         prefix_head to week head h.line left written written_new reported h.accepted (known_lines left left1 old new (h.line ∷ []) h.gives.reads fresh.rest fresh.ended) (prefix, within, text),
         last_prefix to week left left1 written written_new (prefix, within, text),
       );
-      no_counts = λ other. nothing_told (λ bytes. refusals_text (capture_of week bytes)) left reported reported refl;
+      stopped = head_stopped_at to week head h.line left written written_new reported reported h.accepted (known_lines left left1 old new (h.line ∷ []) h.gives.reads fresh.rest fresh.ended)
+          (prefix, within, text) (Appends-nil reported);
+      counts_last = inl (nothing_told (λ bytes. refusals_text (capture_of week bytes)) left reported reported refl);
       says = head_accepts week left left1 old new head fresh h;
     }
 
@@ -167,6 +170,13 @@ convert_rejections to week None left1 left2 written1 written2 reported reported2
 convert_rejections to week (Some bytes) left1 left2 written1 written2 reported reported2 middle new hearing head line fault accepted p k =
     rejections_of week head line (p.given ++ p.last) k.0 bytes reported reported2 accepted k.1 (prefix_of reported reported2 _ _ p.report)
 
+convert_stopped : (laws : LogLaws) (to : Target) (week : Option ℕ) (left left1 left2 written written1 written2 reported reported2 : Option (List ℕ)) (middle new : LinesState) (hearing : Hearing) (head : Accepted) (line : Line) (fault : BridgeFault) → accepted_line week line ≡ Some head
+    → Appends written written1 (prefix_text to) → (p : ConversionBroke to head [] left1 left2 middle new hearing written1 written2 reported reported2 fault)
+    → Follow left new (line ∷ (p.given ++ p.last)) → StopAtOnePlace (Some (flushed_texts to week)) left written written2 reported reported2
+convert_stopped laws to week None left1 left2 written written1 written2 reported reported2 middle new hearing head line fault accepted begun p k = tt
+convert_stopped laws to week (Some bytes) left1 left2 written written1 written2 reported reported2 middle new hearing head line fault accepted begun p k =
+    conversion_stopped_at laws to week left1 left2 written written1 written2 reported reported2 middle new hearing head line [] k.0 bytes fault accepted begun p k.1 k.2
+
 -- what the fault says besides
 convert_says : (to : Target) (week : Option ℕ) (left left1 left2 written written1 written2 reported reported2 : Option (List ℕ)) (old middle new : LinesState) (hearing : Hearing) (head : Accepted) (given last : List Line) (fault : BridgeFault) → IsFresh old
     → (h : GivesHead week left left1 old middle head) → Appends written written1 (prefix_text to) → (reads : Reads left1 left2 middle new (given ++ last))
@@ -191,7 +201,8 @@ convert_says to week left left1 left2 written written1 written2 reported reporte
 convert_says to week left left1 left2 written written1 written2 reported reported2 old middle new hearing head given last NotThisForm fresh h begun reads says = absurd says
 convert_says to week left left1 left2 written written1 written2 reported reported2 old middle new hearing head given last WriteFault fresh h begun reads says = head_accepts week left left1 old middle head fresh h
 convert_says to week left left1 left2 written written1 written2 reported reported2 old middle new hearing head given last ReportFault fresh h begun reads says = head_accepts week left left1 old middle head fresh h
-convert_says to week left left1 left2 written written1 written2 reported reported2 old middle new hearing head given last NoMemory fresh h begun reads says = head_accepts week left left1 old middle head fresh h
+convert_says to week left left1 left2 written written1 written2 reported reported2 old middle new hearing head given last NoMemory fresh h begun reads says =
+    (head_accepts week left left1 old middle head fresh h, omega (arith, says, (reads_more left left1 left2 old middle new (h.line ∷ []) (given ++ last) h.gives.reads reads).count, fresh.taken))
 
 -- a prefix of the output of the lines
 pub convert_stops : (laws : LogLaws) (to : Target) (week : Option ℕ) (left left1 left2 written written1 written2 reported reported2 : Option (List ℕ)) (old middle new : LinesState) (hearing : Hearing) (head : Accepted) (fault : BridgeFault) → IsFresh old
@@ -236,8 +247,10 @@ convert_stops laws to week left left1 left2 written written1 written2 reported r
             (lines_follow left left2 old new (h.line ∷ (p.given ++ p.last)) reads fresh.rest fresh.ended),
         last_texts to week left left2 written written1 written2 (periods c) begun (text.prefix, text.within, text.grew),
       );
-      no_counts = λ other. convert_rejections to week left left1 left2 written1 written2 reported reported2 middle new hearing head h.line fault h.accepted p
+      stopped = convert_stopped laws to week left left1 left2 written written1 written2 reported reported2 middle new hearing head h.line fault h.accepted begun p
           (lines_follow left left2 old new (h.line ∷ (p.given ++ p.last)) reads fresh.rest fresh.ended);
+      counts_last = inl (convert_rejections to week left left1 left2 written1 written2 reported reported2 middle new hearing head h.line fault h.accepted p
+          (lines_follow left left2 old new (h.line ∷ (p.given ++ p.last)) reads fresh.rest fresh.ended));
       says = convert_says to week left left1 left2 written written1 written2 reported reported2 old middle new hearing head p.given p.last fault fresh h begun p.reads p.says;
     }
 
@@ -300,7 +313,7 @@ all_taken to week left left1 left2 written written1 written2 reported reported2 
 -- the trailing text was not written whole, or the counts were not reported whole
 end_stops : (laws : LogLaws) (to : Target) (week : Option ℕ) (left left2 written written2 written3 reported reported2 reported3 : Option (List ℕ)) (head : Accepted) (counts : CaptureCounts) (fault : BridgeFault)
     (t : IsTaken to week left left2 written written2 reported reported2 head counts) → AppendsPrefix written2 written3 (back_text to (counts_text counts)) → AppendsPrefix reported2 reported3 (counts_text counts)
-    → ((fault ≡ ReportFault → ⊥) → reported3 ≡ reported2) → StopSays to week left t.taken written written3 reported reported3 fault → Stop to week left left2 written written3 reported reported3 fault
+    → (reported3 ≡ reported2) ⊎ ((fault ≡ ReportFault) × Appends written2 written3 (back_text to (counts_text counts))) → StopSays to week left t.taken written written3 reported reported3 fault → Stop to week left left2 written written3 reported reported3 fault
 end_stops laws to week left left2 written written2 written3 reported reported2 reported3 head counts fault t back report untold says =
     let c = capture_by head t.given in
     let capture : capture_of week t.taken ≡ Some c = ap (capture_in week) t.lines ∙ capture_lines week head t.line t.given t.accepted in
@@ -337,19 +350,36 @@ end_stops laws to week left left2 written written2 written3 reported reported2 r
       text = text;
       report = report_text;
       ahead = (prefix_all to week left written written3 reported reported3 t.taken same wrote (prefix_of reported reported3 _ _ report_text), last_all to week left left2 written written3 t.taken t.consumes t.end wrote);
-      no_counts = λ other. taken_all left left2 t.taken (λ bytes. AppendsPrefix reported reported3 (refusals_text (capture_of week bytes))) t.consumes t.end
+      stopped = taken_all left left2 t.taken (λ bytes. StopAtOnePlace (Some (flushed_texts to week)) (Some bytes) written written3 reported reported3) t.consumes t.end
+          (end_stopped_at laws to week head t.line t.given t.taken written written3 reported reported3 t.accepted t.lines
+          ((prefix_text to ++ texts) ++ behind.0,
+          prefix_trans (prefix_text to ++ closed) (prefix_text to ++ texts) ((prefix_text to ++ texts) ++ behind.0) (prefix_behind (prefix_text to) closed texts below) (prefix_more (prefix_text to ++ texts) behind.0),
+          Appends-trans written written2 written3 (prefix_text to ++ texts) behind.0 t.text behind.2)
+          (line_report (log_of head.window t.given) ++ told.0, prefix_more (line_report (log_of head.window t.given)) told.0,
+          Appends-trans reported reported2 reported3 (line_report (log_of head.window t.given)) told.0 t.report told.2));
+      counts_last = ⊎_elim
+          (λ (silent : reported3 ≡ reported2). inl (taken_all left left2 t.taken (λ bytes. AppendsPrefix reported reported3 (refusals_text (capture_of week bytes))) t.consumes t.end
           (subst (λ (o : Option Capture). AppendsPrefix reported reported3 (refusals_text o)) (sym capture)
-          (subst (λ (u : Option (List ℕ)). AppendsPrefix reported u (line_report (log_of head.window t.given))) (sym (untold other))
-          (appends_whole reported reported2 (line_report (log_of head.window t.given)) t.report)));
+          (subst (λ (u : Option (List ℕ)). AppendsPrefix reported u (line_report (log_of head.window t.given))) (sym silent)
+          (appends_whole reported reported2 (line_report (log_of head.window t.given)) t.report)))))
+          (λ (all : (fault ≡ ReportFault) × Appends written2 written3 (back_text to (counts_text counts))). inr (
+          all.0,
+          t.end,
+          subst (Appends written written3) (append_assoc (prefix_text to) texts (back_text to (counts_text (counts_of c))) ∙ sym (output_is to week t.taken c capture))
+          (Appends-trans written written2 written3 (prefix_text to ++ texts) (back_text to (counts_text (counts_of c))) t.text
+          (subst (λ (x : CaptureCounts). Appends written2 written3 (back_text to (counts_text x))) t.counted all.1)),
+          ))
+          untold;
       says = says;
     }
 
 pub end_stopped : (laws : LogLaws) (to : Target) (week : Option ℕ) (left left2 written written2 written3 reported reported2 reported3 : Option (List ℕ)) (head : Accepted) (counts : CaptureCounts) (fault : BridgeFault)
     → IsTaken to week left left2 written written2 reported reported2 head counts → AppendsPrefix written2 written3 (back_text to (counts_text counts)) → AppendsPrefix reported2 reported3 (counts_text counts)
-    → (fault ≡ WriteFault → reported3 ≡ reported2) → (fault ≡ WriteFault) ⊎ (fault ≡ ReportFault) → Stop to week left left2 written written3 reported reported3 fault
-end_stopped laws to week left left2 written written2 written3 reported reported2 reported3 head counts fault t back report untold kind =
-    ⊎_elim (λ (e : fault ≡ WriteFault). subst (Stop to week left left2 written written3 reported reported3) (sym e) (end_stops laws to week left left2 written written2 written3 reported reported2 reported3 head counts WriteFault t back report (λ other. untold e) t.accepts))
-    (λ (e : fault ≡ ReportFault). subst (Stop to week left left2 written written3 reported reported3) (sym e) (end_stops laws to week left left2 written written2 written3 reported reported2 reported3 head counts ReportFault t back report (λ other. absurd (other refl)) t.accepts)) kind
+    → (fault ≡ WriteFault → reported3 ≡ reported2) → (fault ≡ ReportFault → Appends written2 written3 (back_text to (counts_text counts))) → (fault ≡ WriteFault) ⊎ (fault ≡ ReportFault)
+    → Stop to week left left2 written written3 reported reported3 fault
+end_stopped laws to week left left2 written written2 written3 reported reported2 reported3 head counts fault t back report untold wrote kind =
+    ⊎_elim (λ (e : fault ≡ WriteFault). subst (Stop to week left left2 written written3 reported reported3) (sym e) (end_stops laws to week left left2 written written2 written3 reported reported2 reported3 head counts WriteFault t back report (inl (untold e)) t.accepts))
+    (λ (e : fault ≡ ReportFault). subst (Stop to week left left2 written written3 reported reported3) (sym e) (end_stops laws to week left left2 written written2 written3 reported reported2 reported3 head counts ReportFault t back report (inr (refl, wrote e)) t.accepts)) kind
 
 -- ---- as a run of its meaning ends
 
@@ -439,7 +469,7 @@ stop_says to week taken b a WriteFault says cause never form = (cause.0, says)
 stop_says to week taken b a ReportFault says cause never form = (refl, cause.0, says)
 stop_says to week taken b a NotThisForm says cause never form = (says.0, says.1, (form refl).0, (form refl).1)
 stop_says to week taken b a TooLong says cause never form = says
-stop_says to week taken b a NoMemory says cause never form = (refl, says)
+stop_says to week taken b a NoMemory says cause never form = (refl, says.0, says.1)
 
 pub stopped_by : {S T U : Type 0} (to : CaptureTo) (target : Target) (week : Option ℕ) (b a : World S T U) (fault : BridgeFault) → target ≡ target_of to
     → Stop target week b.left a.left b.written a.written b.reported a.reported fault → HasItsCause {T = Unit {0}} (faults_at b) (faults_at a) (Err fault)
@@ -451,7 +481,8 @@ stopped_by to target week b a fault same stop cause never form =
       text = stop.text;
       told = stop.report;
       ahead = stop.ahead.0;
-      no_counts = stop.no_counts;
+      stopped = stop.stopped;
+      counts_last = stop.counts_last;
       cause = cause;
       leaves = leaves_nothing target week b a;
       says = stop_says target week stop.taken b a fault stop.says cause never form;

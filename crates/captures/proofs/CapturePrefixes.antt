@@ -17,10 +17,10 @@ use Rattle.one_run.specs.declared.fault.BridgeFault.{BridgeFault}
 use Rattle.outlets.specs.declared.target.Target.{Target}
 use Rattle.outlets.specs.declared.target.Target.TheVariants.{Rinex, Rinex3, Rtcm, ToList, Count}
 use Rattle.outlets.specs.Targets.{back_text, prefix_text}
-use Rattle.captures.specs.Captures.{Capture, accepted_line, capture_in, capture_of, capture_with, counts_in, counts_of, counts_text, least_output, least_report, output_of, periods, refusals_text, report_of_capture, flushed_output, flushed_report, flushed_text, texts_of, whole_report, whole_text, without_last}
+use Rattle.captures.specs.Captures.{Capture, accepted_line, capture_in, capture_of, capture_with, counts_in, counts_of, counts_text, least_output, least_report, output_of, periods, refusals_text, report_of_capture, flushed_output, flushed_report, flushed_text, flushed_texts, texts_of, whole_report, whole_text, without_last}
 use Rattle.captures.specs.Converts.{AcceptsHead, CapturePrefix, CountsLast, Refuses, Stop, StopSays}
 use Rattle.one_run.specs.Runs.{AppendsBetween}
-use Rattle.one_run.proofs.Surface.{nothing_told}
+use Rattle.one_run.proofs.Surface.{nothing_stopped, nothing_told}
 use Rattle.captures.specs.Notes.{line_report}
 use Rattle.captures.proofs.Prefixes.{LogLaws, appends_behind, appends_longer, prefix_behind, prefix_more, prefix_nil, prefix_trans}
 use Rattle.captures.proofs.Logs.{known_of, log_more, report_append}
@@ -283,7 +283,8 @@ nothing_part to week left left_new written reported t fault consumes few says = 
   };
   report = none_reported week reported t few;
   ahead = (prefix_nothing to week left written reported, last_nothing to week left left_new written written (Appends-nil written));
-  no_counts = λ other. nothing_told (λ bytes. refusals_text (capture_of week bytes)) left reported reported refl;
+  stopped = nothing_stopped (Some (flushed_texts to week)) left written written reported reported refl refl;
+  counts_last = inl (nothing_told (λ bytes. refusals_text (capture_of week bytes)) left reported reported refl);
   says = says;
 }
 

@@ -1,5 +1,5 @@
 -- The lines of a capture, one after another: what holds between two of them, and how they end.
-use Rattle.std.proofs.Common.{◌≡◌, ℕ, ◌+◌, ◌<◌, ◌≤◌, ◌^◌, true, false, List, [], ◌∷◌, ◌++◌, length, refl, sym, ap, subst, ◌∙◌, arith, append_assoc, append-nil, length-append}
+use Rattle.std.proofs.Common.{◌≡◌, ℕ, ◌+◌, ◌<◌, ◌≤◌, ◌^◌, true, false, List, [], ◌∷◌, ◌++◌, length, inl, inr, refl, sym, ap, subst, ◌∙◌, arith, append_assoc, append-nil, length-append}
 use Rattle.std.specs.Prelude.{Option, Contains, MatchResult, Result, Ok, Err}
 use Rattle.std.proofs.lemmas.Bool.{true≢false}
 use Rattle.std.specs.Io.KnownBytes.{Appends}
@@ -35,7 +35,7 @@ use Rattle.captures.specs.Hearings.{Finished, IsNew, IsStepFault, Stands, StepBr
 use Rattle.captures.specs.Notes.{GivesItem, KeepsHalves, line_report, tallied, total}
 use Rattle.captures.specs.Flushed.{IsWriting, said_of}
 use Rattle.one_run.proofs.Surface.{between_whole}
-use Rattle.captures.proofs.Prefixes.{LogLaws, written_closed}
+use Rattle.captures.proofs.Prefixes.{LogLaws, written_between, written_closed}
 
 -- ---- the lines of what was held and taken
 
@@ -125,6 +125,12 @@ reported_nil window past given told reported text =
     let all = line_report (log_of window (past ++ given)) in
     subst (λ (l : List Line). AppendsBetween told reported all (line_report (log_of window (past ++ l)))) (sym (append-nil given)) (between_whole told reported all text)
 
+closed_nil : (to : Target) (head : Accepted) (past given : List Line) (start written : Option (List ℕ)) → Appends start written (closed_texts to head (past ++ given))
+    → AppendsBetween start written (closed_texts to head (past ++ given)) (closed_texts to head (past ++ (given ++ [])))
+closed_nil to head past given start written text =
+    let all = closed_texts to head (past ++ given) in
+    subst (λ (l : List Line). AppendsBetween start written all (closed_texts to head (past ++ l))) (sym (append-nil given)) (between_whole start written all text)
+
 -- the input ended so
 broke_lines : (laws : LogLaws) (to : Target) (head : Accepted) (past : List Line) (left left1 left2 : Option (List ℕ)) (old middle state : LinesState) (h : Hearing) (start written told reported : Option (List ℕ)) (fault : LineFault)
     → Between to head past left left1 old middle h start written told reported → Breaks fault left1 left2 middle state
@@ -140,6 +146,7 @@ broke_lines laws to head past left left1 left2 old middle state h start written 
       text = λ more none.
           written_closed laws head.week head.window to (past ++ b.given) more ((past ++ (b.given ++ [])) ++ more) start written (ap (λ (l : List Line). (past ++ l) ++ more) (append-nil b.given)) b.stands.flushed.text;
       report = reported_nil head.window past b.given told reported b.stands.report;
+      stops = inl (closed_nil to head past b.given start written b.stands.flushed.text);
       says = (
         refl,
         record {
@@ -171,6 +178,7 @@ broke_lines laws to head past left left1 left2 old middle state h start written 
       text = λ more none.
           written_closed laws head.week head.window to (past ++ b.given) more ((past ++ (b.given ++ [])) ++ more) start written (ap (λ (l : List Line). (past ++ l) ++ more) (append-nil b.given)) b.stands.flushed.text;
       report = reported_nil head.window past b.given told reported b.stands.report;
+      stops = inl (closed_nil to head past b.given start written b.stands.flushed.text);
       says = breaks.too_many;
     }
 
@@ -183,19 +191,19 @@ broke_input laws to head past left left1 left2 old middle state h start written 
 
 -- a line was not taken whole
 step_says : (to : Target) (head : Accepted) (lines last : List Line) (new : LinesState) (h : Hearing) (start written told reported : Option (List ℕ)) (before now : Faults) (fault : BridgeFault)
-    → IsStepFault before now fault → ConversionSays to head lines last new h start written told reported fault
-step_says to head lines last new h start written told reported before now ReadFault says = absurd says
-step_says to head lines last new h start written told reported before now WriteFault says = tt
-step_says to head lines last new h start written told reported before now ReportFault says = tt
-step_says to head lines last new h start written told reported before now TooLong says = absurd says
-step_says to head lines last new h start written told reported before now NoMemory says = tt
-step_says to head lines last new h start written told reported before now NotThisForm says = absurd says
+    → new.taken < 2 ^ 32 → IsStepFault before now fault → ConversionSays to head lines last new h start written told reported fault
+step_says to head lines last new h start written told reported before now ReadFault low says = absurd says
+step_says to head lines last new h start written told reported before now WriteFault low says = tt
+step_says to head lines last new h start written told reported before now ReportFault low says = tt
+step_says to head lines last new h start written told reported before now TooLong low says = absurd says
+step_says to head lines last new h start written told reported before now NoMemory low says = low
+step_says to head lines last new h start written told reported before now NotThisForm low says = absurd says
 
-pub broke_step : (to : Target) (head : Accepted) (past : List Line) (left left1 left2 : Option (List ℕ)) (old middle state : LinesState) (h new : Hearing) (start written written_new told reported reported_new : Option (List ℕ)) (item : LineItem) (before now : Faults) (fault : BridgeFault)
+pub broke_step : (laws : LogLaws) (to : Target) (head : Accepted) (past : List Line) (left left1 left2 : Option (List ℕ)) (old middle state : LinesState) (h new : Hearing) (start written written_new told reported reported_new : Option (List ℕ)) (item : LineItem) (before now : Faults) (fault : BridgeFault)
     (b : Between to head past left left1 old middle h start written told reported) (gives : GivesItem left1 left2 middle state item)
     → StepBroke to head (past ++ b.given) gives.line start written_new told reported_new before now fault
     → ConversionBroke to head past left left2 old state new start written_new told reported_new fault
-broke_step to head past left left1 left2 old middle state h new start written written_new told reported reported_new item before now fault b gives broke =
+broke_step laws to head past left left1 left2 old middle state h new start written written_new told reported reported_new item before now fault b gives broke =
     let reads = reads_more left left1 left2 old middle state b.given (gives.line ∷ []) b.reads gives.gives.reads in
     let whole = split_more old.rest b.reads.taken b.prefix middle.rest gives.gives.reads.taken gives.gives.prefix state.rest b.split gives.gives.split in
     record {
@@ -206,10 +214,12 @@ broke_step to head past left left1 left2 old middle state h new start written wr
       recent = recent_lines (old.rest ++ reads.taken) (b.prefix ++ gives.gives.prefix) state.rest (b.given ++ gives.line ∷ []) whole (gives.gives.short b.held)
           (all_lines left left2 old state (b.given ++ gives.line ∷ []) reads);
       text = λ more none.
-          subst (λ (l : List Line). AppendsBetween start written_new (closed_texts to head (past ++ b.given)) (period_texts to head (l ++ more))) (append_assoc past b.given (gives.line ∷ [])) (broke.text more);
+          subst (λ (l : List Line). AppendsBetween start written_new (closed_texts to head (past ++ b.given)) (period_texts to head (l ++ more))) (append_assoc past b.given (gives.line ∷ []))
+          (written_between laws head.week head.window to (past ++ b.given) (gives.line ∷ []) more start written_new broke.text);
       report = subst (λ (l : List Line). AppendsBetween told reported_new (line_report (log_of head.window (past ++ b.given))) (line_report (log_of head.window l)))
           (append_assoc past b.given (gives.line ∷ [])) broke.report;
-      says = step_says to head (past ++ b.given) (gives.line ∷ []) state new start written_new told reported_new before now fault broke.cause;
+      stops = inl (subst (λ (l : List Line). AppendsBetween start written_new (closed_texts to head (past ++ b.given)) (closed_texts to head l)) (append_assoc past b.given (gives.line ∷ [])) broke.text);
+      says = step_says to head (past ++ b.given) (gives.line ∷ []) state new start written_new told reported_new before now fault gives.gives.low broke.cause;
     }
 
 -- all was taken and written
@@ -234,13 +244,13 @@ all_written to head past left left1 left2 old middle state h new start written w
 
 -- all was taken, and not all was written
 finish_says : (to : Target) (head : Accepted) (lines last : List Line) (new : LinesState) (h : Hearing) (start written told reported : Option (List ℕ)) (before now : ℕ) (fault : BridgeFault)
-    → IsWriting {T = Unit {0}} before now (Err fault) → ConversionSays to head lines last new h start written told reported fault
-finish_says to head lines last new h start written told reported before now ReadFault says = absurd says
-finish_says to head lines last new h start written told reported before now WriteFault says = tt
-finish_says to head lines last new h start written told reported before now ReportFault says = absurd says
-finish_says to head lines last new h start written told reported before now TooLong says = absurd says
-finish_says to head lines last new h start written told reported before now NoMemory says = tt
-finish_says to head lines last new h start written told reported before now NotThisForm says = absurd says
+    → new.taken < 2 ^ 32 → IsWriting {T = Unit {0}} before now (Err fault) → ConversionSays to head lines last new h start written told reported fault
+finish_says to head lines last new h start written told reported before now ReadFault low says = absurd says
+finish_says to head lines last new h start written told reported before now WriteFault low says = tt
+finish_says to head lines last new h start written told reported before now ReportFault low says = absurd says
+finish_says to head lines last new h start written told reported before now TooLong low says = absurd says
+finish_says to head lines last new h start written told reported before now NoMemory low says = low
+finish_says to head lines last new h start written told reported before now NotThisForm low says = absurd says
 
 pub broke_finish : (to : Target) (head : Accepted) (past : List Line) (left left1 left2 : Option (List ℕ)) (old middle state : LinesState) (h new : Hearing) (start written written_new told reported : Option (List ℕ)) (before now : ℕ) (fault : BridgeFault)
     (b : Between to head past left left1 old middle h start written told reported) → GivesEnd left1 left2 middle state
@@ -263,7 +273,8 @@ broke_finish to head past left left1 left2 old middle state h new start written 
           ∙ ap (λ (l : List Line). (past ++ (b.given ++ [])) ++ l) (sym (none ends_now.ended ends_now.rest)) in
           subst (λ (l : List Line). AppendsBetween start written_new (closed_texts to head (past ++ b.given)) (period_texts to head l)) same between;
       report = reported_nil head.window past b.given told reported b.stands.report;
-      says = finish_says to head (past ++ b.given) [] state new start written_new told reported before now fault cause;
+      stops = inr (refl, ends_now.ended, ends_now.rest);
+      says = finish_says to head (past ++ b.given) [] state new start written_new told reported before now fault ends_now.low cause;
     }
 
 -- the last answer, by what finishing answers

@@ -1,14 +1,14 @@
 -- How the counting of a text ends, from how the run over its bytes in memory ends.
-use Rattle.std.proofs.Common.{◌≡◌, ◌<◌, ◌^◌, ℕ, List, length, length-append, refl, sym, ap, subst, ◌∙◌, arith}
+use Rattle.std.proofs.Common.{◌≡◌, ◌⊎◌, inl, inr, ⊎_elim, ◌<◌, ◌^◌, ℕ, List, length, length-append, refl, sym, ap, subst, ◌∙◌, arith}
 use Rattle.std.specs.Prelude.{Option, None, Some, IfSome, IsSome, IsTrue, Ok}
 use Rattle.std.proofs.lemmas.Bool.{true≢false}
-use Rattle.std.specs.Io.KnownBytes.{Appends, Consumes}
+use Rattle.std.specs.Io.KnownBytes.{Appends, Consumes, IsAtEnd}
 use Rattle.nav_io.specs.Prefix.{AppendsPrefix}
 use Rattle.one_run.specs.Causes.{Faults, faults_of}
 use Rattle.one_run.specs.Runs.{Broke, Done, World}
 use Rattle.one_run.specs.declared.fault.BridgeFault.{BridgeFault}
 use Rattle.one_run.specs.declared.fault.BridgeFault.TheVariants.{ReadFault, WriteFault, ReportFault, TooLong, NoMemory, NotThisForm}
-use Rattle.one_run.proofs.Surface.{counts_of, told_of, text_of}
+use Rattle.one_run.proofs.Surface.{counts_of, taken_all, told_of, text_of}
 use Rattle.outlets.specs.declared.target.Target.TheVariants.{Count}
 use Rattle.captures.specs.declared.counts.CaptureCounts.{CaptureCounts}
 use Rattle.captures.specs.Captures.{Capture, capture_of, counts_in, output_of, refusals_text, report_of_capture, target_meaning}
@@ -62,10 +62,18 @@ prefix_of r text left left_new written written_new reported reported_new known h
 pub count_broke : {S T U : Type 0} (r : ℕ) (text left : List ℕ) (b a : World S T U) (fault : BridgeFault) → left ≡ text → b.left ≡ Some left → length text < 2 ^ 32 → IsSome (capture_of (Some r) text) → IsTrue b.never_fails
     → Broke (target_meaning Count (Some r)) b a fault → CaptureAhead Count (Some r) b.left a.left b.written a.written b.reported a.reported
     → CountBroke r text b.written a.written b.reported a.reported × IsSeedFault (faults_of 0 b.writes_failed b.reports_failed) (faults_of 0 a.writes_failed a.reports_failed) fault
-    × ((fault ≡ ReportFault → ⊥) → AppendsPrefix b.reported a.reported (refusals_text (capture_of (Some r) text)))
+    × (AppendsPrefix b.reported a.reported (refusals_text (capture_of (Some r) text)) ⊎ ((fault ≡ ReportFault) × Appends b.written a.written (output_of Count (Some r) text)))
 count_broke r text left b a fault same known low some never broke ahead =
     let all : b.left ≡ Some text = known ∙ ap Some same in (
       prefix_of r text b.left a.left b.written a.written b.reported a.reported all ahead,
       cause_of r text b a fault all low some never broke,
-      λ other. subst (λ (o : Option (List ℕ)). IfSome o (λ bytes. AppendsPrefix b.reported a.reported (refusals_text (capture_of (Some r) bytes)))) all (broke.no_counts other),
+      ⊎_elim
+          (λ (none : IfSome b.left (λ bytes. AppendsPrefix b.reported a.reported (refusals_text (capture_of (Some r) bytes)))).
+          inl (subst (λ (o : Option (List ℕ)). IfSome o (λ bytes. AppendsPrefix b.reported a.reported (refusals_text (capture_of (Some r) bytes)))) all none))
+          (λ (wrote : (fault ≡ ReportFault) × IsAtEnd a.left × Appends b.written a.written (output_of Count (Some r) broke.taken)). inr (
+          wrote.0,
+          subst (λ (o : Option (List ℕ)). IfSome o (λ bytes. Appends b.written a.written (output_of Count (Some r) bytes))) all
+          (taken_all b.left a.left broke.taken (λ bytes. Appends b.written a.written (output_of Count (Some r) bytes)) broke.consumes wrote.1 wrote.2),
+          ))
+          broke.counts_last,
     )

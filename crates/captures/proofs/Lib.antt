@@ -14,6 +14,7 @@ mod Keeping
 mod Logs
 mod Noting
 mod Steps
+mod Stopping
 mod SubframeEvents
 mod Takings
 mod Weighing

@@ -71,9 +71,30 @@ written_closed laws r window to given more all start written e text =
       grew = text;
     }
 
+-- exactly that was written, and more may be closed by one more line
+pub written_still : (laws : LogLaws) (r window : ℕ) (to : Target) (given last : List Line) (start written : Option (List ℕ))
+    → Appends start written (texts_of to (closed_of r window (watermark_after window given) (parts_of window given)))
+    → AppendsBetween start written (texts_of to (closed_of r window (watermark_after window given) (parts_of window given)))
+    (texts_of to (closed_of r window (watermark_after window (given ++ last)) (parts_of window (given ++ last))))
+written_still laws r window to given last start written text =
+    let closed = closed_of r window (watermark_after window given) (parts_of window given) in
+    let more = closed_of r window (watermark_after window (given ++ last)) (parts_of window (given ++ last)) in
+    record {
+      prefix = texts_of to closed;
+      within = texts_prefix to closed more (laws.rise r window given last);
+      no_less = prefix_same (texts_of to closed);
+      grew = text;
+    }
+
 -- a prefix of what is closed by one more line
+pub written_line : (laws : LogLaws) (r window : ℕ) (to : Target) (given last : List Line) (start written : Option (List ℕ)) (text : List ℕ)
+    → AppendsBetween start written (texts_of to (closed_of r window (watermark_after window given) (parts_of window (given ++ last)))) text
+    → AppendsBetween start written (texts_of to (closed_of r window (watermark_after window given) (parts_of window given))) text
+written_line laws r window to given last start written text h = subst (λ (cs : List Closed). AppendsBetween start written (texts_of to cs) text) (laws.later r window given last) h
+
+-- the same with all periods that more lines give
 pub written_between : (laws : LogLaws) (r window : ℕ) (to : Target) (given last more : List Line) (start written : Option (List ℕ))
-    → AppendsBetween start written (texts_of to (closed_of r window (watermark_after window given) (parts_of window (given ++ last))))
+    → AppendsBetween start written (texts_of to (closed_of r window (watermark_after window given) (parts_of window given)))
     (texts_of to (closed_of r window (watermark_after window (given ++ last)) (parts_of window (given ++ last))))
     → AppendsBetween start written (texts_of to (closed_of r window (watermark_after window given) (parts_of window given)))
     (texts_of to (periods_of r window (parts_of window ((given ++ last) ++ more))))
@@ -84,7 +105,7 @@ written_between laws r window to given last more start written h =
     record {
       prefix = h.prefix;
       within = prefix_trans h.prefix (texts_of to closed) (texts_of to periods) h.within (texts_prefix to closed periods (laws.prefix r window all more));
-      no_less = subst (λ (cs : List Closed). IsPrefix (texts_of to cs) h.prefix) (laws.later r window given last) h.no_less;
+      no_less = h.no_less;
       grew = h.grew;
     }
 

@@ -29,10 +29,12 @@ use Rattle.captures.specs.Hearings.{IsNew, Stands}
 use Rattle.captures.specs.Notes.{line_report}
 use Rattle.captures.specs.Pushed.{CaptureRunState, CutSays, HasRead, IsBehind, IsCutShort, IsPushed, IsReady, IsWaiting, IsWhole, unread}
 use Rattle.captures.proofs.CaptureEnds.{IsFresh, converted_form, counts_are}
-use Rattle.one_run.proofs.Surface.{prefix_of}
+use Rattle.one_run.proofs.Surface.{between_behind, between_within, prefix_of}
+use Rattle.one_run.specs.Runs.{AppendsBetween}
 use Rattle.captures.proofs.CapturePrefixes.{capture_by, capture_lines, flushed_is, flushed_report_is, output_is, report_is, report_prefix}
 use Rattle.captures.proofs.Converting.{stands_start}
-use Rattle.captures.proofs.Prefixes.{LogLaws, appends_behind, appends_longer, prefix_behind, prefix_more, prefix_nil, prefix_same, prefix_trans}
+use Rattle.captures.proofs.Stopping.{conversion_stopped_at, end_stopped_at, head_stopped_at, none_stopped_at}
+use Rattle.captures.proofs.Prefixes.{LogLaws, appends_longer, appends_whole, prefix_behind, prefix_more, prefix_nil, prefix_same, prefix_trans}
 use Rattle.captures.proofs.Writing.{texts_prefix}
 
 -- ---- what a reader of lines has read
@@ -195,8 +197,8 @@ first_number : (to : Target) (week : Option ℕ) (lines : LinesState) (h : Heari
     → lines.number ≡ 1 + length b.heard.past
 first_number to week lines h bytes start written begun reported b = omega (arith, b.read.number, ap length b.heard.given_are)
 
--- The bytes were read, and their lines processed; the further lines were to be converted, and that broke off. What is closed by
--- the bytes `low` is a prefix of what is closed by these lines.
+-- The bytes were read, and their lines processed; the further lines were to be converted, and that broke off. What is closed and
+-- reported by the bytes `low` is a prefix of what is by these lines.
 pub record Went (to : Target) (week : Option ℕ) (left left_new : Option (List ℕ)) (lines lines_new : LinesState) (h : Hearing) (low bytes : List ℕ) (start written begun reported : Option (List ℕ)) (fault : BridgeFault) : Type 0 where
   pub head : Accepted
   pub line : Line
@@ -206,6 +208,7 @@ pub record Went (to : Target) (week : Option ℕ) (left left_new : Option (List 
   pub read : HasRead lines bytes (line ∷ past)
   pub leads : Appends start led (prefix_text to)
   pub least : IsPrefix (flushed_output to week low) (prefix_text to ++ closed_texts to head past)
+  pub least_told : IsPrefix (flushed_report week low) (line_report (log_of head.window past))
   pub broke : ConversionBroke to head past left left_new lines lines_new h led written begun reported fault
 
 went_cut : (laws : LogLaws) (to : Target) (week : Option ℕ) (left left_new : Option (List ℕ)) (lines lines_new : LinesState) (h : Hearing) (low bytes : List ℕ) (start written begun reported : Option (List ℕ)) (fault : BridgeFault)
@@ -224,7 +227,8 @@ went_cut laws to week left left_new lines lines_new h low bytes start written be
     all_behind lines_new (bytes ++ p.reads.taken) (w.line ∷ some) reads (ap (λ (l : List ℕ). l ++ p.reads.taken) w.read.bytes_are) following last in
     let c = capture_by head (some ++ more) in
     let capture : capture_of week whole ≡ Some c = ap (capture_in week) all ∙ capture_lines week head w.line (some ++ more) w.accepted in
-    let text = p.text more (λ ended rest. ap (λ (l : List ℕ). lines_by false (l ++ following)) rest ∙ ap (lines_by false) (last ended)) in
+    let none : lines_new.ended ≡ true → lines_new.rest ≡ [] → more ≡ [] = λ ended rest. ap (λ (l : List ℕ). lines_by false (l ++ following)) rest ∙ ap (lines_by false) (last ended) in
+    let text = p.text more none in
     let closed = closed_texts to head past in
     let texts = texts_of to (periods c) in
     let back = back_text to (counts_text (counts_of c)) in
@@ -242,9 +246,13 @@ went_cut laws to week left left_new lines lines_new h low bytes start written be
             (prefix_behind (prefix_text to) closed text.prefix (prefix_trans closed (closed_texts to head (past ++ p.given)) text.prefix rises text.no_less));
         grew = Appends-trans start w.led written (prefix_text to) text.prefix w.leads text.grew;
       };
-      report = subst (AppendsPrefix begun reported) (sym (report_is week whole c capture))
-          (appends_longer begun reported told (all_told ++ counts_text (counts_of c))
-          (prefix_trans told all_told (all_told ++ counts_text (counts_of c)) (report_prefix head.window some more) (prefix_more all_told (counts_text (counts_of c)))) (prefix_of begun reported _ _ p.report));
+      report = subst (AppendsBetween begun reported (flushed_report week low)) (sym (report_is week whole c capture))
+          (between_within begun reported (flushed_report week low) (line_report (log_of head.window (past ++ p.given))) told (all_told ++ counts_text (counts_of c))
+          (prefix_trans (flushed_report week low) (line_report (log_of head.window past)) (line_report (log_of head.window (past ++ p.given))) w.least_told (report_prefix head.window past p.given))
+          (prefix_trans told all_told (all_told ++ counts_text (counts_of c)) (report_prefix head.window some more) (prefix_more all_told (counts_text (counts_of c)))) p.report);
+      stopped = conversion_stopped_at laws to week left left_new start w.led written begun reported lines lines_new h head w.line past more whole fault w.accepted w.leads p all none;
+      counts_last = inl (subst (λ (x : Option Capture). AppendsPrefix begun reported (refusals_text x)) (sym capture)
+          (appends_longer begun reported told all_told (report_prefix head.window some more) (prefix_of begun reported _ _ p.report)));
       says = says (subst (λ (x : Option Capture). IsSome x) (sym capture) refl);
     }
 
@@ -312,6 +320,7 @@ pub record Began (to : Target) (week : Option ℕ) (left left1 : Option (List �
   pub leads : Appends start led (prefix_text to)
   pub stands : Stands to head past h led written begun reported
   pub least : IsPrefix (flushed_output to week bytes) (prefix_text to ++ closed_texts to head past)
+  pub least_told : IsPrefix (flushed_report week bytes) (line_report (log_of head.window past))
 
 -- the end is that of the input
 end_more : (left left1 left_new : Option (List ℕ)) (middle new : LinesState) (given : List Line) → (middle.ended ≡ true → IsAtEnd left1) → Reads left1 left_new middle new given → new.ended ≡ true → IsAtEnd left_new
@@ -333,6 +342,7 @@ began_stops laws to week left left1 left_new middle new h h_new bytes start writ
       read = g.read;
       leads = g.leads;
       least = g.least;
+      least_told = g.least_told;
       broke = p;
     } in
     record {
@@ -393,6 +403,8 @@ began_some to week left lines h bytes start written begun reported waits b =
     let ended : lines_by true bytes ≡ heard.line ∷ heard.past = ended_behind lines bytes b.given waits b.read ∙ heard.given_are in
     let text : flushed_output to week bytes ≡ prefix_text to ++ closed_texts to heard.head heard.past =
     flushed_is to week bytes (heard.line ∷ heard.past) ended ∙ ap (flushed_text to) (capture_lines week heard.head heard.line heard.past heard.accepted) in
+    let report : flushed_report week bytes ≡ line_report (log_of heard.head.window heard.past) =
+    flushed_report_is week bytes (heard.line ∷ heard.past) ended ∙ ap refusals_text (capture_lines week heard.head heard.line heard.past heard.accepted) in
     record {
       first = [];
       consumes = Consumes-nil left;
@@ -407,6 +419,7 @@ began_some to week left lines h bytes start written begun reported waits b =
       leads = heard.leads;
       stands = heard.stands;
       least = subst (IsPrefix (flushed_output to week bytes)) text (prefix_same (flushed_output to week bytes));
+      least_told = subst (IsPrefix (flushed_report week bytes)) report (prefix_same (flushed_report week bytes));
     }
 
 -- behind a first line that has just ended
@@ -441,6 +454,7 @@ began_first to week left left1 lines middle head h bytes start written written1 
         counted = s.counted;
       };
       least = subst (λ (l : List ℕ). IsPrefix l (prefix_text to ++ closed_texts to head [])) (sym text) (prefix_nil (prefix_text to ++ closed_texts to head []));
+      least_told = subst (λ (l : List ℕ). IsPrefix l (line_report (log_of head.window []))) (sym (flushed_report_is week bytes [] none)) (prefix_nil (line_report (log_of head.window [])));
     }
 
 pub began_new : (to : Target) (week : Option ℕ) (left left1 : Option (List ℕ)) (lines middle : LinesState) (hearing : Option Hearing) (head : Accepted) (h : Hearing) (bytes : List ℕ) (start written written1 begun reported : Option (List ℕ)) → hearing ≡ None → IsWaiting lines
@@ -463,6 +477,16 @@ convert_no_form A to head past left left_new old new h start written told report
 
 -- ---- in the first line
 
+-- nothing was reported
+none_told : (week : Option ℕ) (bytes whole : List ℕ) (begun reported : Option (List ℕ)) → lines_by true bytes ≡ [] → Appends begun reported []
+    → AppendsBetween begun reported (flushed_report week bytes) (report_of_capture week whole)
+none_told week bytes whole begun reported none told = record {
+  prefix = [];
+  within = prefix_nil (report_of_capture week whole);
+  no_less = subst (λ (l : List ℕ). IsPrefix l []) (sym (flushed_report_is week bytes [] none)) (prefix_nil []);
+  grew = told;
+}
+
 -- nothing was written
 none_cut : (to : Target) (week : Option ℕ) (bytes whole : List ℕ) (start written begun reported : Option (List ℕ)) (fault : BridgeFault) → lines_by true bytes ≡ []
     → Appends start written [] → Appends begun reported [] → CutSays week whole fault → IsCutShort to week bytes whole start written begun reported fault
@@ -473,7 +497,9 @@ none_cut to week bytes whole start written begun reported fault none wrote told 
     no_less = subst (λ (l : List ℕ). IsPrefix l []) (sym (flushed_is to week bytes [] none)) (prefix_nil []);
     grew = wrote;
   };
-  report = ([], prefix_nil (report_of_capture week whole), told);
+  report = none_told week bytes whole begun reported none told;
+  stopped = none_stopped_at to week whole start written begun reported wrote told;
+  counts_last = inl ([], prefix_nil (refusals_text (capture_of week whole)), told);
   says = says;
 }
 
@@ -559,8 +585,9 @@ begin_follows to week left left1 lines middle None head bytes start written writ
           let whole = (bytes ++ gave.reads.taken) ++ following in
           let more = lines_by false (middle.rest ++ following) in
           let c = capture_by head more in
+          let all = first_lines left left1 lines middle bytes (gives.line ∷ []) read gave.reads following last in
           let capture : capture_of week whole ≡ Some c =
-          ap (capture_in week) (first_lines left left1 lines middle bytes (gives.line ∷ []) read gave.reads following last) ∙ capture_lines week head gives.line more gives.accepted in
+          ap (capture_in week) all ∙ capture_lines week head gives.line more gives.accepted in
           let behind = texts_of to (periods c) ++ back_text to (counts_text (counts_of c)) in
           record {
             output = record {
@@ -569,7 +596,9 @@ begin_follows to week left left1 lines middle None head bytes start written writ
               no_less = subst (λ (l : List ℕ). IsPrefix l prefix) (sym (flushed_is to week bytes [] (none_ended to week lines bytes start written begun reported waits b))) (prefix_nil prefix);
               grew = Appends-trans start written written1 [] prefix b.heard.1 grew;
             };
-            report = ([], prefix_nil (report_of_capture week whole), b.heard.2);
+            report = none_told week bytes whole begun reported (none_ended to week lines bytes start written begun reported waits b) b.heard.2;
+            stopped = head_stopped_at to week head gives.line (Some whole) start written1 begun reported gives.accepted (more, all) (prefix, within, Appends-trans start written written1 [] prefix b.heard.1 grew) b.heard.2;
+            counts_last = inl ([], prefix_nil (refusals_text (capture_of week whole)), b.heard.2);
             says = subst (λ (x : Option Capture). IsSome x) (sym capture) refl;
           };
     }
@@ -706,6 +735,32 @@ flushed_within laws to week head line given bytes all accepted =
     let prefix = lines_prefix false bytes [] in
     flushed_lines laws to week head line given bytes (lines_by true bytes) prefix.0 refl (sym all ∙ ap (lines_by false) (sym (append-nil bytes)) ∙ prefix.1) accepted
 
+-- what is reported of them is a prefix of what all lines give
+reported_lines : (week : Option ℕ) (head : Accepted) (line : Line) (given : List Line) (bytes : List ℕ) (ys rest : List Line) → lines_by true bytes ≡ ys → line ∷ given ≡ ys ++ rest
+    → accepted_line week line ≡ Some head → IsPrefix (flushed_report week bytes) (line_report (log_of head.window given))
+reported_lines week head line given bytes [] rest ended all accepted =
+    subst (λ (l : List ℕ). IsPrefix l (line_report (log_of head.window given))) (sym (flushed_report_is week bytes [] ended)) (prefix_nil (line_report (log_of head.window given)))
+reported_lines week head line given bytes (y ∷ ys) rest ended all accepted =
+    let first : line ≡ y = cc in
+    let tail : given ≡ ys ++ rest = cc in
+    let text : flushed_report week bytes ≡ line_report (log_of head.window ys) =
+    flushed_report_is week bytes (y ∷ ys) ended ∙ ap refusals_text (capture_lines week head y ys (ap (accepted_line week) (sym first) ∙ accepted)) in
+    subst (λ (l : List ℕ). IsPrefix l (line_report (log_of head.window given))) (sym text)
+    (subst (λ (l : List Line). IsPrefix (line_report (log_of head.window ys)) (line_report (log_of head.window l))) (sym tail) (report_prefix head.window ys rest))
+
+reported_within : (week : Option ℕ) (head : Accepted) (line : Line) (given : List Line) (bytes : List ℕ) → lines_by false bytes ≡ line ∷ given → accepted_line week line ≡ Some head
+    → IsPrefix (flushed_report week bytes) (line_report (log_of head.window given))
+reported_within week head line given bytes all accepted =
+    let prefix = lines_prefix false bytes [] in
+    reported_lines week head line given bytes (lines_by true bytes) prefix.0 refl (sym all ∙ ap (lines_by false) (sym (append-nil bytes)) ∙ prefix.1) accepted
+
+-- what lines close is a prefix of all their periods
+closed_within : (laws : LogLaws) (to : Target) (head : Accepted) (given : List Line) → IsPrefix (closed_texts to head given) (period_texts to head given)
+closed_within laws to head given =
+    subst (λ (l : List Line). IsPrefix (closed_texts to head given) (period_texts to head l)) (append-nil given)
+    (texts_prefix to (closed_of head.week head.window (watermark_after head.window given) (parts_of head.window given)) (periods_of head.week head.window (parts_of head.window (given ++ [])))
+    (laws.prefix head.week head.window given []))
+
 written_says : (week : Option ℕ) (whole : List ℕ) (fault : BridgeFault) → (fault ≡ WriteFault) ⊎ (fault ≡ ReportFault) → IsSome (capture_of week whole) → CutSays week whole fault
 written_says week whole fault kind some =
     ⊎_elim (λ (e : fault ≡ WriteFault). subst (CutSays week whole) (sym e) some) (λ (e : fault ≡ ReportFault). subst (CutSays week whole) (sym e) some) kind
@@ -714,13 +769,18 @@ written_says week whole fault kind some =
 pub all_cut : (laws : LogLaws) (to : Target) (week : Option ℕ) (bytes : List ℕ) (lines : LinesState) (hearing : Option Hearing) (start written written_new begun reported reported_new : Option (List ℕ)) (h : Hearing) (counts : CaptureCounts) (fault : BridgeFault)
     → FollowsAll to week (Some []) (Some []) bytes lines hearing start written begun reported → hearing ≡ Some h → counts ≡ with_counts lines.number h.ear.tally h.said
     → AppendsPrefix written written_new (back_text to (counts_text counts)) → AppendsPrefix reported reported_new (counts_text counts) → (fault ≡ WriteFault) ⊎ (fault ≡ ReportFault)
+    → (fault ≡ WriteFault → reported_new ≡ reported) → (fault ≡ ReportFault → Appends written written_new (back_text to (counts_text counts)))
     → IsCutShort to week bytes bytes start written_new begun reported_new fault
-all_cut laws to week bytes lines hearing start written written_new begun reported reported_new h counts fault all is counted back report kind =
+all_cut laws to week bytes lines hearing start written written_new begun reported reported_new h counts fault all is counted back report kind untold wrote =
     let c = capture_by all.head all.given in
     let capture = all_lines to week bytes lines hearing start written begun reported all in
     let same = all_counts to week bytes lines hearing start written begun reported h counts all is counted in
     let texts = texts_of to (periods c) in
     let behind = subst (λ (x : CaptureCounts). AppendsPrefix written written_new (back_text to (counts_text x))) same back in
+    let told = subst (λ (x : CaptureCounts). AppendsPrefix reported reported_new (counts_text x)) same report in
+    let whole_lines = lines_whole to week bytes lines hearing start written begun reported all in
+    let log = line_report (log_of all.head.window all.given) in
+    let least = flushed_within laws to week all.head all.line all.given bytes whole_lines all.accepted in
     let some : IsSome (capture_of week bytes) = subst (λ (x : Option Capture). IsSome x) (sym capture) refl in
     record {
       output = record {
@@ -728,11 +788,25 @@ all_cut laws to week bytes lines hearing start written written_new begun reporte
         within = subst (IsPrefix ((prefix_text to ++ texts) ++ behind.0)) (append_assoc (prefix_text to) texts (back_text to (counts_text (counts_of c))) ∙ sym (output_is to week bytes c capture))
             (prefix_behind (prefix_text to ++ texts) behind.0 (back_text to (counts_text (counts_of c))) behind.1);
         no_less = prefix_trans (flushed_output to week bytes) (prefix_text to ++ texts) ((prefix_text to ++ texts) ++ behind.0)
-            (flushed_within laws to week all.head all.line all.given bytes (lines_whole to week bytes lines hearing start written begun reported all) all.accepted) (prefix_more (prefix_text to ++ texts) behind.0);
+            least (prefix_more (prefix_text to ++ texts) behind.0);
         grew = Appends-trans start written written_new (prefix_text to ++ texts) behind.0 all.text behind.2;
       };
-      report = subst (AppendsPrefix begun reported_new) (sym (report_is week bytes c capture))
-          (appends_behind begun reported reported_new (line_report (log_of all.head.window all.given)) (counts_text (counts_of c)) all.report
-          (subst (λ (x : CaptureCounts). AppendsPrefix reported reported_new (counts_text x)) same report));
+      report = subst (AppendsBetween begun reported_new (flushed_report week bytes)) (sym (report_is week bytes c capture))
+          (between_within begun reported_new (flushed_report week bytes) log (log ++ counts_text (counts_of c)) (log ++ counts_text (counts_of c))
+          (reported_within week all.head all.line all.given bytes whole_lines all.accepted) (prefix_same (log ++ counts_text (counts_of c)))
+          (between_behind begun reported reported_new log (counts_text (counts_of c)) all.report told));
+      stopped = end_stopped_at laws to week all.head all.line all.given bytes start written_new begun reported_new all.accepted whole_lines
+          ((prefix_text to ++ texts) ++ behind.0,
+          prefix_trans (prefix_text to ++ closed_texts to all.head all.given) (prefix_text to ++ texts) ((prefix_text to ++ texts) ++ behind.0)
+          (prefix_behind (prefix_text to) (closed_texts to all.head all.given) texts (closed_within laws to all.head all.given)) (prefix_more (prefix_text to ++ texts) behind.0),
+          Appends-trans start written written_new (prefix_text to ++ texts) behind.0 all.text behind.2)
+          (log ++ told.0, prefix_more log told.0, Appends-trans begun reported reported_new log told.0 all.report told.2);
+      counts_last = ⊎_elim
+          (λ (e : fault ≡ WriteFault). inl (subst (λ (x : Option Capture). AppendsPrefix begun reported_new (refusals_text x)) (sym capture)
+          (subst (λ (u : Option (List ℕ)). AppendsPrefix begun u log) (sym (untold e)) (appends_whole begun reported log all.report))))
+          (λ (e : fault ≡ ReportFault). inr (e, subst (Appends start written_new) (append_assoc (prefix_text to) texts (back_text to (counts_text (counts_of c))) ∙ sym (output_is to week bytes c capture))
+          (Appends-trans start written written_new (prefix_text to ++ texts) (back_text to (counts_text (counts_of c))) all.text
+          (subst (λ (x : CaptureCounts). Appends written written_new (back_text to (counts_text x))) same (wrote e)))))
+          kind;
       says = written_says week bytes fault kind some;
     }

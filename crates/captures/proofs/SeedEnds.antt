@@ -1,5 +1,5 @@
 -- How a run over a generated capture ends, from how its branch ends.
-use Rattle.std.proofs.Common.{◌≡◌, ℕ, true, false, List, [], length, refl, sym, ap, subst, ◌∙◌, arith}
+use Rattle.std.proofs.Common.{◌≡◌, ◌⊎◌, inl, inr, ⊎_elim, ℕ, true, false, List, [], length, refl, sym, ap, subst, ◌∙◌, arith}
 use Rattle.std.specs.Prelude.{Option, Some, IsSome, Result, Ok, Err}
 use Rattle.std.proofs.lemmas.Bool.{true≢false}
 use Rattle.std.specs.Io.KnownBytes.{Appends}
@@ -47,7 +47,7 @@ seed_says to seed n r b a WriteFault reports h = (h.0, refl)
 seed_says to seed n r b a ReportFault reports h = (reports refl, h.0, refl)
 seed_says to seed n r b a NotThisForm reports h = absurd h
 seed_says to seed n r b a TooLong reports h = absurd h
-seed_says to seed n r b a NoMemory reports h = (refl, refl)
+seed_says to seed n r b a NoMemory reports h = (refl, refl, omega arith)
 
 seed_cause : {S T U : Type 0} (b a : World S T U) (fault : BridgeFault) → a.reads_failed ≡ b.reads_failed
     → IsSeedFault (faults_of 0 b.writes_failed b.reports_failed) (faults_of 0 a.writes_failed a.reports_failed) fault → HasItsCause {T = Unit {0}} (faults_in b) (faults_in a) (Err fault)
@@ -60,15 +60,19 @@ seed_cause b a NoMemory reads h = none_failed b a reads (ap (λ (f : Faults). f.
 
 broke_by : {S T U : Type 0} (to : SeedTo) (seed n r : ℕ) (b a : World S T U) (fault : BridgeFault) → a.input ≡ b.input → (is_counted to ≡ false → a.report ≡ b.report) → (fault ≡ ReportFault → is_counted to ≡ true)
     → AppendsPrefix b.written a.written (seed_output to seed n r) → AppendsPrefix b.reported a.reported (seed_report to seed n r)
-    → ((fault ≡ ReportFault → ⊥) → AppendsPrefix b.reported a.reported (seed_rejections to seed n r)) → a.reads_failed ≡ b.reads_failed
+    → AppendsPrefix b.reported a.reported (seed_rejections to seed n r) ⊎ ((fault ≡ ReportFault) × Appends b.written a.written (seed_output to seed n r)) → a.reads_failed ≡ b.reads_failed
     → IsSeedFault (faults_of 0 b.writes_failed b.reports_failed) (faults_of 0 a.writes_failed a.reports_failed) fault → Broke (seed_meaning to seed n r) b a fault
-broke_by to seed n r b a fault unread silent reports text told no_counts reads cause = record {
+broke_by to seed n r b a fault unread silent reports text told counts_last reads cause = record {
   taken = [];
   consumes = refl;
   text = between b.written a.written (seed_output to seed n r) text;
   told = between b.reported a.reported (seed_report to seed n r) told;
   ahead = (text, told);
-  no_counts = no_counts;
+  stopped = tt;
+  counts_last = ⊎_elim
+      (λ (none : AppendsPrefix b.reported a.reported (seed_rejections to seed n r)). inl none)
+      (λ (wrote : (fault ≡ ReportFault) × Appends b.written a.written (seed_output to seed n r)). inr (wrote.0, refl, wrote.1))
+      counts_last;
   cause = seed_cause b a fault reads cause;
   leaves = record { unread = λ e. unread; silent = silent };
   says = seed_says to seed n r b a fault reports cause;
@@ -78,7 +82,7 @@ broke_by to seed n r b a fault unread silent reports text told no_counts reads c
 pub no_memory : {S T U : Type 0} (to : SeedTo) (seed n r : ℕ) (b : World S T U) → Broke (seed_meaning to seed n r) b b NoMemory
 no_memory to seed n r b =
     broke_by to seed n r b b NoMemory refl (λ e. refl) (λ e. absurd cc) ([], (seed_output to seed n r, refl), Appends-nil b.written) ([], (seed_report to seed n r, refl), Appends-nil b.reported)
-    (λ other. ([], (seed_rejections to seed n r, refl), Appends-nil b.reported)) refl refl
+    (inl ([], (seed_rejections to seed n r, refl), Appends-nil b.reported)) refl refl
 
 -- ---- the capture
 
@@ -90,7 +94,7 @@ written_by seed n r text b a (Ok counts) same unread unsaid reads reports told h
     (ap (λ (f : Faults). f.output) h.2) reports
 written_by seed n r text b a (Err WriteFault) same unread unsaid reads reports told h =
     broke_by seeds.Capture seed n r b a WriteFault unread (λ e. unsaid) (λ e. absurd cc) (subst (AppendsPrefix b.written a.written) same h.0) ([], ([], refl), told)
-    (λ other. ([], ([], refl), told)) reads (h.1, ap (λ (n : ℕ). faults_of 0 a.writes_failed n) reports)
+    (inl ([], ([], refl), told)) reads (h.1, ap (λ (n : ℕ). faults_of 0 a.writes_failed n) reports)
 written_by seed n r text b a (Err ReadFault) same unread unsaid reads reports told h = absurd h
 written_by seed n r text b a (Err ReportFault) same unread unsaid reads reports told h = absurd h
 written_by seed n r text b a (Err NotThisForm) same unread unsaid reads reports told h = absurd h
@@ -126,7 +130,10 @@ counted_by seed n r b a (Ok counts) capture output report unread reads h =
     (known_counts counts (capture_of (Some r) (capture_text seed n r)) (generated seed n r) h.of capture h.of_is h.counted) reads (ap (λ (f : Faults). f.output) h.quiet) (ap (λ (f : Faults). f.report) h.quiet)
 counted_by seed n r b a (Err fault) capture output report unread reads h =
     broke_by seeds.Count seed n r b a fault unread (λ e. absurd (true≢false e)) (λ e. refl) (subst (AppendsPrefix b.written a.written) output h.0.0) (subst (AppendsPrefix b.reported a.reported) report h.0.1)
-    (λ other. subst (AppendsPrefix b.reported a.reported) (ap refusals_text capture) (h.2 other)) reads h.1
+    (⊎_elim
+    (λ (none : AppendsPrefix b.reported a.reported (refusals_text (capture_of (Some r) (capture_text seed n r)))). inl (subst (AppendsPrefix b.reported a.reported) (ap refusals_text capture) none))
+    (λ (wrote : (fault ≡ ReportFault) × Appends b.written a.written (output_of Count (Some r) (capture_text seed n r))). inr (wrote.0, subst (Appends b.written a.written) output wrote.1))
+    h.2) reads h.1
 
 pub ended_count : {S T U : Type 0} (to : SeedTo) (seed n r : ℕ) (text : List ℕ) (b a : World S T U) (result : Result SeedCounts BridgeFault) → to ≡ seeds.Count → text ≡ capture_text seed n r
     → capture_of (Some r) (capture_text seed n r) ≡ Some (generated seed n r)

@@ -1,5 +1,5 @@
 -- A line, processed and written: the state before, within and after it.
-use Rattle.std.proofs.Common.{◌≡◌, ℕ, ◌+◌, ◌-◌, ◌<◌, ◌≤◌, ◌^◌, List, [], ◌∷◌, ◌++◌, length, Option, None, refl, sym, ap, subst, ◌∙◌, arith, append_assoc, length-append}
+use Rattle.std.proofs.Common.{◌≡◌, ℕ, ◌+◌, ◌-◌, ◌<◌, ◌≤◌, ◌^◌, List, [], ◌∷◌, ◌++◌, length, Option, None, refl, sym, ap, subst, ◌∙◌, arith, length-append}
 use Rattle.std.specs.Prelude.{Result, Ok, Err, OnOk, OnErr, MatchResult}
 use Rattle.std.specs.Io.KnownBytes.{Appends}
 use Rattle.std.proofs.KnownBytes.{Appends-trans}
@@ -30,7 +30,7 @@ use Rattle.captures.specs.Hearings.{Finished, IsOpenAt, IsStepFault, Stands, Sta
 use Rattle.captures.specs.Notes.{KeepsHalves, line_report, tallied, total}
 use Rattle.captures.specs.Flushed.{HasRoom, IsWriting, Flushed, said_of}
 use Rattle.one_run.proofs.Surface.{between_behind, between_whole, between_within, prefix_same}
-use Rattle.captures.proofs.Prefixes.{LogLaws, counts_low, periods_low, written_between, written_closed}
+use Rattle.captures.proofs.Prefixes.{LogLaws, counts_low, periods_low, written_line, written_still}
 use Rattle.captures.proofs.CapturePrefixes.{report_prefix}
 use Rattle.captures.proofs.Logs.{halves_line, known_line, known_of, log_line, parts_append, parts_line, report_append, square_next, tally_append}
 
@@ -149,7 +149,7 @@ broke_item laws to head number lines line item h start written told reported rep
     (subst (λ (i : LineItem). Unheard reported reported_new before now (noted number (events_of h.window known i)) fault) is unheard) in
     let both = unheard_cause reported reported_new writes before now log fault own in
     record {
-      text = λ more. written_closed laws head.week head.window to lines ((line ∷ []) ++ more) ((lines ++ line ∷ []) ++ more) start written (append_assoc lines (line ∷ []) more) s.flushed.text;
+      text = written_still laws head.week head.window to lines (line ∷ []) start written s.flushed.text;
       report = subst (AppendsBetween told reported_new (line_report (log_of head.window lines)))
           (sym (ap line_report (log_line head.window number lines line e) ∙ report_append (log_of head.window lines) log))
           (between_behind told reported reported_new (line_report (log_of head.window lines)) (line_report log) s.report both.0);
@@ -252,7 +252,7 @@ pub broke_writing : (laws : LogLaws) (to : Target) (head : Accepted) (before wat
     → IsWriting {T = Unit {0}} failed now (Err fault)
     → StepBroke to head lines line start written_new told reported (faults_of 0 failed reports) (faults_of 0 now reports) fault
 broke_writing laws to head before watermark lines line h start written written_new told reported reports failed now fault s was is wrote cause = record {
-  text = λ more. written_between laws head.week head.window to lines (line ∷ []) more start written_new
+  text = written_line laws head.week head.window to lines (line ∷ []) start written_new _
       (subst (λ (n : ℕ). ClosedBetween head.week head.window to (parts_of head.window (lines ++ line ∷ [])) n (watermark_after head.window (lines ++ line ∷ [])) start written_new) was
       (subst (λ (n : ℕ). ClosedBetween head.week head.window to (parts_of head.window (lines ++ line ∷ [])) before n start written_new) is
       (closed_at _ _ _ _ to (parts_of head.window (lines ++ line ∷ [])) before watermark start written_new s.week s.window wrote)));

@@ -11,7 +11,7 @@ use Rattle.periods.specs.declared.closed.Closed.{Closed}
 use Rattle.periods.specs.declared.closed.Verdict.{Verdict}
 use Rattle.periods.specs.declared.closed.Verdict.TheVariants.{Whole, Partial, Contradicted, NoHealth, Again}
 use Rattle.capture_log.specs.Log.{log_of, parts_of, watermark_after}
-use Rattle.one_run.specs.Runs.{Meaning}
+use Rattle.one_run.specs.Runs.{Meaning, Texts}
 use Rattle.outlets.specs.declared.target.Target.{Target}
 use Rattle.outlets.specs.declared.target.Target.TheVariants.{Rinex, Rinex3, Rtcm, ToList, Count}
 use Rattle.outlets.specs.Targets.{back_text, prefix_text, period_text}
@@ -172,6 +172,10 @@ flushed_output to week bytes = flushed_text to (ended_capture week bytes)
 unfoldable pub flushed_report : Option ℕ → List ℕ → List ℕ
 flushed_report week bytes = refusals_text (ended_capture week bytes)
 
+-- output and report so far
+abbrev pub flushed_texts : Target → Option ℕ → Texts
+flushed_texts to week = record { output = flushed_output to week; report = flushed_report week }
+
 -- all lines but the last
 abbrev pub without_last : List Line → List Line
 without_last [] = []
@@ -214,7 +218,7 @@ target_meaning to week = record {
   whole = record { output = output_of to week; report = report_of_capture week };
   rejections = λ bytes. refusals_text (capture_of week bytes);
   least = record { output = least_output to week; report = least_report week };
-  flushed = Some (record { output = flushed_output to week; report = flushed_report week });
+  flushed = Some (flushed_texts to week);
 }
 
 -- the same, by the target that a conversion names

@@ -1,5 +1,5 @@
 -- What becomes of a capture whose next lines are read from a source, after some lines. Private functions cite these.
-use Rattle.std.specs.Prelude.{◌≡◌, ℕ, ◌+◌, ◌-◌, ◌^◌, ◌<◌, ◌≤◌, true, false, List, [], ◌++◌, length, take, Option, Result, MatchResult}
+use Rattle.std.specs.Prelude.{◌≡◌, ◌⊎◌, ℕ, ◌+◌, ◌-◌, ◌^◌, ◌<◌, ◌≤◌, true, false, List, [], ◌++◌, length, take, Option, Result, MatchResult}
 use Rattle.std.specs.Io.KnownBytes.{Appends}
 use Rattle.nav_io.specs.Lines.{Line, ends, lines_by}
 use Rattle.nav_io.specs.LinesState.{LinesState, Reads}
@@ -52,19 +52,21 @@ pub record Waits (to : Target) (head : Accepted) (lines : List Line) (state : Li
   pub stands : Stands to head lines h start written told reported
 
 -- What an error states besides, of all lines that were processed. After a failed read these are the
--- complete ones, and the state is that after them. At `TooLong` 2^32 bytes were counted.
+-- complete ones, and the state is that after them. At `TooLong` 2^32 bytes were counted, at
+-- `NoMemory` fewer.
 abbrev pub ConversionSays : Target → Accepted → List Line → List Line → LinesState → Hearing → Option (List ℕ) → Option (List ℕ) → Option (List ℕ) → Option (List ℕ) → BridgeFault → Type 0
 ConversionSays to head lines last new h start written told reported ReadFault = (last ≡ []) × Waits to head lines new h start written told reported
 ConversionSays to head lines last new h start written told reported TooLong = new.taken ≡ 2 ^ 32
 ConversionSays to head lines last new h start written told reported NotThisForm = ⊥
 ConversionSays to head lines last new h start written told reported WriteFault = Unit {0}
 ConversionSays to head lines last new h start written told reported ReportFault = Unit {0}
-ConversionSays to head lines last new h start written told reported NoMemory = Unit {0}
+ConversionSays to head lines last new h start written told reported NoMemory = new.taken < 2 ^ 32
 
 -- An error. The lines `given` were processed, and `last`, at most one, perhaps in part; no more
 -- lines are complete before the last 4,096 bytes. A prefix was written of what these lines, those
 -- before and any that follow give, no less than what `given` close; and a prefix of the report of
--- these lines was reported, no less than that of `given`.
+-- these lines was reported, no less than that of `given`. No more was written than what these lines
+-- close, or they are all.
 pub record ConversionBroke (to : Target) (head : Accepted) (past : List Line) (left left_new : Option (List ℕ)) (old new : LinesState) (h : Hearing) (start written told reported : Option (List ℕ)) (fault : BridgeFault) : Type 0 where
   pub given : List Line
   pub last : List Line
@@ -74,6 +76,8 @@ pub record ConversionBroke (to : Target) (head : Accepted) (past : List Line) (l
   pub text : (more : List Line) → (new.ended ≡ true → new.rest ≡ [] → more ≡ [])
       → AppendsBetween start written (closed_texts to head (past ++ given)) (period_texts to head ((past ++ (given ++ last)) ++ more))
   pub report : AppendsBetween told reported (line_report (log_of head.window (past ++ given))) (line_report (log_of head.window (past ++ (given ++ last))))
+  pub stops : AppendsBetween start written (closed_texts to head (past ++ given)) (closed_texts to head (past ++ (given ++ last)))
+      ⊎ ((last ≡ []) × (new.ended ≡ true) × (new.rest ≡ []))
   pub says : ConversionSays to head (past ++ given) last new h start written told reported fault
 
 -- the further lines were processed, and the periods that were left were written

@@ -1,6 +1,6 @@
 -- A capture while its lines after the first are read. Private functions cite these.
-use Rattle.std.specs.Prelude.{◌≡◌, ℕ, ◌+◌, ◌*◌, ◌^◌, ◌≤◌, ◌⊎◌, List, length, Option, Some, None, IsSome, IfSome}
-use Rattle.std.specs.Io.KnownBytes.{Appends, Consumes}
+use Rattle.std.specs.Prelude.{◌≡◌, ℕ, ◌+◌, ◌*◌, ◌^◌, ◌<◌, ◌≤◌, ◌⊎◌, List, length, Option, Some, None, IsSome, IfSome}
+use Rattle.std.specs.Io.KnownBytes.{Appends, Consumes, IsAtEnd}
 use Rattle.nav_io.specs.Prefix.{AppendsPrefix}
 use Rattle.nav_io.specs.Lines.{Line}
 use Rattle.nav_io.specs.LinesState.{LinesState, GivesLine, GivesEnd, BreaksRead, BreaksLong}
@@ -13,10 +13,10 @@ use Rattle.outlets.specs.declared.target.Target.TheVariants.{Count}
 use Rattle.captures.specs.declared.counts.Tally.{Tally}
 use Rattle.one_run.specs.declared.fault.BridgeFault.{BridgeFault}
 use Rattle.one_run.specs.declared.fault.BridgeFault.TheVariants.{ReadFault, WriteFault, ReportFault, TooLong, NoMemory, NotThisForm}
-use Rattle.captures.specs.Captures.{accepted_line, capture_of, counts_in, least_output, least_report, output_of, refusals_text, report_of_capture, flushed_output, flushed_report, texts_of}
+use Rattle.captures.specs.Captures.{accepted_line, capture_of, counts_in, least_output, least_report, output_of, refusals_text, report_of_capture, flushed_output, flushed_report, flushed_texts, texts_of}
 use Rattle.captures.specs.declared.accept.Accepted.{Accepted}
 use Rattle.captures.specs.Notes.{KeepsHalves, tallied, total}
-use Rattle.one_run.specs.Runs.{AppendsBetween}
+use Rattle.one_run.specs.Runs.{AppendsBetween, StopAtOnePlace}
 use Rattle.captures.specs.Runs.{WritesLast}
 
 -- nothing was counted
@@ -90,14 +90,16 @@ StopSays to week left taken written written_new reported reported_new TooLong = 
 StopSays to week left taken written written_new reported reported_new NotThisForm = (counts_in (capture_of week taken) ≡ None) × Refuses week left
 StopSays to week left taken written written_new reported reported_new WriteFault = AcceptsHead week left
 StopSays to week left taken written written_new reported reported_new ReportFault = AcceptsHead week left
-StopSays to week left taken written written_new reported reported_new NoMemory = AcceptsHead week left
+StopSays to week left taken written written_new reported reported_new NoMemory = AcceptsHead week left × (length taken < 2 ^ 32)
 
--- the run broke off: a prefix was written and reported of what the bytes taken give, no less than the least
+-- The run broke off: a prefix was written and reported of what the bytes taken give, no less than the least. Both stop at one
+-- place, and counts are reported last.
 pub record Stop (to : Target) (week : Option ℕ) (left left_new written written_new reported reported_new : Option (List ℕ)) (fault : BridgeFault) : Type 0 where
   pub taken : List ℕ
   pub consumes : Consumes left left_new taken
   pub text : AppendsBetween written written_new (least_output to week taken) (output_of to week taken)
   pub report : AppendsBetween reported reported_new (least_report week taken) (report_of_capture week taken)
   pub ahead : CaptureAhead to week left left_new written written_new reported reported_new
-  pub no_counts : (fault ≡ ReportFault → ⊥) → RejectionsPrefix week left reported reported_new
+  pub stopped : StopAtOnePlace (Some (flushed_texts to week)) left written written_new reported reported_new
+  pub counts_last : RejectionsPrefix week left reported reported_new ⊎ ((fault ≡ ReportFault) × IsAtEnd left_new × Appends written written_new (output_of to week taken))
   pub says : StopSays to week left taken written written_new reported reported_new fault

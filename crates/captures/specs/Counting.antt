@@ -1,5 +1,5 @@
 -- How the two branches of a run from a seed end: the capture is written, or counted. Private functions cite these.
-use Rattle.std.specs.Prelude.{◌≡◌, ℕ, List, length, Option, Some, Result, Ok, Err}
+use Rattle.std.specs.Prelude.{◌≡◌, ◌⊎◌, ℕ, List, length, Option, Some, Result, Ok, Err}
 use Rattle.std.specs.Io.KnownBytes.{Appends}
 use Rattle.nav_io.specs.Causes.{Rose}
 use Rattle.nav_io.specs.Prefix.{AppendsPrefix}
@@ -50,4 +50,5 @@ CountsText r text written written_new reported reported_new before now (Ok count
     CountDone r text written written_new reported reported_new before now counts
 CountsText r text written written_new reported reported_new before now (Err fault) =
     CountBroke r text written written_new reported reported_new × IsSeedFault before now fault
-    × ((fault ≡ ReportFault → ⊥) → AppendsPrefix reported reported_new (refusals_text (capture_of (Some r) text)))
+    × (AppendsPrefix reported reported_new (refusals_text (capture_of (Some r) text))
+    ⊎ ((fault ≡ ReportFault) × Appends written written_new (output_of Count (Some r) text)))

@@ -118,10 +118,10 @@ IsStepFault before now ReportFault = HasItsCause {T = Unit {0}} before now (Err 
 IsStepFault before now NoMemory = HasItsCause {T = Unit {0}} before now (Err NoMemory)
 IsStepFault before now _ = ⊥
 
--- A line was not fully processed. Whatever lines follow, a prefix was written of what they all give, no less than what is closed
--- without the line; and a prefix of the report of the lines up to it was reported, no less than that of those before it.
+-- A line was not fully processed. A prefix was written of what is closed with the line, no less than what is closed without it;
+-- and a prefix of the report of the lines up to it was reported, no less than that of those before it.
 pub record StepBroke (to : Target) (head : Accepted) (lines : List Line) (line : Line) (start written told reported : Option (List ℕ)) (before now : Faults) (fault : BridgeFault) : Type 0 where
-  pub text : (more : List Line) → AppendsBetween start written (closed_texts to head lines) (period_texts to head ((lines ++ line ∷ []) ++ more))
+  pub text : AppendsBetween start written (closed_texts to head lines) (closed_texts to head (lines ++ line ∷ []))
   pub report : AppendsBetween told reported (line_report (log_of head.window lines)) (line_report (log_of head.window (lines ++ line ∷ [])))
   pub cause : IsStepFault before now fault
 

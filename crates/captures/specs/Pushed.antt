@@ -6,13 +6,13 @@ use Rattle.nav_io.specs.Lines.{Line, ends, lines_by}
 use Rattle.nav_io.specs.LinesState.{LinesState, Reads}
 use Rattle.outlets.specs.Targets.{prefix_text}
 use Rattle.outlets.specs.declared.target.Target.{Target}
-use Rattle.one_run.specs.Runs.{AppendsBetween}
+use Rattle.one_run.specs.Runs.{AppendsBetween, StopAtOnePlace}
 use Rattle.one_run.specs.declared.fault.BridgeFault.{BridgeFault}
 use Rattle.one_run.specs.declared.fault.BridgeFault.TheVariants.{ReadFault, TooLong, NotThisForm, WriteFault, ReportFault, NoMemory}
 use Rattle.captures.specs.declared.accept.Accepted.{Accepted}
 use Rattle.captures.specs.declared.counts.CaptureCounts.{CaptureCounts}
 use Rattle.captures.specs.declared.hearing.Hearing.{Hearing}
-use Rattle.captures.specs.Captures.{accepted_line, capture_of, counts_in, ended_capture, flushed_output, flushed_report, output_of, report_of_capture}
+use Rattle.captures.specs.Captures.{accepted_line, capture_of, counts_in, ended_capture, flushed_output, flushed_report, flushed_texts, output_of, refusals_text, report_of_capture}
 use Rattle.captures.specs.Hearings.{Stands}
 
 -- what contracts see of a run between two pieces
@@ -94,11 +94,14 @@ CutSays week whole WriteFault = IsSome (capture_of week whole)
 CutSays week whole ReportFault = IsSome (capture_of week whole)
 CutSays week whole NoMemory = IsSome (capture_of week whole)
 
--- Something failed: no less was written than what `bytes` decide, and no more than what the
--- complete capture gives, of whose report a prefix was written.
+-- Something failed: no less was written and reported than what `bytes` decide, and no more than what
+-- the complete capture gives. Both stop at one place. No counts were reported, or the report failed
+-- after the whole output was written.
 pub record IsCutShort (to : Target) (week : Option ℕ) (bytes whole : List ℕ) (start written begun reported : Option (List ℕ)) (fault : BridgeFault) : Type 0 where
   pub output : AppendsBetween start written (flushed_output to week bytes) (output_of to week whole)
-  pub report : AppendsPrefix begun reported (report_of_capture week whole)
+  pub report : AppendsBetween begun reported (flushed_report week bytes) (report_of_capture week whole)
+  pub stopped : StopAtOnePlace (Some (flushed_texts to week)) (Some whole) start written begun reported
+  pub counts_last : AppendsPrefix begun reported (refusals_text (capture_of week whole)) ⊎ ((fault ≡ ReportFault) × Appends start written (output_of to week whole))
   pub says : CutSays week whole fault
 
 -- the complete capture was written, reported and counted

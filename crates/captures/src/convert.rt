@@ -120,6 +120,9 @@ pub(crate) fn end_run<T: Sink, U: Sink>(
         (AppendsPrefix (U.written report.old) (U.written report.new) (counts_text counts.now)) }
     ensures untold { IsErrOf result BridgeFault.WriteFault
         → U.written report.new ≡ U.written report.old }
+    ensures wrote { IsErrOf result BridgeFault.ReportFault
+        → Appends (T.written output.old) (T.written output.new)
+        (back_text to.now (counts_text counts.now)) }
     ensures kind { IfErr result (λ fault.
         (fault ≡ BridgeFault.WriteFault) ⊎ (fault ≡ BridgeFault.ReportFault)) }
     ensures cause { HasItsCause

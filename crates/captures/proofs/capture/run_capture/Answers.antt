@@ -90,7 +90,7 @@ returns-clause-ended g c =
     let kind = c.in-Err-end_run.ensures.kind in
     stopped_by c.args.to.now c.target-target.result c.args.week _ _ c.in-Err-end_run.fault c.target-target.ensures
     (end_stopped laws c.target-target.result c.args.week _ _ _ _ _ _ _ _ c.in-Ok.head c.counts_with-counts.result c.in-Err-end_run.fault taken c.in-Err-end_run.ensures.part c.in-Err-end_run.ensures.report_part
-    (λ e. c.in-Err-end_run.ensures.untold (ap Err e)) kind)
+    (λ e. c.in-Err-end_run.ensures.untold (ap Err e)) (λ e. c.in-Err-end_run.ensures.wrote (ap Err e)) kind)
     (end_cause _ _ _ _ _ _ _ _ c.in-Err-end_run.fault kind c.in-Err-end_run.ensures.cause (ap (λ (f : Faults). f.output) c.in-Ok-convert.ensures.cause ∙ c.in-Ok-begin.ensures.cause.stays)
     (ap (λ (f : Faults). f.report) c.in-Ok-convert.ensures.cause) (ap (λ (f : Faults). f.input) c.in-Ok-convert.ensures.cause ∙ c.in-Ok.ensures.quiet))
     (λ e quiet. end_read c.in-Err-end_run.fault kind e) (λ e. absurd (end_form c.in-Err-end_run.fault kind e))
@@ -105,4 +105,4 @@ returns-clause-ahead g c =
     converted (c.counts_with-counts.ensures ∙ ap (λ (n : ℕ). with_counts n c.convert.new.hearing.ear.tally c.convert.new.hearing.said) c.number.ensures) in
     ahead_of c.args.to.now c.target-target.result c.args.week _ _ _ _ _ _ c.in-Err-end_run.fault c.target-target.ensures
     (end_stopped laws c.target-target.result c.args.week _ _ _ _ _ _ _ _ c.in-Ok.head c.counts_with-counts.result c.in-Err-end_run.fault taken c.in-Err-end_run.ensures.part c.in-Err-end_run.ensures.report_part
-    (λ e. c.in-Err-end_run.ensures.untold (ap Err e)) c.in-Err-end_run.ensures.kind)
+    (λ e. c.in-Err-end_run.ensures.untold (ap Err e)) (λ e. c.in-Err-end_run.ensures.wrote (ap Err e)) c.in-Err-end_run.ensures.kind)

@@ -88,7 +88,8 @@ returns-in-Err-step-clause-converts g c head past start told first stands =
     let gives : GivesItem (g.S.Source.left c.lines.input) (g.S.Source.left c.next_item.new.source) c.lines.lines c.next_item.new.lines c.next_item.new.item = c.in-Ok-true.ensures.item c.in-Ok-true.field-0-test in
     let b = c.lines.invariant.between head past start told first stands in
     let number = between_number _ _ _ _ _ _ _ _ _ _ _ _ _ _ _ c.number.result b gives c.number.ensures in
-    broke_step _ head past _ _ _ _ _ _ c.lines.hearing c.step.new.self _ _ _ _ _ _ c.next_item.new.item _ _ c.in-Err-step.fault b gives (c.in-Err-step.ensures head (past ++ b.given) gives.line _ _ number gives.item_is b.stands)
+    let laws : LogLaws = record { later = c.what_is_closed_stays.ensures.later; rise = c.what_is_closed_stays.ensures.rise; prefix = c.what_is_closed_stays.ensures.prefix; values = c.parts_of_lines_are_values.ensures } in
+    broke_step laws _ head past _ _ _ _ _ _ c.lines.hearing c.step.new.self _ _ _ _ _ _ c.next_item.new.item _ _ c.in-Err-step.fault b gives (c.in-Err-step.ensures head (past ++ b.given) gives.line _ _ number gives.item_is b.stands)
 
 pub returns-in-Err-step-clause-cause : goal.returns-in-Err-step-clause-cause
 returns-in-Err-step-clause-cause g c =

@@ -30,4 +30,4 @@ returns-clause-short g c bytes start begun old =
     subst (λ (s : CaptureRunState). IsCutShort s.to s.week bytes bytes start (g.T.Sink.written c.end_run.new.output) begun (g.U.Sink.written c.end_run.new.report) c.in-Err-end_run.fault) c.self.view_is
     (all_cut laws _ _ bytes _ _ start _ _ begun _ _ c.in-Some-hearing.hearing c.counts_with-counts.result c.in-Err-end_run.fault (c.in-Ok.ensures.follows bytes start begun s.waits s.behind) c.in-Some-hearing.is
     (c.counts_with-counts.ensures ∙ ap (λ (n : ℕ). with_counts n c.in-Some-hearing.hearing.ear.tally c.in-Some-hearing.hearing.said) c.number.ensures) c.in-Err-end_run.ensures.part c.in-Err-end_run.ensures.report_part
-    c.in-Err-end_run.ensures.kind)
+    c.in-Err-end_run.ensures.kind (λ e. c.in-Err-end_run.ensures.untold (ap Err e)) (λ e. c.in-Err-end_run.ensures.wrote (ap Err e)))
