@@ -66,7 +66,7 @@ without_short (y ∷ z ∷ zs) few = absurd (omega (arith, few))
 
 -- ---- the least
 
-abbrev first_or : Line → List Line → Line
+abbrev pub first_or : Line → List Line → Line
 first_or d [] = d
 first_or d (z ∷ zs) = z
 

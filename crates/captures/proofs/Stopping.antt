@@ -20,7 +20,7 @@ use Rattle.captures.specs.Captures.{accepted_line, capture_in, capture_with, flu
 use Rattle.captures.specs.Conversions.{ConversionBroke}
 use Rattle.captures.specs.Converts.{closed_texts}
 use Rattle.captures.specs.Notes.{line_report}
-use Rattle.captures.proofs.CapturePrefixes.{capture_lines, flushed_is, flushed_report_is, report_prefix}
+use Rattle.captures.proofs.CapturePrefixes.{capture_lines, first_or, flushed_is, flushed_report_is, report_prefix}
 use Rattle.captures.proofs.Prefixes.{LogLaws, appends_longer, prefix_behind, prefix_more, prefix_nil}
 use Rattle.captures.proofs.Writing.{texts_prefix}
 
@@ -53,10 +53,6 @@ told_begins week all some (rest, is) =
     subst (λ (l : List Line). IsPrefix (refusals_text (capture_in week some)) (refusals_text (capture_in week l))) (sym is) (told_within week some rest)
 
 -- ---- two beginnings of the lines
-
-first_or : Line → List Line → Line
-first_or d [] = d
-first_or d (z ∷ zs) = z
 
 -- of two beginnings one begins with the other
 either_begins : (done more front rest : List Line) → done ++ more ≡ front ++ rest → BeginsWith done front ⊎ BeginsWith front done
