@@ -351,23 +351,26 @@ end_stops laws to week left left2 written written2 written3 reported reported2 r
       report = report_text;
       ahead = (prefix_all to week left written written3 reported reported3 t.taken same wrote (prefix_of reported reported3 _ _ report_text), last_all to week left left2 written written3 t.taken t.consumes t.end wrote);
       stopped = taken_all left left2 t.taken (λ bytes. StopAtOnePlace (Some (flushed_texts to week)) (Some bytes) written written3 reported reported3) t.consumes t.end
-          (end_stopped_at laws to week head t.line t.given t.taken written written3 reported reported3 t.accepted t.lines
-          ((prefix_text to ++ texts) ++ behind.0,
-          prefix_trans (prefix_text to ++ closed) (prefix_text to ++ texts) ((prefix_text to ++ texts) ++ behind.0) (prefix_behind (prefix_text to) closed texts below) (prefix_more (prefix_text to ++ texts) behind.0),
-          Appends-trans written written2 written3 (prefix_text to ++ texts) behind.0 t.text behind.2)
-          (line_report (log_of head.window t.given) ++ told.0, prefix_more (line_report (log_of head.window t.given)) told.0,
-          Appends-trans reported reported2 reported3 (line_report (log_of head.window t.given)) told.0 t.report told.2));
+          (end_stopped_at laws to week head t.line t.given t.taken written written3 reported reported3 t.accepted t.lines (
+            (prefix_text to ++ texts) ++ behind.0,
+            prefix_trans (prefix_text to ++ closed) (prefix_text to ++ texts) ((prefix_text to ++ texts) ++ behind.0) (prefix_behind (prefix_text to) closed texts below) (prefix_more (prefix_text to ++ texts) behind.0),
+            Appends-trans written written2 written3 (prefix_text to ++ texts) behind.0 t.text behind.2,
+          ) (
+            line_report (log_of head.window t.given) ++ told.0,
+            prefix_more (line_report (log_of head.window t.given)) told.0,
+            Appends-trans reported reported2 reported3 (line_report (log_of head.window t.given)) told.0 t.report told.2,
+          ));
       counts_last = ⊎_elim
           (λ (silent : reported3 ≡ reported2). inl (taken_all left left2 t.taken (λ bytes. AppendsPrefix reported reported3 (refusals_text (capture_of week bytes))) t.consumes t.end
           (subst (λ (o : Option Capture). AppendsPrefix reported reported3 (refusals_text o)) (sym capture)
           (subst (λ (u : Option (List ℕ)). AppendsPrefix reported u (line_report (log_of head.window t.given))) (sym silent)
           (appends_whole reported reported2 (line_report (log_of head.window t.given)) t.report)))))
           (λ (all : (fault ≡ ReportFault) × Appends written2 written3 (back_text to (counts_text counts))). inr (
-          all.0,
-          t.end,
-          subst (Appends written written3) (append_assoc (prefix_text to) texts (back_text to (counts_text (counts_of c))) ∙ sym (output_is to week t.taken c capture))
-          (Appends-trans written written2 written3 (prefix_text to ++ texts) (back_text to (counts_text (counts_of c))) t.text
-          (subst (λ (x : CaptureCounts). Appends written2 written3 (back_text to (counts_text x))) t.counted all.1)),
+            all.0,
+            t.end,
+            subst (Appends written written3) (append_assoc (prefix_text to) texts (back_text to (counts_text (counts_of c))) ∙ sym (output_is to week t.taken c capture))
+                (Appends-trans written written2 written3 (prefix_text to ++ texts) (back_text to (counts_text (counts_of c))) t.text
+                (subst (λ (x : CaptureCounts). Appends written2 written3 (back_text to (counts_text x))) t.counted all.1)),
           ))
           untold;
       says = says;

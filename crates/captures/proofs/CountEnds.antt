@@ -71,9 +71,9 @@ count_broke r text left b a fault same known low some never broke ahead =
           (λ (none : IfSome b.left (λ bytes. AppendsPrefix b.reported a.reported (refusals_text (capture_of (Some r) bytes)))).
           inl (subst (λ (o : Option (List ℕ)). IfSome o (λ bytes. AppendsPrefix b.reported a.reported (refusals_text (capture_of (Some r) bytes)))) all none))
           (λ (wrote : (fault ≡ ReportFault) × IsAtEnd a.left × Appends b.written a.written (output_of Count (Some r) broke.taken)). inr (
-          wrote.0,
-          subst (λ (o : Option (List ℕ)). IfSome o (λ bytes. Appends b.written a.written (output_of Count (Some r) bytes))) all
-          (taken_all b.left a.left broke.taken (λ bytes. Appends b.written a.written (output_of Count (Some r) bytes)) broke.consumes wrote.1 wrote.2),
+            wrote.0,
+            subst (λ (o : Option (List ℕ)). IfSome o (λ bytes. Appends b.written a.written (output_of Count (Some r) bytes))) all
+                (taken_all b.left a.left broke.taken (λ bytes. Appends b.written a.written (output_of Count (Some r) bytes)) broke.consumes wrote.1 wrote.2),
           ))
           broke.counts_last,
     )

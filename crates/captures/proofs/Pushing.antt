@@ -795,18 +795,22 @@ all_cut laws to week bytes lines hearing start written written_new begun reporte
           (between_within begun reported_new (flushed_report week bytes) log (log ++ counts_text (counts_of c)) (log ++ counts_text (counts_of c))
           (reported_within week all.head all.line all.given bytes whole_lines all.accepted) (prefix_same (log ++ counts_text (counts_of c)))
           (between_behind begun reported reported_new log (counts_text (counts_of c)) all.report told));
-      stopped = end_stopped_at laws to week all.head all.line all.given bytes start written_new begun reported_new all.accepted whole_lines
-          ((prefix_text to ++ texts) ++ behind.0,
-          prefix_trans (prefix_text to ++ closed_texts to all.head all.given) (prefix_text to ++ texts) ((prefix_text to ++ texts) ++ behind.0)
-          (prefix_behind (prefix_text to) (closed_texts to all.head all.given) texts (closed_within laws to all.head all.given)) (prefix_more (prefix_text to ++ texts) behind.0),
-          Appends-trans start written written_new (prefix_text to ++ texts) behind.0 all.text behind.2)
+      stopped = end_stopped_at laws to week all.head all.line all.given bytes start written_new begun reported_new all.accepted whole_lines (
+        (prefix_text to ++ texts) ++ behind.0,
+        prefix_trans (prefix_text to ++ closed_texts to all.head all.given) (prefix_text to ++ texts) ((prefix_text to ++ texts) ++ behind.0)
+            (prefix_behind (prefix_text to) (closed_texts to all.head all.given) texts (closed_within laws to all.head all.given)) (prefix_more (prefix_text to ++ texts) behind.0),
+        Appends-trans start written written_new (prefix_text to ++ texts) behind.0 all.text behind.2,
+      )
           (log ++ told.0, prefix_more log told.0, Appends-trans begun reported reported_new log told.0 all.report told.2);
       counts_last = ⊎_elim
           (λ (e : fault ≡ WriteFault). inl (subst (λ (x : Option Capture). AppendsPrefix begun reported_new (refusals_text x)) (sym capture)
           (subst (λ (u : Option (List ℕ)). AppendsPrefix begun u log) (sym (untold e)) (appends_whole begun reported log all.report))))
-          (λ (e : fault ≡ ReportFault). inr (e, subst (Appends start written_new) (append_assoc (prefix_text to) texts (back_text to (counts_text (counts_of c))) ∙ sym (output_is to week bytes c capture))
-          (Appends-trans start written written_new (prefix_text to ++ texts) (back_text to (counts_text (counts_of c))) all.text
-          (subst (λ (x : CaptureCounts). Appends written written_new (back_text to (counts_text x))) same (wrote e)))))
+          (λ (e : fault ≡ ReportFault). inr (
+            e,
+            subst (Appends start written_new) (append_assoc (prefix_text to) texts (back_text to (counts_text (counts_of c))) ∙ sym (output_is to week bytes c capture))
+                (Appends-trans start written written_new (prefix_text to ++ texts) (back_text to (counts_text (counts_of c))) all.text
+                (subst (λ (x : CaptureCounts). Appends written written_new (back_text to (counts_text x))) same (wrote e))),
+          ))
           kind;
       says = written_says week bytes fault kind some;
     }

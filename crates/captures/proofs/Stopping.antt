@@ -62,6 +62,7 @@ either_begins (d ∷ ds) more (y ∷ ys) rest e = step (either_begins ds more ys
   where
     same : d ≡ y
     same = ap (λ (l : List Line). first_or d l) e
+
     step : BeginsWith ds ys ⊎ BeginsWith ys ds → BeginsWith (d ∷ ds) (y ∷ ys) ⊎ BeginsWith (y ∷ ys) (d ∷ ds)
     step (inl (left, is)) = inl (left, ap (λ (l : List Line). d ∷ l) is ∙ ap (λ (z : Line). z ∷ ys ++ left) same)
     step (inr (left, is)) = inr (left, ap (λ (l : List Line). y ∷ l) is ∙ ap (λ (z : Line). z ∷ ds ++ left) (sym same))
@@ -96,9 +97,9 @@ lines_stopped laws to week done last more bytes w w' u u' few all written report
     )
     at front (inr past) = inr (
       subst (AppendsPrefix w w') (sym (flushed_is to week front (lines_by true front) refl))
-      (appends_longer w w' _ _ (text_begins laws to week (lines_by true front) (done ++ last) past) (prefix_of w w' _ _ written)),
+          (appends_longer w w' _ _ (text_begins laws to week (lines_by true front) (done ++ last) past) (prefix_of w w' _ _ written)),
       subst (AppendsPrefix u u') (sym (flushed_report_is week front (lines_by true front) refl))
-      (appends_longer u u' _ _ (told_begins week (lines_by true front) (done ++ last) past) (prefix_of u u' _ _ reported)),
+          (appends_longer u u' _ _ (told_begins week (lines_by true front) (done ++ last) past) (prefix_of u u' _ _ reported)),
     )
 
 -- all lines were done
