@@ -195,10 +195,15 @@ pub record StreamMoves (r : ℕ) (prefix : List ℕ) (text : NavItem → List �
   pub decides : (following : List ℕ) → more ≡ true → decided (before ++ following) ≡ frames_are ++ decided (after ++ following)
   pub goes : StreamGoes r prefix text frames_are written written_new reported reported_new given given_new counts counts_new
 
+-- these frames are the others, or have one frame more
+abbrev pub IsNext : List (List ℕ) → List (List ℕ) → Type 0
+IsNext done given = (given ≡ done) ⊎ ((frame : List ℕ) × (given ≡ done ++ frame ∷ []))
+
 -- Frames of these bytes were found, and the last of them is not fully processed, whatever bytes follow.
 pub record StreamStops (r : ℕ) (prefix : List ℕ) (text : NavItem → List ℕ) (more : Bool) (before : List ℕ) (written written_new reported reported_new : Option (List ℕ)) (given : GivenState) (counts : StreamCounts) : Type 0 where
   pub done : List (List ℕ)
   pub frames_are : List (List ℕ)
+  pub next : IsNext done frames_are
   pub stream : (following : List ℕ) → (more ≡ false → following ≡ []) → (rest : List (List ℕ)) × (frames (before ++ following) ≡ frames_are ++ rest)
   pub breaks : (past : List (List ℕ)) (start begun : Option (List ℕ)) → StreamSoFar r prefix text past start written begun reported given counts
       → StreamBroke r prefix text (past ++ done) (past ++ frames_are) start written_new begun reported_new
@@ -226,6 +231,7 @@ pub record StreamPart (r : ℕ) (prefix : List ℕ) (text : NavItem → List ℕ
   pub stops : StreamStops r prefix text more taken written written_new reported reported_new given counts
   pub flushes : BeginsFlushed stops.done taken
   pub too_long : fault ≡ TooLong → length taken ≡ 2 ^ 32
+  pub memory : fault ≡ NoMemory → length taken < 2 ^ 32
   pub form : fault ≡ NotThisForm → ⊥
   pub exact : fault ≡ ReadFault → StreamGoes r prefix text (decided taken) written written_new reported reported_new given given_new counts counts_new
 
@@ -243,3 +249,8 @@ IsStreamFault WriteFault = Unit {0}
 IsStreamFault ReportFault = Unit {0}
 IsStreamFault NoMemory = Unit {0}
 IsStreamFault _ = ⊥
+
+-- the error of a run that ended in a piece by this fault, after so many bytes: no memory in a byte too many is TooLong
+pub record IsFaultAt (taken : ℕ) (fault given : BridgeFault) : Type 0 where
+  pub same : (given ≡ fault) ⊎ ((given ≡ TooLong) × (fault ≡ NoMemory) × (2 ^ 32 ≤ taken))
+  pub memory : given ≡ NoMemory → taken < 2 ^ 32
