@@ -109,6 +109,7 @@ tail_is (z ∷ zs) = zs
 
 -- of two beginnings of one list one begins the other
 one_begins : (a b r s : List ℕ) → a ++ r ≡ b ++ s → IsPrefix b a ⊎ IsPrefix a b
+unfolding head_is tail_is
 one_begins [] b r s e = inr (b, refl)
 one_begins (x ∷ xs) [] r s e = inl (x ∷ xs, refl)
 one_begins (x ∷ xs) (y ∷ ys) r s e = step (one_begins xs ys r s (ap tail_is e)) where

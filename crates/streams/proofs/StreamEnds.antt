@@ -64,7 +64,7 @@ least_reported r taken them (rest, is) =
     (sym (ap (readings r) is ∙ readings_append r first rest)) (report_longer 1 (readings r first) (readings r rest))
 
 -- the lines of a stream's frames begin its report
-report_front : (r : ℕ) (bytes : List ℕ) → IsPrefix (readings_report 1 (stream_readings r bytes)) (stream_report r bytes)
+pub report_front : (r : ℕ) (bytes : List ℕ) → IsPrefix (readings_report 1 (stream_readings r bytes)) (stream_report r bytes)
 report_front r bytes = (stream_counts_text (stream_counts r bytes), refl)
 
 -- ---- a stream begins

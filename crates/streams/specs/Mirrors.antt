@@ -3,7 +3,7 @@ use Rattle.std.specs.Prelude.{◌≡◌, ◌+◌, ◌-◌, ◌*◌, ◌%◌, ◌
 use Rattle.std.specs.List.{All}
 use Rattle.std.specs.Ordering.{nat_cmp}
 use Rattle.std.specs.Cmp.Lexicographic.{slice_cmp}
-use Rattle.std.specs.BTreeSet.{BTreeSet, contains}
+use Rattle.std.specs.BTreeSet.{BTreeSet, btree_set_len, contains}
 use Rattle.std.specs.BTreeMap.{is_at}
 use Rattle.std.specs.Map.{lookup}
 use Rattle.std.specs.Option.{unwrap_or}
@@ -69,6 +69,14 @@ abbrev pub AddsKey : MessagesState → MessagesState → List ℕ → Type 0
 AddsKey old new message =
     (other : List ℕ) → has_key new other
     ≡ (is_at (slice_cmp nat_cmp message) other || has_key old other)
+
+-- the number of messages in the set
+abbrev pub held : MessagesState → ℕ
+held s = length s.list + btree_set_len s.others
+
+-- one message more is held if it was added, else as many as before
+abbrev pub AddsOnce : MessagesState → MessagesState → Bool → Type 0
+AddsOnce old new added = held new ≡ held old + (if added then 1 else 0)
 
 -- what a stream gave so far: the messages of its GPS and Galileo ephemerides, and a cache of payloads as they were read
 pub record GivenState : Type 0 where
