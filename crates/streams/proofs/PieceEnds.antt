@@ -9,10 +9,9 @@ use Rattle.rtcm_frame.specs.Frames.{decided, frames, undecided}
 use Rattle.rtcm_frame.specs.State.{DeframerState, IsWaiting}
 use Rattle.one_run.specs.declared.fault.BridgeFault.{BridgeFault}
 use Rattle.one_run.specs.declared.fault.BridgeFault.TheVariants.{ReadFault, WriteFault, ReportFault, NotThisForm, TooLong, NoMemory}
-use Rattle.one_run.specs.Causes.{Faults, HasItsCause}
 use Rattle.streams.specs.declared.counts.StreamCounts.{StreamCounts}
 use Rattle.streams.specs.Streams.{readings, readings_output, readings_report}
-use Rattle.streams.specs.Mirrors.{BeginsFlushed, GivenState, IsFaultAt, IsStreamFault, StreamAll, StreamBroke, StreamGoes, StreamMoves, StreamPart, StreamSoFar, StreamStops}
+use Rattle.streams.specs.Mirrors.{BeginsFlushed, GivenState, IsStreamFault, StreamAll, StreamBroke, StreamGoes, StreamMoves, StreamPart, StreamSoFar, StreamStops}
 use Rattle.streams.proofs.DecidedLemmas.{decided_behind, decided_waiting}
 use Rattle.streams.proofs.MoveLemmas.{moves_fed, moves_on, stops_on}
 use Rattle.streams.proofs.PieceLemmas.{PiecesSoFar}
@@ -157,6 +156,11 @@ part_of_long r prefix text left l1 w w1 u u1 g g1 c c1 state taken far long = re
 
 -- ---- the fault of a piece
 
+-- the error of a run that ended in a piece by this fault, after so many bytes: no memory in a byte too many is TooLong
+pub record IsFaultAt (taken : ℕ) (fault given : BridgeFault) : Type 0 where
+  pub same : (given ≡ fault) ⊎ ((given ≡ TooLong) × (fault ≡ NoMemory) × (2 ^ 32 ≤ taken))
+  pub memory : given ≡ NoMemory → taken < 2 ^ 32
+
 -- an error by which no piece ends
 abbrev ends_none : BridgeFault → Bool
 ends_none ReadFault = true
@@ -192,15 +196,6 @@ long_at taken fault given kind at is = by at.same where
   by : (given ≡ fault) ⊎ ((given ≡ TooLong) × (fault ≡ NoMemory) × (2 ^ 32 ≤ taken)) → 2 ^ 32 ≤ taken
   by (inl same) = absurd (subst IsStreamFault (sym same ∙ is) kind)
   by (inr long) = long.2
-
--- and has the same cause
-pub cause_at : (taken : ℕ) (fault given : BridgeFault) (before now : Faults) → IsFaultAt taken fault given → HasItsCause {T = Unit {0}} before now (Err fault) → HasItsCause {T = Unit {0}} before now (Err given)
-cause_at taken fault given before now at cause = by at.same where
-  by : (given ≡ fault) ⊎ ((given ≡ TooLong) × (fault ≡ NoMemory) × (2 ^ 32 ≤ taken)) → HasItsCause {T = Unit {0}} before now (Err given)
-  by (inl same) = subst (λ (f : BridgeFault). HasItsCause {T = Unit {0}} before now (Err f)) (sym same) cause
-  by (inr (long, none, many)) =
-      subst (λ (f : BridgeFault). HasItsCause {T = Unit {0}} before now (Err f)) (sym long)
-      (subst (λ (f : BridgeFault). HasItsCause {T = Unit {0}} before now (Err f)) none cause)
 
 -- a frame of a piece is not taken to its end
 pub part_of_piece : (r : ℕ) (prefix : List ℕ) (text : NavItem → List ℕ) (left l1 l2 w w1 w2 u u1 u2 : Option (List ℕ)) (g g1 g2 : GivenState) (c c1 c2 : StreamCounts) (old : DeframerState) (taken n : ℕ) (piece : List ℕ) (fault given : BridgeFault)

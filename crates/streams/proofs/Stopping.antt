@@ -127,7 +127,7 @@ silent_stopped text grows stay None w w' u u' ahead silent = tt
 silent_stopped text grows stay (Some bytes) w w' u u' (prefix, (rest, within), grew) silent =
     λ front begins. let first = decided_within text grows stay bytes front begins in
     by front (one_begins prefix (text (decided front)) rest first.0 (sym within ∙ first.1)) where
-  by : (front : List ℕ) → IsPrefix (text (decided front)) prefix ⊎ IsPrefix prefix (text (decided front))
-      → (AppendsAll w w' (text (decided front)) × AppendsAll u u' []) ⊎ (AppendsPrefix w w' (text (decided front)) × AppendsPrefix u u' [])
-  by front (inl all) = inl ((prefix, all, grew), ([], prefix_nil [], silent))
-  by front (inr some) = inr ((prefix, some, grew), ([], prefix_nil [], silent))
+      by : (front : List ℕ) → IsPrefix (text (decided front)) prefix ⊎ IsPrefix prefix (text (decided front))
+          → (AppendsAll w w' (text (decided front)) × AppendsAll u u' []) ⊎ (AppendsPrefix w w' (text (decided front)) × AppendsPrefix u u' [])
+      by front (inl all) = inl ((prefix, all, grew), ([], prefix_nil [], silent))
+      by front (inr some) = inr ((prefix, some, grew), ([], prefix_nil [], silent))

@@ -12,9 +12,9 @@ use Rattle.one_run.specs.declared.fault.BridgeFault.TheVariants.{ReadFault, Writ
 use Rattle.one_run.specs.Causes.{HasItsCause, faults_of}
 use Rattle.one_run.specs.Runs.{AppendsBetween, Broke, CountsAreLast, Done, Leaves, Says, World, faults_in}
 use Rattle.one_run.proofs.Surface.{ahead_at_end, ahead_by, all_of, between, between_behind, between_whole, between_within, no_prefix, nothing_told, prefix_nil, prefix_of, prefix_same, prefix_trans, prefix_within, report_failed, taken_all, whole_prefix, with_rest, write_failed}
-use Rattle.streams.specs.Mirrors.{BeginsFlushed, IsFaultAt, IsStreamFault}
+use Rattle.streams.specs.Mirrors.{BeginsFlushed, IsStreamFault}
 use Rattle.streams.specs.Taken.{Gives, Stops, Takes, TakesAll, TakesPart, frames_meaning_by, least_by}
-use Rattle.streams.proofs.PieceEnds.{begins_all, begins_flushed, flushed_frames, kind_at, long_at, takes_none}
+use Rattle.streams.proofs.PieceEnds.{IsFaultAt, begins_all, begins_flushed, flushed_frames, kind_at, long_at, takes_none}
 use Rattle.streams.proofs.StreamEnds.{all_frames}
 use Rattle.streams.proofs.Stopping.{Grows, Stays, decided_texts, end_stopped, ended_stopped, frames_stopped, none_stopped, rest_stopped}
 use Rattle.streams.proofs.TakenLemmas.{stops_on, takes_fed, takes_nowhere, takes_on}
@@ -342,10 +342,10 @@ broke_end {text = text} {whole = whole} {told = told} {reported = reported} coun
       leaves = leaves text whole told reported count;
       says = says;
     } where
-  counts_last : AppendsPrefix b.reported a.reported (told (frames all.taken)) ⊎ ((fault ≡ ReportFault) × Appends b.written a.written (whole (frames all.taken)))
-      → CountsAreLast (frames_meaning_by text whole told reported count) all.taken b a fault
-  counts_last (inl rejections) = inl (taken_all b.left a.left all.taken (λ bytes. AppendsPrefix b.reported a.reported (told (frames bytes))) all.consumes all.end rejections)
-  counts_last (inr (is, output)) = inr (is, all.end, output)
+      counts_last : AppendsPrefix b.reported a.reported (told (frames all.taken)) ⊎ ((fault ≡ ReportFault) × Appends b.written a.written (whole (frames all.taken)))
+          → CountsAreLast (frames_meaning_by text whole told reported count) all.taken b a fault
+      counts_last (inl rejections) = inl (taken_all b.left a.left all.taken (λ bytes. AppendsPrefix b.reported a.reported (told (frames bytes))) all.consumes all.end rejections)
+      counts_last (inr (is, output)) = inr (is, all.end, output)
 
 -- the last text is not written to its end
 pub broke_last : {X C S T U : Type 0} {text whole told reported : List (List ℕ) → List ℕ} {holds : X → List (List ℕ) → Type 0} (count : List (List ℕ) → C) {b a : World S T U} {w1 w2 : Option (List ℕ)} {s s1 : X} (tail : List ℕ)

@@ -257,8 +257,3 @@ IsStreamFault WriteFault = Unit {0}
 IsStreamFault ReportFault = Unit {0}
 IsStreamFault NoMemory = Unit {0}
 IsStreamFault _ = ⊥
-
--- the error of a run that ended in a piece by this fault, after so many bytes: no memory in a byte too many is TooLong
-pub record IsFaultAt (taken : ℕ) (fault given : BridgeFault) : Type 0 where
-  pub same : (given ≡ fault) ⊎ ((given ≡ TooLong) × (fault ≡ NoMemory) × (2 ^ 32 ≤ taken))
-  pub memory : given ≡ NoMemory → taken < 2 ^ 32
