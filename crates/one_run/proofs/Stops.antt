@@ -36,6 +36,7 @@ tail_is {X} x y xs ys e = (
     first : X → List X → X
     first d [] = d
     first d (z ∷ zs) = z
+
     tail : List X → List X
     tail [] = []
     tail (z ∷ zs) = zs
@@ -50,6 +51,7 @@ no_more_or_beyond {X} (d ∷ ds) (y ∷ ys) rest left x e = step (no_more_or_bey
   where
     same : d ≡ y
     same = (tail_is d y (ds ++ x ∷ left) (ys ++ rest) e).0
+
     step : BeginsWith ds ys ⊎ BeginsWith ys (ds ++ x ∷ []) → BeginsWith (d ∷ ds) (y ∷ ys) ⊎ BeginsWith (y ∷ ys) (d ∷ ds ++ x ∷ [])
     step (inl (more, is)) = inl (more, ap (λ (l : List X). d ∷ l) is ∙ ap (λ z. z ∷ ys ++ more) same)
     step (inr (more, is)) = inr (more, ap (λ (l : List X). y ∷ l) is ∙ ap (λ z. z ∷ (ds ++ x ∷ []) ++ more) (sym same))
@@ -87,6 +89,7 @@ stopped_in {X} texts steps decides text told longer_text longer_told bytes done 
   where
     within : (f : List X → List ℕ) → ((xs ys : List X) → IsPrefix (f xs) (f (xs ++ ys))) → (some all : List X) → BeginsWith all some → IsPrefix (f some) (f all)
     within f longer some all (rest, is) = subst (λ (l : List X). IsPrefix (f some) (f l)) (sym is) (longer some rest)
+
     at : (front : List ℕ) → IsPrefix front bytes → BeginsWith done (decides front) ⊎ BeginsWith (decides front) (done ++ x ∷ [])
         → (AppendsAll w w' (texts.output front) × AppendsAll u u' (texts.report front)) ⊎ (AppendsPrefix w w' (texts.output front) × AppendsPrefix u u' (texts.report front))
     at front begins (inl no_more) = inl (
@@ -95,7 +98,7 @@ stopped_in {X} texts steps decides text told longer_text longer_told bytes done 
     )
     at front begins (inr beyond) = inr (
       subst (AppendsPrefix w w') (sym (output front begins))
-      (prefix_within w w' _ _ (within text longer_text (done ++ x ∷ []) (decides front) beyond) (written.prefix, written.within, written.grew)),
+          (prefix_within w w' _ _ (within text longer_text (done ++ x ∷ []) (decides front) beyond) (written.prefix, written.within, written.grew)),
       subst (AppendsPrefix u u') (sym (report front begins))
-      (prefix_within u u' _ _ (within told longer_told (done ++ x ∷ []) (decides front) beyond) (reported.prefix, reported.within, reported.grew)),
+          (prefix_within u u' _ _ (within told longer_told (done ++ x ∷ []) (decides front) beyond) (reported.prefix, reported.within, reported.grew)),
     )

@@ -103,8 +103,8 @@ abbrev pub StopAtOnePlace : Option Texts → Option (List ℕ) → Option (List 
 StopAtOnePlace None input written written_new reported reported_new = Unit {0}
 StopAtOnePlace (Some decided) input written written_new reported reported_new =
     IfSome input (λ bytes. (front : List ℕ) → IsPrefix front bytes
-        → (AppendsAll written written_new (decided.output front) × AppendsAll reported reported_new (decided.report front))
-        ⊎ (AppendsPrefix written written_new (decided.output front) × AppendsPrefix reported reported_new (decided.report front)))
+    → (AppendsAll written written_new (decided.output front) × AppendsAll reported reported_new (decided.report front))
+    ⊎ (AppendsPrefix written written_new (decided.output front) × AppendsPrefix reported reported_new (decided.report front)))
 
 -- no counts were reported, or the report failed after the input was read to its end and the whole output written
 abbrev pub CountsAreLast : {C S T U : Type 0} → Meaning C → List ℕ → World S T U → World S T U → BridgeFault → Type 0
