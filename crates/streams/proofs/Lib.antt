@@ -4,6 +4,7 @@ mod SentLemmas
 mod KnownLemmas
 mod StreamLemmas
 mod DecidedLemmas
+mod Stopping
 mod MoveLemmas
 mod PieceLemmas
 mod PieceEnds

@@ -1,5 +1,5 @@
 -- Frames that are taken between two rests of bytes.
-use Rattle.std.proofs.Common.{◌≡◌, ◌+◌, ℕ, Bool, true, List, [], ◌∷◌, ◌++◌, take, drop, refl, sym, ap, subst, ◌∙◌, append_assoc, append-nil}
+use Rattle.std.proofs.Common.{◌≡◌, ◌+◌, ℕ, Bool, true, List, [], ◌∷◌, ◌++◌, take, drop, inr, refl, sym, ap, subst, ◌∙◌, append_assoc, append-nil}
 use Rattle.std.specs.Prelude.{Option}
 use Rattle.std.proofs.lemmas.List.{take-append-drop}
 use Rattle.std.proofs.Math.Seq.{take-add}
@@ -9,6 +9,7 @@ use Rattle.rtcm_frame.specs.State.{TakesFrame, TakesNone}
 use Rattle.streams.specs.declared.counts.StreamCounts.{StreamCounts}
 use Rattle.streams.specs.Mirrors.{GivenState, StreamBreaks, StreamGoes, StreamMoves, StreamSoFar, StreamBroke, StreamStops}
 use Rattle.streams.proofs.DecidedLemmas.{decided_frame, decided_none}
+use Rattle.streams.proofs.Stopping.{next_behind}
 
 -- no frame was taken
 pub moves_nowhere : (r : ℕ) (prefix : List ℕ) (text : NavItem → List ℕ) (more : Bool) (rest : List ℕ) (w u : Option (List ℕ)) (given : GivenState) (c : StreamCounts)
@@ -57,6 +58,7 @@ pub stops_more : (r : ℕ) (prefix : List ℕ) (text : NavItem → List ℕ) (mo
 stops_more r prefix text more a b d frame w w1 w2 u u1 u2 g g1 c c1 first takes breaks = record {
   done = first.frames_are;
   frames_are = first.frames_are ++ frame ∷ [];
+  next = inr (frame, refl);
   stream = λ following last. (
     frames (d ++ following),
     first.stream following last ∙ ap (λ (l : List (List ℕ)). first.frames_are ++ l) (takes.stream following last)
@@ -105,6 +107,7 @@ unfoldable pub stops_on : (r : ℕ) (prefix : List ℕ) (text : NavItem → List
 stops_on r prefix text more a b w w1 w2 u u1 u2 g g1 c c1 first stops = record {
   done = first.frames_are ++ stops.done;
   frames_are = first.frames_are ++ stops.frames_are;
+  next = next_behind first.frames_are stops.done stops.frames_are stops.next;
   stream = λ following last. (
     (stops.stream following last).0,
     first.stream following last ∙ ap (λ (l : List (List ℕ)). first.frames_are ++ l) (stops.stream following last).1
@@ -122,6 +125,7 @@ pub stops_fed : (r : ℕ) (prefix : List ℕ) (text : NavItem → List ℕ) (a d
 stops_fed r prefix text a d w w1 u u1 g c stops = record {
   done = stops.done;
   frames_are = stops.frames_are;
+  next = stops.next;
   stream = λ following last.
       let whole = stops.stream (d ++ following) (λ never. cc) in
       (whole.0, ap frames (append_assoc a d following) ∙ whole.1);

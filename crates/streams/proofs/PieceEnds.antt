@@ -1,5 +1,5 @@
 -- How a run over the bytes of a stream ends: with all of them, or with a prefix of what they give.
-use Rattle.std.proofs.Common.{◌≡◌, ◌-◌, ◌<◌, ◌≤◌, ◌^◌, ℕ, Bool, true, false, not, List, [], ◌++◌, length, take, drop, ◌∙◌, refl, sym, ap, subst, arith, append_assoc, append-nil, length-append}
+use Rattle.std.proofs.Common.{◌≡◌, ◌⊎◌, ◌+◌, ◌-◌, ◌<◌, ◌≤◌, ◌^◌, ℕ, Bool, true, false, not, List, [], ◌++◌, length, take, drop, ◌∙◌, inl, inr, refl, sym, ap, subst, arith, append_assoc, append-nil, length-append}
 use Rattle.std.proofs.lemmas.List.{take-append-drop, take-append-le}
 use Rattle.std.specs.Prelude.{Option, Result, Ok, Err, IfErr, OnErr}
 use Rattle.std.specs.Io.KnownBytes.{Consumes, IsAtEnd, Keeps}
@@ -8,7 +8,7 @@ use Rattle.nav_eph.specs.declared.items.NavItem.{NavItem}
 use Rattle.rtcm_frame.specs.Frames.{decided, frames, undecided}
 use Rattle.rtcm_frame.specs.State.{DeframerState, IsWaiting}
 use Rattle.one_run.specs.declared.fault.BridgeFault.{BridgeFault}
-use Rattle.one_run.specs.declared.fault.BridgeFault.TheVariants.{ReadFault, TooLong}
+use Rattle.one_run.specs.declared.fault.BridgeFault.TheVariants.{ReadFault, WriteFault, ReportFault, NotThisForm, TooLong, NoMemory}
 use Rattle.streams.specs.declared.counts.StreamCounts.{StreamCounts}
 use Rattle.streams.specs.Streams.{readings, readings_output, readings_report}
 use Rattle.streams.specs.Mirrors.{BeginsFlushed, GivenState, IsStreamFault, StreamAll, StreamBroke, StreamGoes, StreamMoves, StreamPart, StreamSoFar, StreamStops}
@@ -50,6 +50,7 @@ stops_of_moves : (r : ℕ) (prefix : List ℕ) (text : NavItem → List ℕ) (mo
 stops_of_moves r prefix text more a b w w1 u u1 g g1 c c1 moves = record {
   done = moves.frames_are;
   frames_are = moves.frames_are;
+  next = inl refl;
   stream = λ following last. (frames (b ++ following), moves.stream following last);
   breaks = λ past start begun far. broke_whole r prefix text (past ++ moves.frames_are) start w1 begun u1 g1 c1 (moves.goes past start begun far);
 }
@@ -131,6 +132,7 @@ part_of_read r prefix text left l1 l2 w w1 u u1 g g1 c c1 state taken far kept =
       stops = stops_of_moves r prefix text true far.bytes state.rest w w1 u u1 g g1 c c1 far.moves;
       flushes = begins_all far.bytes far.moves.frames_are [] (flushed ∙ sym (append-nil (decided far.bytes)));
       too_long = λ never. cc;
+      memory = λ never. cc;
       form = λ never. cc;
       exact = λ same. subst (λ (l : List (List ℕ)). StreamGoes r prefix text l w w1 u u1 g g1 c c1) flushed far.moves.goes;
     }
@@ -147,17 +149,61 @@ part_of_long r prefix text left l1 w w1 u u1 g g1 c c1 state taken far long = re
   stops = stops_of_moves r prefix text true far.bytes state.rest w w1 u u1 g g1 c c1 far.moves;
   flushes = begins_all far.bytes far.moves.frames_are [] (far_flushed r prefix text left l1 w w1 u u1 g g1 c c1 state taken far ∙ sym (append-nil (decided far.bytes)));
   too_long = λ same. far.size ∙ long;
+  memory = λ never. cc;
   form = λ never. cc;
   exact = λ never. cc;
 }
 
+-- ---- the fault of a piece
+
+-- the error of a run that ended in a piece by this fault, after so many bytes: no memory in a byte too many is TooLong
+pub record IsFaultAt (taken : ℕ) (fault given : BridgeFault) : Type 0 where
+  pub same : (given ≡ fault) ⊎ ((given ≡ TooLong) × (fault ≡ NoMemory) × (2 ^ 32 ≤ taken))
+  pub memory : given ≡ NoMemory → taken < 2 ^ 32
+
+-- an error by which no piece ends
+abbrev ends_none : BridgeFault → Bool
+ends_none ReadFault = true
+ends_none NotThisForm = true
+ends_none other = false
+
+ends : (wrong : BridgeFault) → ends_none wrong ≡ true → IsStreamFault wrong → ⊥
+ends ReadFault none kind = kind
+ends NotThisForm none kind = kind
+ends WriteFault none kind = cc
+ends ReportFault none kind = cc
+ends TooLong none kind = cc
+ends NoMemory none kind = cc
+
+apart : (wrong : BridgeFault) → ends_none wrong ≡ true → TooLong ≡ wrong → ⊥
+apart ReadFault none is = cc
+apart NotThisForm none is = cc
+apart WriteFault none is = cc
+apart ReportFault none is = cc
+apart TooLong none is = cc
+apart NoMemory none is = cc
+
+-- the run ends so only by the fault of the piece, or by TooLong
+pub kind_at : (wrong : BridgeFault) (taken : ℕ) (fault given : BridgeFault) → IsStreamFault fault → IsFaultAt taken fault given → given ≡ wrong → ends_none wrong ≡ true → ⊥
+kind_at wrong taken fault given kind at is none = by at.same where
+  by : (given ≡ fault) ⊎ ((given ≡ TooLong) × (fault ≡ NoMemory) × (2 ^ 32 ≤ taken)) → ⊥
+  by (inl same) = ends wrong none (subst IsStreamFault (sym same ∙ is) kind)
+  by (inr long) = apart wrong none (sym long.0 ∙ is)
+
+-- it ends by TooLong only after too many bytes
+pub long_at : (taken : ℕ) (fault given : BridgeFault) → IsStreamFault fault → IsFaultAt taken fault given → given ≡ TooLong → 2 ^ 32 ≤ taken
+long_at taken fault given kind at is = by at.same where
+  by : (given ≡ fault) ⊎ ((given ≡ TooLong) × (fault ≡ NoMemory) × (2 ^ 32 ≤ taken)) → 2 ^ 32 ≤ taken
+  by (inl same) = absurd (subst IsStreamFault (sym same ∙ is) kind)
+  by (inr long) = long.2
+
 -- a frame of a piece is not taken to its end
-pub part_of_piece : (r : ℕ) (prefix : List ℕ) (text : NavItem → List ℕ) (left l1 l2 w w1 w2 u u1 u2 : Option (List ℕ)) (g g1 g2 : GivenState) (c c1 c2 : StreamCounts) (old : DeframerState) (taken : ℕ) (piece : List ℕ) (fault : BridgeFault)
-    → PiecesSoFar r prefix text left l1 w w1 u u1 g g1 c c1 old taken → Consumes l1 l2 piece → length piece ≤ 16384
-    → StreamStops r prefix text true (old.rest ++ piece) w1 w2 u1 u2 g1 c1 → IsStreamFault fault
-    → StreamPart r prefix text left l2 w w2 u u2 g g2 c c2 fault
+pub part_of_piece : (r : ℕ) (prefix : List ℕ) (text : NavItem → List ℕ) (left l1 l2 w w1 w2 u u1 u2 : Option (List ℕ)) (g g1 g2 : GivenState) (c c1 c2 : StreamCounts) (old : DeframerState) (taken n : ℕ) (piece : List ℕ) (fault given : BridgeFault)
+    → PiecesSoFar r prefix text left l1 w w1 u u1 g g1 c c1 old taken → Consumes l1 l2 piece → length piece ≤ 16384 → length piece ≡ n → taken + n ≤ 2 ^ 32
+    → StreamStops r prefix text true (old.rest ++ piece) w1 w2 u1 u2 g1 c1 → IsStreamFault fault → IsFaultAt (taken + n) fault given
+    → StreamPart r prefix text left l2 w w2 u u2 g g2 c c2 given
 unfolding stops_on moves_fed
-part_of_piece r prefix text left l1 l2 w w1 w2 u u1 u2 g g1 g2 c c1 c2 old taken piece fault far read few stops kind = record {
+part_of_piece r prefix text left l1 l2 w w1 w2 u u1 u2 g g1 g2 c c1 c2 old taken n piece fault given far read few size most stops kind at = record {
   taken = far.bytes ++ piece;
   consumes = Consumes-trans left l1 l2 far.bytes piece far.consumes read;
   more = true;
@@ -166,19 +212,20 @@ part_of_piece r prefix text left l1 l2 w w1 w2 u u1 u2 g g1 g2 c c1 c2 old taken
       (moves_fed r prefix text far.bytes old.rest piece w w1 u u1 g g1 c c1 far.moves) stops;
   flushes = begins_flushed far.bytes piece (far.moves.frames_are ++ stops.done) stops.done few
       (ap (λ (l : List (List ℕ)). l ++ stops.done) (far_flushed r prefix text left l1 w w1 u u1 g g1 c c1 old taken far));
-  too_long = λ is. absurd (subst IsStreamFault is kind);
-  form = λ is. subst IsStreamFault is kind;
-  exact = λ is. absurd (subst IsStreamFault is kind);
+  too_long = λ is. let many = long_at (taken + n) fault given kind at is in omega (arith, length-append far.bytes piece, far.size, size, most, many);
+  memory = λ is. let few = at.memory is in omega (arith, length-append far.bytes piece, far.size, size, few);
+  form = λ is. kind_at NotThisForm (taken + n) fault given kind at is refl;
+  exact = λ is. absurd (kind_at ReadFault (taken + n) fault given kind at is refl);
 }
 
 -- a frame that the end decides is not taken to its end
 pub part_of_last : (r : ℕ) (prefix : List ℕ) (text : NavItem → List ℕ) (left l1 l2 w w1 w2 u u1 u2 : Option (List ℕ)) (g g1 g2 : GivenState) (c c1 c2 : StreamCounts) (old last : DeframerState) (taken n : ℕ) (buffer : List ℕ) (fault : BridgeFault)
-    → PiecesSoFar r prefix text left l1 w w1 u u1 g g1 c c1 old taken → n ≡ 0 → Consumes l1 l2 (take n buffer) → IsAtEnd l2
+    → PiecesSoFar r prefix text left l1 w w1 u u1 g g1 c c1 old taken → taken < 2 ^ 32 → n ≡ 0 → Consumes l1 l2 (take n buffer) → IsAtEnd l2
     → last.rest ≡ old.rest → last.finished ≡ true
     → StreamStops r prefix text (not last.finished) last.rest w1 w2 u1 u2 g1 c1 → IsStreamFault fault
     → StreamPart r prefix text left l2 w w2 u u2 g g2 c c2 fault
 unfolding stops_on moves_last
-part_of_last r prefix text left l1 l2 w w1 w2 u u1 u2 g g1 g2 c c1 c2 old last taken n buffer fault far zero read end same finished stops kind =
+part_of_last r prefix text left l1 l2 w w1 w2 u u1 u2 g g1 g2 c c1 c2 old last taken n buffer fault far fits zero read end same finished stops kind =
     let ends = subst (λ (b : Bool). StreamStops r prefix text (not b) last.rest w1 w2 u1 u2 g1 c1) finished stops in
     let from = subst (λ (l : List ℕ). StreamStops r prefix text false l w1 w2 u1 u2 g1 c1) same ends in
     record {
@@ -190,6 +237,7 @@ part_of_last r prefix text left l1 l2 w w1 w2 u u1 u2 g g1 g2 c c1 c2 old last t
       flushes = begins_all far.bytes (far.moves.frames_are ++ from.done) from.done
           (ap (λ (l : List (List ℕ)). l ++ from.done) (far_flushed r prefix text left l1 w w1 u u1 g g1 c c1 old taken far));
       too_long = λ is. absurd (subst IsStreamFault is kind);
+      memory = λ is. omega (arith, far.size, fits);
       form = λ is. subst IsStreamFault is kind;
       exact = λ is. absurd (subst IsStreamFault is kind);
     }

@@ -19,6 +19,7 @@ use Rattle.streams.specs.FrameLines.{frames_meaning, line_of}
 use Rattle.streams.specs.FrameRuns.{Goes, Breaks, least_of, output_of, flushed_of}
 use Rattle.streams.proofs.Goings.{goes_nowhere, goes_on, goes_fed}
 use Rattle.streams.proofs.PieceEnds.{before_last, decided_prefix, flushed_frames}
+use Rattle.streams.proofs.Stopping.{Grows, Stays, silent_stopped}
 
 -- The bytes taken, and what they decide, so far.
 pub record RunsSoFar (line : List ℕ → List ℕ) (left left_new written written_new : Option (List ℕ)) (state : DeframerState) (taken count : ℕ) : Type 0 where
@@ -121,17 +122,27 @@ written_between line bytes w w1 w2 least done more low text (prefix, (rest, with
   grew = Appends-trans w w1 w2 done prefix text grew;
 }
 
+-- the lines of fewer frames begin those of more
+lines_grow : Grows (flat_map line_of)
+lines_grow some more = (flat_map line_of more, flat_map-append line_of some more)
+
+-- a prefix of the lines of all frames was written
+written_ahead : (o w w1 u u1 : Option (List ℕ)) → IsAheadOf frames_meaning.whole o w w1 u u1 → IfSome o (λ bytes. AppendsPrefix w w1 (flat_map line_of (frames bytes)))
+written_ahead None w w1 u u1 ahead = tt
+written_ahead (Some bytes) w w1 u u1 ahead = ahead.0
+
 -- the run broke off
-broke : {S T U : Type 0} (b a : World S T U) (fault : BridgeFault) (taken : List ℕ) → IsSilent b a → Consumes b.left a.left taken
+broke : {S T U : Type 0} (b a : World S T U) (fault : BridgeFault) (taken : List ℕ) → Stays → IsSilent b a → Consumes b.left a.left taken
     → AppendsBetween b.written a.written (least_of line_of taken) (output_of line_of taken) → IsAheadOf frames_meaning.whole b.left b.written a.written b.reported a.reported
     → HasItsCause {T = Unit {0}} (faults_in b) (faults_in a) (Err fault) → Says frames_meaning taken b a fault → Broke frames_meaning b a fault
-broke b a fault taken silent consumes text ahead cause says = record {
+broke b a fault taken stay silent consumes text ahead cause says = record {
   taken = taken;
   consumes = consumes;
   text = text;
   told = between_whole b.reported a.reported [] silent.told;
   ahead = ahead;
-  no_counts = λ other. with_rest b.left a.left taken _ consumes (λ rest is. whole_prefix b.reported a.reported [] silent.told);
+  stopped = silent_stopped (flat_map line_of) lines_grow stay b.left b.written a.written b.reported a.reported (written_ahead b.left b.written a.written b.reported a.reported ahead) silent.told;
+  counts_last = inl (with_rest b.left a.left taken _ consumes (λ rest is. whole_prefix b.reported a.reported [] silent.told));
   cause = cause;
   leaves = leaves b a silent;
   says = says;
@@ -205,19 +216,19 @@ far_ahead b a l1 state taken count silent far consumes =
 
 -- a read failed
 pub broke_read : {S T U : Type 0} (b a : World S T U) (l1 : Option (List ℕ)) (state : DeframerState) (taken count : ℕ)
-    → IsSilent b a → RunsSoFar line_of b.left l1 b.written a.written state taken count → Keeps l1 a.left
+    → Stays → IsSilent b a → RunsSoFar line_of b.left l1 b.written a.written state taken count → Keeps l1 a.left
     → Rose b.reads_failed a.reads_failed → a.writes_failed ≡ b.writes_failed → (IsTrue b.never_fails → ⊥) → Broke frames_meaning b a ReadFault
-broke_read b a l1 state taken count silent far kept rose writes never =
+broke_read b a l1 state taken count stay silent far kept rose writes never =
     let consumes = Consumes-kept b.left l1 a.left far.bytes far.consumes kept in
-    broke b a ReadFault far.bytes silent consumes (far_between b.left l1 b.written a.written state taken count far)
+    broke b a ReadFault far.bytes stay silent consumes (far_between b.left l1 b.written a.written state taken count far)
     (far_ahead b a l1 state taken count silent far consumes) (read_failed b a rose writes silent.failed)
     (refl, rose, never, (far_text b.left l1 b.written a.written state taken count far, silent.told))
 
 -- a write failed in a piece
 pub broke_piece : {S T U : Type 0} (b a : World S T U) (l1 w1 : Option (List ℕ)) (old : DeframerState) (taken count : ℕ) (piece : List ℕ)
-    → IsSilent b a → RunsSoFar line_of b.left l1 b.written w1 old taken count → Consumes l1 a.left piece → length piece ≤ 16384 → Breaks line_of true (old.rest ++ piece) w1 a.written
+    → Stays → IsSilent b a → RunsSoFar line_of b.left l1 b.written w1 old taken count → Consumes l1 a.left piece → length piece ≤ 16384 → Breaks line_of true (old.rest ++ piece) w1 a.written
     → Rose b.writes_failed a.writes_failed → a.reads_failed ≡ b.reads_failed → Broke frames_meaning b a WriteFault
-broke_piece b a l1 w1 old taken count piece silent far read few breaks rose reads =
+broke_piece b a l1 w1 old taken count piece stay silent far read few breaks rose reads =
     let prefix = subst (λ (l : List ℕ). AppendsPrefix w1 a.written (output_of line_of l)) (append-nil (old.rest ++ piece)) (breaks.text [] (λ never. refl)) in
     let consumes = Consumes-trans b.left l1 a.left far.bytes piece far.consumes read in
     let ahead = ahead_by frames_meaning.whole b.left a.left b.written a.written b.reported a.reported (far.bytes ++ piece) consumes
@@ -227,29 +238,29 @@ broke_piece b a l1 w1 old taken count piece silent far read few breaks rose read
           (subst (λ (l : List ℕ). AppendsPrefix w1 a.written (output_of line_of l)) (append_assoc old.rest piece rest) (breaks.text rest (λ never. cc)))),
       whole_prefix b.reported a.reported [] silent.told,
     )) in
-    broke b a WriteFault (far.bytes ++ piece) silent consumes
+    broke b a WriteFault (far.bytes ++ piece) stay silent consumes
     (written_between line_of (far.bytes ++ piece) b.written w1 a.written (least_of line_of (far.bytes ++ piece)) (flushed_of line_of far.bytes) (output_of line_of (old.rest ++ piece))
     (least_before far.bytes piece few) (far_text b.left l1 b.written w1 old taken count far) prefix (more_lines b.left l1 b.written w1 old taken count far piece))
     ahead (write_failed b a rose reads silent.failed) (rose, accepts b.left)
 
 -- a write failed after the last byte
 pub broke_last : {S T U : Type 0} (b a : World S T U) (l1 w1 : Option (List ℕ)) (old last : DeframerState) (taken count : ℕ) (n : ℕ) (buffer : List ℕ)
-    → IsSilent b a → RunsSoFar line_of b.left l1 b.written w1 old taken count → n ≡ 0 → Consumes l1 a.left (take n buffer) → IsAtEnd a.left → last.rest ≡ old.rest → last.finished ≡ true
+    → Stays → IsSilent b a → RunsSoFar line_of b.left l1 b.written w1 old taken count → n ≡ 0 → Consumes l1 a.left (take n buffer) → IsAtEnd a.left → last.rest ≡ old.rest → last.finished ≡ true
     → Breaks line_of (not last.finished) last.rest w1 a.written → Rose b.writes_failed a.writes_failed → a.reads_failed ≡ b.reads_failed → Broke frames_meaning b a WriteFault
-broke_last b a l1 w1 old last taken count n buffer silent far zero read end same finished breaks rose reads =
+broke_last b a l1 w1 old last taken count n buffer stay silent far zero read end same finished breaks rose reads =
     let ends = subst (λ (x : Bool). Breaks line_of (not x) last.rest w1 a.written) finished breaks in
     let from = subst (λ (l : List ℕ). Breaks line_of false l w1 a.written) same ends in
     let consumes = takes_none b.left l1 a.left far.bytes n buffer far.consumes zero read in
     let text = written_between line_of far.bytes b.written w1 a.written (least_of line_of far.bytes) (flushed_of line_of far.bytes) (output_of line_of (old.rest ++ []))
     (least_all far.bytes) (far_text b.left l1 b.written w1 old taken count far) (from.text [] (λ last. refl)) (last_lines b.left l1 b.written w1 old taken count far) in
-    broke b a WriteFault far.bytes silent consumes text
+    broke b a WriteFault far.bytes stay silent consumes text
     (ahead_at_end frames_meaning.whole b.left a.left b.written a.written b.reported a.reported far.bytes consumes end (prefix_of b.written a.written _ _ text)
     (whole_prefix b.reported a.reported [] silent.told)) (write_failed b a rose reads silent.failed) (rose, accepts b.left)
 
 -- too many bytes were there
 pub broke_long : {S T U : Type 0} (b a : World S T U) (state : DeframerState) (taken count : ℕ)
-    → IsSilent b a → RunsSoFar line_of b.left a.left b.written a.written state taken count → 2 ^ 32 ≤ taken → a.reads_failed ≡ b.reads_failed → a.writes_failed ≡ b.writes_failed
+    → Stays → IsSilent b a → RunsSoFar line_of b.left a.left b.written a.written state taken count → 2 ^ 32 ≤ taken → a.reads_failed ≡ b.reads_failed → a.writes_failed ≡ b.writes_failed
     → Broke frames_meaning b a TooLong
-broke_long b a state taken count silent far long reads writes =
-    broke b a TooLong far.bytes silent far.consumes (far_between b.left a.left b.written a.written state taken count far) (far_ahead b a a.left state taken count silent far far.consumes)
+broke_long b a state taken count stay silent far long reads writes =
+    broke b a TooLong far.bytes stay silent far.consumes (far_between b.left a.left b.written a.written state taken count far) (far_ahead b a a.left state taken count silent far far.consumes)
     (none_failed b a reads writes silent.failed) (omega (arith, far.size, far.limit, long))

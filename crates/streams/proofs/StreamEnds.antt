@@ -1,5 +1,5 @@
 -- A stream from its first byte to its end: what was taken of it is what its frames give.
-use Rattle.std.proofs.Common.{◌≡◌, ◌+◌, ◌-◌, ℕ, Bool, false, List, [], ◌∷◌, ◌++◌, length, take, refl, sym, ap, ◌∙◌, subst, append_assoc, append-nil}
+use Rattle.std.proofs.Common.{◌≡◌, ◌+◌, ◌-◌, ℕ, Bool, false, List, [], ◌∷◌, ◌++◌, length, take, inl, inr, refl, sym, ap, ◌∙◌, subst, append_assoc, append-nil}
 use Rattle.std.specs.Prelude.{Option, None, Some, IfSome, IsErrOf, IsSome, IsTrue, Ok, Err}
 use Rattle.std.specs.Io.KnownBytes.{Appends, Consumes, IsAtEnd}
 use Rattle.std.proofs.KnownBytes.{Appends-nil, Appends-trans, Consumes-nil}
@@ -12,13 +12,14 @@ use Rattle.rtcm_eph.specs.Reading.{item_in}
 use Rattle.one_run.specs.declared.fault.BridgeFault.{BridgeFault}
 use Rattle.one_run.specs.declared.fault.BridgeFault.TheVariants.{ReadFault, WriteFault, ReportFault, NotThisForm, TooLong, NoMemory}
 use Rattle.one_run.specs.Causes.{HasItsCause, faults_of}
-use Rattle.one_run.specs.Runs.{AppendsBetween, Broke, Done, Leaves, Says, World, faults_in}
+use Rattle.one_run.specs.Runs.{AppendsBetween, Broke, Done, Leaves, Says, Texts, World, faults_in}
 use Rattle.streams.specs.declared.counts.StreamCounts.{StreamCounts}
 use Rattle.streams.specs.Streams.{Reading, counts_of_readings, has, items_of_readings, least_output_by, least_report, reading_report, readings, readings_output, readings_report, stream_counts, stream_counts_text, stream_meaning_by, stream_output_by, stream_readings, stream_report}
 use Rattle.streams.specs.Mirrors.{BeginsFlushed, GivenState, NothingKept, StreamAll, StreamPart, StreamSoFar, StreamStops, is_given, once_text}
-use Rattle.one_run.proofs.Surface.{ahead_at_end, ahead_by, between, between_behind, between_whole, between_within, no_prefix, prefix_longer, prefix_of, prefix_same, prefix_trans, prefix_within, report_failed, whole_prefix, with_rest, write_failed}
+use Rattle.one_run.proofs.Surface.{ahead_at_end, ahead_by, all_of, all_whole, between, between_behind, between_whole, between_within, no_prefix, prefix_longer, prefix_of, prefix_same, prefix_trans, prefix_within, report_failed, whole_prefix, with_rest, write_failed}
 use Rattle.streams.proofs.KnownLemmas.{none_known}
 use Rattle.streams.proofs.StreamLemmas.{output_fault, output_item}
+use Rattle.streams.proofs.Stopping.{Grows, Stays, decided_texts, end_stopped, ended_stopped, frames_stopped, none_stopped, rest_stopped}
 
 -- ---- the readings of more frames begin with those of fewer
 
@@ -63,7 +64,7 @@ least_reported r taken them (rest, is) =
     (sym (ap (readings r) is ∙ readings_append r first rest)) (report_longer 1 (readings r first) (readings r rest))
 
 -- the lines of a stream's frames begin its report
-report_front : (r : ℕ) (bytes : List ℕ) → IsPrefix (readings_report 1 (stream_readings r bytes)) (stream_report r bytes)
+pub report_front : (r : ℕ) (bytes : List ℕ) → IsPrefix (readings_report 1 (stream_readings r bytes)) (stream_report r bytes)
 report_front r bytes = (stream_counts_text (stream_counts r bytes), refl)
 
 -- ---- a stream begins
@@ -97,6 +98,28 @@ all_so_far r prefix text left l1 w w1 w2 u u1 g g1 c c1 grew none nothing same a
     subst (λ (l : List (List ℕ)). StreamSoFar r prefix text l w w2 u u1 g1 c1) (sym (all_frames all.taken all.moves.frames_are (all.moves.stream [] (λ last. refl))))
     (all.moves.goes [] w u (begins r prefix text w w1 u g c grew none nothing same))
 
+-- ---- and where it stops
+
+-- what is written and what is reported of frames
+abbrev pub text_of : ℕ → List ℕ → (NavItem → List ℕ) → List (List ℕ) → List ℕ
+text_of r prefix text frames = readings_output prefix text (readings r frames)
+
+abbrev pub told_of : ℕ → List (List ℕ) → List ℕ
+told_of r frames = readings_report 1 (readings r frames)
+
+abbrev pub stream_texts : ℕ → List ℕ → (NavItem → List ℕ) → Texts
+stream_texts r prefix text = decided_texts (text_of r prefix text) (told_of r)
+
+pub text_grows : (r : ℕ) (prefix : List ℕ) (text : NavItem → List ℕ) → Grows (text_of r prefix text)
+text_grows r prefix text some more =
+    subst (λ (l : List Reading). IsPrefix (readings_output prefix text (readings r some)) (readings_output prefix text l)) (sym (readings_append r some more))
+    (output_longer prefix text (readings r more) (readings r some))
+
+pub told_grows : (r : ℕ) → Grows (told_of r)
+told_grows r some more =
+    subst (λ (l : List Reading). IsPrefix (readings_report 1 (readings r some)) (readings_report 1 l)) (sym (readings_append r some more))
+    (report_longer 1 (readings r some) (readings r more))
+
 -- ---- and its run
 
 -- every stream is accepted
@@ -122,7 +145,9 @@ broke_begin r prefix text b a grew rose left reported reads reports =
       told = between b.reported a.reported (stream_report r []) (untold (stream_report r []));
       ahead = ahead_by (stream_meaning_by prefix text r).whole b.left a.left b.written a.written b.reported a.reported [] consumes
           (λ rest is. (prefix_longer b.written a.written prefix _ grew, untold (stream_report r rest)));
-      no_counts = λ other. with_rest b.left a.left [] _ consumes (λ rest is. untold (readings_report 1 (stream_readings r rest)));
+      stopped = none_stopped (stream_texts r prefix text) b.left b.written a.written b.reported a.reported
+          (λ bytes. (prefix_longer b.written a.written prefix _ grew, untold (readings_report 1 (readings r (decided bytes)))));
+      counts_last = inl (with_rest b.left a.left [] _ consumes (λ rest is. untold (readings_report 1 (stream_readings r rest))));
       cause = write_failed b a rose reads reports;
       leaves = leaves prefix text r b a;
       says = (rose, accepts r b.left);
@@ -161,16 +186,16 @@ says_by r prefix text b a w1 writes g g1 c c1 WriteFault grew same none nothing 
 says_by r prefix text b a w1 writes g g1 c c1 ReportFault grew same none nothing part cause never = (refl, cause.0, accepts r b.left)
 says_by r prefix text b a w1 writes g g1 c c1 NotThisForm grew same none nothing part cause never = absurd (part.form refl)
 says_by r prefix text b a w1 writes g g1 c c1 TooLong grew same none nothing part cause never = part.too_long refl
-says_by r prefix text b a w1 writes g g1 c c1 NoMemory grew same none nothing part cause never = (refl, accepts r b.left)
+says_by r prefix text b a w1 writes g g1 c c1 NoMemory grew same none nothing part cause never = (refl, accepts r b.left, part.memory refl)
 
 -- the frames break off
 pub broke_stream : {S T U : Type 0} (r : ℕ) (prefix : List ℕ) (text : NavItem → List ℕ) (b a : World S T U) (w1 : Option (List ℕ)) (writes : ℕ) (g g1 : GivenState) (c c1 : StreamCounts) (fault : BridgeFault)
-    → Appends b.written w1 prefix → writes ≡ b.writes_failed → NoneGiven g → c ≡ counts_of_readings []
+    → Stays → Appends b.written w1 prefix → writes ≡ b.writes_failed → NoneGiven g → c ≡ counts_of_readings []
     → StreamPart r prefix text b.left a.left w1 a.written b.reported a.reported g g1 c c1 fault
     → HasItsCause {T = Unit {0}} (faults_of b.reads_failed writes b.reports_failed) (faults_of a.reads_failed a.writes_failed a.reports_failed) (Err fault)
     → (IsTrue b.never_fails → IsErrOf {T = Unit {0}} (Err fault) ReadFault → ⊥)
     → Broke (stream_meaning_by prefix text r) b a fault
-broke_stream r prefix text b a w1 writes g g1 c c1 fault grew same none nothing part cause never =
+broke_stream r prefix text b a w1 writes g g1 c c1 fault stay grew same none nothing part cause never =
     let some = part.stops.frames_are in
     let more = part.stops.stream [] (λ last. refl) in
     let is : frames part.taken ≡ some ++ more.0 = ap frames (sym (append-nil part.taken)) ∙ more.1 in
@@ -193,7 +218,11 @@ broke_stream r prefix text b a w1 writes g g1 c c1 fault grew same none nothing 
       told = between_within b.reported a.reported _ _ (readings_report 1 (stream_readings r part.taken)) _ (prefix_same (least_report r part.taken)) (report_front r part.taken)
           (subst (λ (l : List Reading). AppendsBetween b.reported a.reported (least_report r part.taken) (readings_report 1 l)) (sym read) told);
       ahead = ahead;
-      no_counts = λ other. with_rest b.left a.left part.taken _ part.consumes (λ rest is. (all rest (λ last. subst IsAtEnd is (part.end last))).1);
+      stopped = rest_stopped (stream_texts r prefix text) b.left a.left b.written a.written b.reported a.reported part.taken part.consumes
+          (λ rest is. let found = part.stops.stream rest (λ last. subst IsAtEnd is (part.end last)) in
+          frames_stopped (text_of r prefix text) (told_of r) (text_grows r prefix text) (told_grows r) stay (part.taken ++ rest) part.stops.done part.stops.frames_are found.0
+          b.written a.written b.reported a.reported found.1 part.stops.next broke.output broke.report);
+      counts_last = inl (with_rest b.left a.left part.taken _ part.consumes (λ rest is. (all rest (λ last. subst IsAtEnd is (part.end last))).1));
       cause = subst (λ (n : ℕ). HasItsCause {T = Unit {0}} (faults_of b.reads_failed n b.reports_failed) (faults_in a) (Err fault)) same cause;
       leaves = leaves prefix text r b a;
       says = says_by r prefix text b a w1 writes g g1 c c1 fault grew same none nothing part cause never;
@@ -201,11 +230,11 @@ broke_stream r prefix text b a w1 writes g g1 c c1 fault grew same none nothing 
 
 -- the counts are not reported to their end
 pub broke_counts : {S T U : Type 0} (r : ℕ) (prefix : List ℕ) (text : NavItem → List ℕ) (b a : World S T U) (w1 u1 : Option (List ℕ)) (g g1 : GivenState) (c c1 : StreamCounts)
-    → Appends b.written w1 prefix → NoneGiven g → c ≡ counts_of_readings []
+    → Stays → Appends b.written w1 prefix → NoneGiven g → c ≡ counts_of_readings []
     → StreamAll r prefix text b.left a.left w1 a.written b.reported u1 g g1 c c1
     → AppendsPrefix u1 a.reported (stream_counts_text c1) → Rose b.reports_failed a.reports_failed → a.reads_failed ≡ b.reads_failed → a.writes_failed ≡ b.writes_failed
     → Broke (stream_meaning_by prefix text r) b a ReportFault
-broke_counts r prefix text b a w1 u1 g g1 c c1 grew none nothing all counts rose reads writes =
+broke_counts r prefix text b a w1 u1 g g1 c c1 stay grew none nothing all counts rose reads writes =
     let far = all_so_far r prefix text b.left a.left b.written w1 a.written b.reported u1 g g1 c c1 grew none nothing (Appends-nil b.reported) all in
     let same = all_frames all.taken all.moves.frames_are (all.moves.stream [] (λ last. refl)) in
     let least = subst (λ (l : List (List ℕ)). IsPrefix (least_output_by prefix text r all.taken) (readings_output prefix text (readings r l))) (sym same) (least_prefix r prefix text all.taken all.moves.frames_are all.flushes) in
@@ -219,7 +248,10 @@ broke_counts r prefix text b a w1 u1 g g1 c c1 grew none nothing all counts rose
       told = between_within b.reported a.reported (least_report r all.taken) _ _ _ least_told (prefix_same (stream_report r all.taken)) told;
       ahead = ahead_at_end (stream_meaning_by prefix text r).whole b.left a.left b.written a.written b.reported a.reported all.taken all.consumes all.end
           (whole_prefix b.written a.written (stream_output_by prefix text r all.taken) far.output) (prefix_of b.reported a.reported _ _ told);
-      no_counts = λ other. absurd (other refl);
+      stopped = end_stopped (stream_texts r prefix text) b.left a.left b.written a.written b.reported a.reported all.taken all.consumes all.end
+          (ended_stopped (text_of r prefix text) (told_of r) (text_grows r prefix text) (told_grows r) stay all.taken b.written a.written b.reported a.reported
+          (all_whole b.written a.written (stream_output_by prefix text r all.taken) far.output) (all_of b.reported a.reported _ _ told));
+      counts_last = inr (refl, all.end, far.output);
       cause = report_failed b a rose reads writes;
       leaves = leaves prefix text r b a;
       says = (refl, rose, accepts r b.left);

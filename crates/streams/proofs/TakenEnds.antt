@@ -1,5 +1,5 @@
 -- How a run over the frames of a stream ends: with all of its bytes, or with a prefix of what they give.
-use Rattle.std.proofs.Common.{◌≡◌, ◌+◌, ◌-◌, ◌<◌, ◌≤◌, ◌^◌, ℕ, Bool, true, false, not, List, [], ◌∷◌, ◌++◌, length, take, refl, sym, ap, subst, ◌∙◌, inl, arith, append-nil, length-append}
+use Rattle.std.proofs.Common.{◌≡◌, ◌⊎◌, ◌+◌, ◌-◌, ◌<◌, ◌≤◌, ◌^◌, ℕ, Bool, true, false, not, List, [], ◌∷◌, ◌++◌, length, take, refl, sym, ap, subst, ◌∙◌, inl, inr, arith, append-nil, length-append}
 use Rattle.std.specs.Prelude.{Option, None, Some, Err, IfSome, IsErrOf, IsSome, IsTrue}
 use Rattle.std.specs.Io.KnownBytes.{Appends, Consumes, IsAtEnd, Keeps}
 use Rattle.std.proofs.KnownBytes.{Appends-nil, Appends-trans, Consumes-kept, Consumes-nil, Consumes-trans}
@@ -10,12 +10,13 @@ use Rattle.rtcm_frame.specs.State.{DeframerState, MayFeed}
 use Rattle.one_run.specs.declared.fault.BridgeFault.{BridgeFault}
 use Rattle.one_run.specs.declared.fault.BridgeFault.TheVariants.{ReadFault, WriteFault, ReportFault, NotThisForm, TooLong, NoMemory}
 use Rattle.one_run.specs.Causes.{HasItsCause, faults_of}
-use Rattle.one_run.specs.Runs.{AppendsBetween, Broke, Done, Leaves, Says, World, faults_in}
-use Rattle.one_run.proofs.Surface.{ahead_at_end, ahead_by, between, between_behind, between_whole, between_within, no_prefix, nothing_told, prefix_nil, prefix_of, prefix_same, prefix_trans, prefix_within, report_failed, taken_all, whole_prefix, with_rest, write_failed}
+use Rattle.one_run.specs.Runs.{AppendsBetween, Broke, CountsAreLast, Done, Leaves, Says, World, faults_in}
+use Rattle.one_run.proofs.Surface.{ahead_at_end, ahead_by, all_of, between, between_behind, between_whole, between_within, no_prefix, nothing_told, prefix_nil, prefix_of, prefix_same, prefix_trans, prefix_within, report_failed, taken_all, whole_prefix, with_rest, write_failed}
 use Rattle.streams.specs.Mirrors.{BeginsFlushed, IsStreamFault}
 use Rattle.streams.specs.Taken.{Gives, Stops, Takes, TakesAll, TakesPart, frames_meaning_by, least_by}
-use Rattle.streams.proofs.PieceEnds.{begins_all, begins_flushed, flushed_frames, takes_none}
+use Rattle.streams.proofs.PieceEnds.{IsFaultAt, begins_all, begins_flushed, flushed_frames, kind_at, long_at, takes_none}
 use Rattle.streams.proofs.StreamEnds.{all_frames}
+use Rattle.streams.proofs.Stopping.{Grows, Stays, decided_texts, end_stopped, ended_stopped, frames_stopped, none_stopped, rest_stopped}
 use Rattle.streams.proofs.TakenLemmas.{stops_on, takes_fed, takes_nowhere, takes_on}
 
 -- ---- pieces after pieces
@@ -68,6 +69,7 @@ stops_of_takes : {X : Type 0} {text told : List (List ℕ) → List ℕ} {holds 
 stops_of_takes {text = text} {told = told} {b = b} {w1 = w1} {u1 = u1} takes = record {
   done = takes.given;
   given = takes.given;
+  next = inl refl;
   stream = λ following last. (frames (b ++ following), takes.stream following last);
   output = λ past start held grew. between_whole start w1 (text (past ++ takes.given)) (takes.output past start held grew);
   report = λ past start held grew. between_whole start u1 (told (past ++ takes.given)) (takes.report past start held grew);
@@ -111,6 +113,7 @@ part_of_read {text = text} {told = told} {holds = holds} {left = left} {l1 = l1}
       stops = stops_of_takes far.takes;
       flushes = begins_all far.bytes far.takes.given [] (flushed ∙ sym (append-nil (decided far.bytes)));
       too_long = λ never. cc;
+      memory = λ never. cc;
       form = λ never. cc;
       exact = λ is. (
         subst (λ (l : List (List ℕ)). Gives holds s text l w w1) flushed far.takes.output,
@@ -130,33 +133,36 @@ part_of_long far long = record {
   stops = stops_of_takes far.takes;
   flushes = begins_all far.bytes far.takes.given [] (far_flushed far ∙ sym (append-nil (decided far.bytes)));
   too_long = λ is. far.size ∙ long;
+  memory = λ never. cc;
   form = λ never. cc;
   exact = λ never. cc;
 }
 
 -- a frame of a piece is not processed to its end
-pub part_of_piece : {X : Type 0} {text told : List (List ℕ) → List ℕ} {holds : X → List (List ℕ) → Type 0} {left l1 l2 w w1 w2 u u1 u2 : Option (List ℕ)} {s s1 : X} {old : DeframerState} {taken : ℕ} (piece : List ℕ) {fault : BridgeFault}
-    → SoFar text told holds left l1 w w1 u u1 s s1 old taken → Consumes l1 l2 piece → length piece ≤ 16384 → Stops text told holds true (old.rest ++ piece) w1 w2 u1 u2 s1 → IsStreamFault fault
-    → TakesPart text told holds left l2 w w2 u u2 s fault
+pub part_of_piece : {X : Type 0} {text told : List (List ℕ) → List ℕ} {holds : X → List (List ℕ) → Type 0} {left l1 l2 w w1 w2 u u1 u2 : Option (List ℕ)} {s s1 : X} {old : DeframerState} {taken n : ℕ} (piece : List ℕ) {fault given : BridgeFault}
+    → SoFar text told holds left l1 w w1 u u1 s s1 old taken → Consumes l1 l2 piece → length piece ≤ 16384 → length piece ≡ n → taken + n ≤ 2 ^ 32
+    → Stops text told holds true (old.rest ++ piece) w1 w2 u1 u2 s1 → IsStreamFault fault → IsFaultAt (taken + n) fault given
+    → TakesPart text told holds left l2 w w2 u u2 s given
 unfolding stops_on takes_fed
-part_of_piece {left = left} {l1 = l1} {l2 = l2} piece far read few stops kind = record {
+part_of_piece {left = left} {l1 = l1} {l2 = l2} {taken = taken} {n = n} piece {fault = fault} {given = given} far read few size most stops kind at = record {
   taken = far.bytes ++ piece;
   consumes = Consumes-trans left l1 l2 far.bytes piece far.consumes read;
   more = true;
   end = λ never. cc;
   stops = stops_on (takes_fed piece far.takes) stops;
   flushes = begins_flushed far.bytes piece (far.takes.given ++ stops.done) stops.done few (ap (λ (l : List (List ℕ)). l ++ stops.done) (far_flushed far));
-  too_long = λ is. absurd (subst IsStreamFault is kind);
-  form = λ is. subst IsStreamFault is kind;
-  exact = λ is. absurd (subst IsStreamFault is kind);
+  too_long = λ is. let many = long_at (taken + n) fault given kind at is in omega (arith, length-append far.bytes piece, far.size, size, most, many);
+  memory = λ is. let less = at.memory is in omega (arith, length-append far.bytes piece, far.size, size, less);
+  form = λ is. kind_at NotThisForm (taken + n) fault given kind at is refl;
+  exact = λ is. absurd (kind_at ReadFault (taken + n) fault given kind at is refl);
 }
 
 -- a frame that the end decides is not processed to its end
 pub part_of_last : {X : Type 0} {text told : List (List ℕ) → List ℕ} {holds : X → List (List ℕ) → Type 0} {left l1 l2 w w1 w2 u u1 u2 : Option (List ℕ)} {s s1 : X} {old last : DeframerState} {taken n : ℕ} (buffer : List ℕ) {fault : BridgeFault}
-    → SoFar text told holds left l1 w w1 u u1 s s1 old taken → n ≡ 0 → Consumes l1 l2 (take n buffer) → IsAtEnd l2 → last.rest ≡ old.rest → last.finished ≡ true
+    → SoFar text told holds left l1 w w1 u u1 s s1 old taken → taken < 2 ^ 32 → n ≡ 0 → Consumes l1 l2 (take n buffer) → IsAtEnd l2 → last.rest ≡ old.rest → last.finished ≡ true
     → Stops text told holds (not last.finished) last.rest w1 w2 u1 u2 s1 → IsStreamFault fault → TakesPart text told holds left l2 w w2 u u2 s fault
 unfolding stops_on takes_last
-part_of_last {text = text} {told = told} {holds = holds} {left = left} {l1 = l1} {l2 = l2} {w1 = w1} {w2 = w2} {u1 = u1} {u2 = u2} {s1 = s1} {last = last} {n = n} buffer far zero read end same finished stops kind =
+part_of_last {text = text} {told = told} {holds = holds} {left = left} {l1 = l1} {l2 = l2} {w1 = w1} {w2 = w2} {u1 = u1} {u2 = u2} {s1 = s1} {last = last} {n = n} buffer far fits zero read end same finished stops kind =
     let ends = subst (λ (b : Bool). Stops text told holds (not b) last.rest w1 w2 u1 u2 s1) finished stops in
     let from = subst (λ (l : List ℕ). Stops text told holds false l w1 w2 u1 u2 s1) same ends in
     record {
@@ -167,15 +173,12 @@ part_of_last {text = text} {told = told} {holds = holds} {left = left} {l1 = l1}
       stops = stops_on (takes_last far.takes) from;
       flushes = begins_all far.bytes (far.takes.given ++ from.done) from.done (ap (λ (l : List (List ℕ)). l ++ from.done) (far_flushed far));
       too_long = λ is. absurd (subst IsStreamFault is kind);
+      memory = λ is. omega (arith, far.size, fits);
       form = λ is. subst IsStreamFault is kind;
       exact = λ is. absurd (subst IsStreamFault is kind);
     }
 
 -- ---- the run
-
--- what belongs to more frames begins with what belongs to fewer
-abbrev pub Grows : (List (List ℕ) → List ℕ) → Type 0
-Grows text = (some more : List (List ℕ)) → IsPrefix (text some) (text (some ++ more))
 
 -- the least is a prefix of what belongs to frames that begin with those that were decided before the last piece
 least_prefix : (text : List (List ℕ) → List ℕ) → Grows text → (taken : List ℕ) (them : List (List ℕ)) → BeginsFlushed them taken → IsPrefix (least_by text taken) (text them)
@@ -222,7 +225,9 @@ broke_begin {text = text} {whole = whole} {told = told} {reported = reported} co
       told = between b.reported a.reported (reported (frames [])) (untold b a same (reported (frames [])));
       ahead = ahead_by (frames_meaning_by text whole told reported count).whole b.left a.left b.written a.written b.reported a.reported [] consumes
           (λ rest is. (front rest, untold b a same (reported (frames rest))));
-      no_counts = λ other. nothing_told (λ bytes. told (frames bytes)) b.left b.reported a.reported same;
+      stopped = none_stopped (decided_texts text told) b.left b.written a.written b.reported a.reported
+          (λ bytes. (prefix_within b.written a.written (text []) _ (laws.grows [] (decided bytes)) grew, untold b a same (told (decided bytes))));
+      counts_last = inl (nothing_told (λ bytes. told (frames bytes)) b.left b.reported a.reported same);
       cause = write_failed b a rose reads reports;
       leaves = leaves text whole told reported count;
       says = (rose, accepts count b.left);
@@ -246,16 +251,16 @@ says_by count b a WriteFault laws held grew same part cause never = (subst (λ (
 says_by count b a ReportFault laws held grew same part cause never = (refl, cause.0, accepts count b.left)
 says_by count b a NotThisForm laws held grew same part cause never = absurd (part.form refl)
 says_by count b a TooLong laws held grew same part cause never = part.too_long refl
-says_by count b a NoMemory laws held grew same part cause never = (refl, accepts count b.left)
+says_by count b a NoMemory laws held grew same part cause never = (refl, accepts count b.left, part.memory refl)
 
 -- the frames break off
 pub broke_frames : {X C S T U : Type 0} {text whole told reported : List (List ℕ) → List ℕ} {holds : X → List (List ℕ) → Type 0} (count : List (List ℕ) → C) {b a : World S T U} {w1 : Option (List ℕ)} {writes : ℕ} {s : X} {fault : BridgeFault}
-    → Laws text whole told reported → holds s [] → Appends b.written w1 (text []) → writes ≡ b.writes_failed
+    → Laws text whole told reported → Stays → holds s [] → Appends b.written w1 (text []) → writes ≡ b.writes_failed
     → TakesPart text told holds b.left a.left w1 a.written b.reported a.reported s fault
     → HasItsCause {T = Unit {0}} (faults_of b.reads_failed writes b.reports_failed) (faults_of a.reads_failed a.writes_failed a.reports_failed) (Err fault)
     → (IsTrue b.never_fails → IsErrOf {T = Unit {0}} (Err fault) ReadFault → ⊥)
     → Broke (frames_meaning_by text whole told reported count) b a fault
-broke_frames {text = text} {whole = whole} {told = told} {reported = reported} count {b = b} {a = a} {fault = fault} laws held grew same part cause never =
+broke_frames {text = text} {whole = whole} {told = told} {reported = reported} count {b = b} {a = a} {fault = fault} laws stay held grew same part cause never =
     let taken = part.taken in
     let stops = part.stops in
     let wrote = stops.output [] b.written held grew in
@@ -278,8 +283,11 @@ broke_frames {text = text} {whole = whole} {told = told} {reported = reported} c
           (λ rest left. let found = stops.stream rest (λ last. subst IsAtEnd left (part.end last)) in
           let both = front (taken ++ rest) found.0 found.1 in
           (both.0, prefix_within b.reported a.reported (told (frames (taken ++ rest))) _ (laws.told (frames (taken ++ rest))) both.1));
-      no_counts = λ other. with_rest b.left a.left taken (λ bytes. AppendsPrefix b.reported a.reported (told (frames bytes))) part.consumes
-          (λ rest left. let found = stops.stream rest (λ last. subst IsAtEnd left (part.end last)) in (front (taken ++ rest) found.0 found.1).1);
+      stopped = rest_stopped (decided_texts text told) b.left a.left b.written a.written b.reported a.reported taken part.consumes
+          (λ rest left. let found = stops.stream rest (λ last. subst IsAtEnd left (part.end last)) in
+          frames_stopped text told laws.grows laws.more stay (taken ++ rest) stops.done stops.given found.0 b.written a.written b.reported a.reported found.1 stops.next wrote said);
+      counts_last = inl (with_rest b.left a.left taken (λ bytes. AppendsPrefix b.reported a.reported (told (frames bytes))) part.consumes
+          (λ rest left. let found = stops.stream rest (λ last. subst IsAtEnd left (part.end last)) in (front (taken ++ rest) found.0 found.1).1));
       cause = subst (λ (n : ℕ). HasItsCause {T = Unit {0}} (faults_of b.reads_failed n b.reports_failed) (faults_in a) (Err fault)) same cause;
       leaves = leaves text whole told reported count;
       says = says_by count b a fault laws held grew same part cause never;
@@ -311,13 +319,13 @@ least_all of grows all =
 
 -- all bytes were read, and what was written and reported then is no less than what belongs to their frames
 broke_end : {X C S T U : Type 0} {text whole told reported : List (List ℕ) → List ℕ} {holds : X → List (List ℕ) → Type 0} (count : List (List ℕ) → C) {b a : World S T U} (w w1 w2 u1 : Option (List ℕ)) {s s1 : X} {fault : BridgeFault}
-    → Laws text whole told reported → (all : TakesAll text told holds b.left a.left w1 w2 b.reported u1 s s1)
+    → Laws text whole told reported → Stays → (all : TakesAll text told holds b.left a.left w1 w2 b.reported u1 s s1)
     → AppendsBetween b.written a.written (text (frames all.taken)) (whole (frames all.taken))
     → AppendsBetween b.reported a.reported (told (frames all.taken)) (reported (frames all.taken))
-    → ((fault ≡ ReportFault → ⊥) → AppendsPrefix b.reported a.reported (told (frames all.taken))) → HasItsCause {T = Unit {0}} (faults_in b) (faults_in a) (Err fault)
+    → AppendsPrefix b.reported a.reported (told (frames all.taken)) ⊎ ((fault ≡ ReportFault) × Appends b.written a.written (whole (frames all.taken))) → HasItsCause {T = Unit {0}} (faults_in b) (faults_in a) (Err fault)
     → Says (frames_meaning_by text whole told reported count) all.taken b a fault
     → Broke (frames_meaning_by text whole told reported count) b a fault
-broke_end {text = text} {whole = whole} {told = told} {reported = reported} count {b = b} {a = a} w w1 w2 u1 laws all wrote said rejections cause says =
+broke_end {text = text} {whole = whole} {told = told} {reported = reported} count {b = b} {a = a} w w1 w2 u1 {fault = fault} laws stay all wrote said last cause says =
     record {
       taken = all.taken;
       consumes = all.consumes;
@@ -327,38 +335,45 @@ broke_end {text = text} {whole = whole} {told = told} {reported = reported} coun
           (prefix_same (reported (frames all.taken))) said;
       ahead = ahead_at_end (frames_meaning_by text whole told reported count).whole b.left a.left b.written a.written b.reported a.reported all.taken all.consumes all.end
           (prefix_of b.written a.written _ _ wrote) (prefix_of b.reported a.reported _ _ said);
-      no_counts = λ other. taken_all b.left a.left all.taken (λ bytes. AppendsPrefix b.reported a.reported (told (frames bytes))) all.consumes all.end (rejections other);
+      stopped = end_stopped (decided_texts text told) b.left a.left b.written a.written b.reported a.reported all.taken all.consumes all.end
+          (ended_stopped text told laws.grows laws.more stay all.taken b.written a.written b.reported a.reported (all_of b.written a.written _ _ wrote) (all_of b.reported a.reported _ _ said));
+      counts_last = counts_last last;
       cause = cause;
       leaves = leaves text whole told reported count;
       says = says;
-    }
+    } where
+      counts_last : AppendsPrefix b.reported a.reported (told (frames all.taken)) ⊎ ((fault ≡ ReportFault) × Appends b.written a.written (whole (frames all.taken)))
+          → CountsAreLast (frames_meaning_by text whole told reported count) all.taken b a fault
+      counts_last (inl rejections) = inl (taken_all b.left a.left all.taken (λ bytes. AppendsPrefix b.reported a.reported (told (frames bytes))) all.consumes all.end rejections)
+      counts_last (inr (is, output)) = inr (is, all.end, output)
 
 -- the last text is not written to its end
 pub broke_last : {X C S T U : Type 0} {text whole told reported : List (List ℕ) → List ℕ} {holds : X → List (List ℕ) → Type 0} (count : List (List ℕ) → C) {b a : World S T U} {w1 w2 : Option (List ℕ)} {s s1 : X} (tail : List ℕ)
-    → Laws text whole told reported → holds s [] → Appends b.written w1 (text []) → (all : TakesAll text told holds b.left a.left w1 w2 b.reported a.reported s s1)
+    → Laws text whole told reported → Stays → holds s [] → Appends b.written w1 (text []) → (all : TakesAll text told holds b.left a.left w1 w2 b.reported a.reported s s1)
     → whole (frames all.taken) ≡ text (frames all.taken) ++ tail → AppendsPrefix w2 a.written tail
     → Rose b.writes_failed a.writes_failed → a.reads_failed ≡ b.reads_failed → a.reports_failed ≡ b.reports_failed
     → Broke (frames_meaning_by text whole told reported count) b a WriteFault
-broke_last {text = text} {whole = whole} {told = told} {reported = reported} count {b = b} {a = a} {w1 = w1} {w2 = w2} tail laws held grew all is part rose reads reports =
+broke_last {text = text} {whole = whole} {told = told} {reported = reported} count {b = b} {a = a} {w1 = w1} {w2 = w2} tail laws stay held grew all is part rose reads reports =
     let far = all_given b.written laws held grew all in
     let wrote = subst (AppendsBetween b.written a.written (text (frames all.taken))) (sym is) (between_behind b.written w2 a.written (text (frames all.taken)) tail far.0 part) in
     let rejections = told (frames all.taken) in
     let said = between_within b.reported a.reported rejections rejections rejections (reported (frames all.taken)) (prefix_same rejections) (laws.told (frames all.taken))
     (between_whole b.reported a.reported rejections far.1) in
-    broke_end count b.written w1 w2 a.reported laws all wrote said (λ other. whole_prefix b.reported a.reported rejections far.1)
+    broke_end count b.written w1 w2 a.reported laws stay all wrote said (inl (whole_prefix b.reported a.reported rejections far.1))
     (write_failed b a rose reads reports) (rose, accepts count b.left)
 
 -- the counts are not reported to their end
 pub broke_counts : {X C S T U : Type 0} {text whole told reported : List (List ℕ) → List ℕ} {holds : X → List (List ℕ) → Type 0} (count : List (List ℕ) → C) {b a : World S T U} {w1 w2 u1 : Option (List ℕ)} {s s1 : X} (tail last : List ℕ)
-    → Laws text whole told reported → holds s [] → Appends b.written w1 (text []) → (all : TakesAll text told holds b.left a.left w1 w2 b.reported u1 s s1)
+    → Laws text whole told reported → Stays → holds s [] → Appends b.written w1 (text []) → (all : TakesAll text told holds b.left a.left w1 w2 b.reported u1 s s1)
     → whole (frames all.taken) ≡ text (frames all.taken) ++ last → Appends w2 a.written last
     → reported (frames all.taken) ≡ told (frames all.taken) ++ tail → AppendsPrefix u1 a.reported tail
     → Rose b.reports_failed a.reports_failed → a.reads_failed ≡ b.reads_failed → a.writes_failed ≡ b.writes_failed
     → Broke (frames_meaning_by text whole told reported count) b a ReportFault
-broke_counts {text = text} {whole = whole} {told = told} {reported = reported} count {b = b} {a = a} {w1 = w1} {w2 = w2} {u1 = u1} tail last laws held grew all ends wrote is counts rose reads writes =
+broke_counts {text = text} {whole = whole} {told = told} {reported = reported} count {b = b} {a = a} {w1 = w1} {w2 = w2} {u1 = u1} tail last laws stay held grew all ends wrote is counts rose reads writes =
     let far = all_given b.written laws held grew all in
     let output = subst (AppendsBetween b.written a.written (text (frames all.taken))) (sym ends) (between_behind b.written w2 a.written (text (frames all.taken)) last far.0 (whole_prefix w2 a.written last wrote)) in
-    broke_end count b.written w1 w2 u1 laws all output (subst (AppendsBetween b.reported a.reported (told (frames all.taken))) (sym is) (between_behind b.reported u1 a.reported _ _ far.1 counts)) (λ other. absurd (other refl))
+    let complete = subst (Appends b.written a.written) (sym ends) (Appends-trans b.written w2 a.written _ _ far.0 wrote) in
+    broke_end count b.written w1 w2 u1 laws stay all output (subst (AppendsBetween b.reported a.reported (told (frames all.taken))) (sym is) (between_behind b.reported u1 a.reported _ _ far.1 counts)) (inr (refl, complete))
     (report_failed b a rose reads writes) (refl, rose, accepts count b.left)
 
 -- the run is done

@@ -1,5 +1,5 @@
 -- Frames that are processed between two rests of bytes.
-use Rattle.std.proofs.Common.{◌≡◌, ◌+◌, ◌≤◌, ℕ, Bool, true, List, [], ◌∷◌, ◌++◌, length, take, drop, refl, sym, ap, subst, ◌∙◌, append_assoc, append-nil, arith, length-append}
+use Rattle.std.proofs.Common.{◌≡◌, ◌+◌, ◌≤◌, ℕ, Bool, true, List, [], ◌∷◌, ◌++◌, length, take, drop, inr, refl, sym, ap, subst, ◌∙◌, append_assoc, append-nil, arith, length-append}
 use Rattle.std.specs.Prelude.{Option}
 use Rattle.std.proofs.lemmas.List.{take-append-drop}
 use Rattle.std.proofs.Math.Seq.{take-add}
@@ -9,6 +9,7 @@ use Rattle.rtcm_frame.specs.State.{TakesFrame, TakesNone}
 use Rattle.one_run.specs.Runs.{AppendsBetween}
 use Rattle.streams.specs.Taken.{Gives, GivesBetween, HasRoomFor, Holds, Stops, Takes}
 use Rattle.streams.proofs.DecidedLemmas.{decided_frame, decided_none}
+use Rattle.streams.proofs.Stopping.{next_behind}
 
 -- ---- what belongs to frames
 
@@ -125,6 +126,7 @@ stops_frame : {X : Type 0} {text told : List (List ℕ) → List ℕ} {holds : X
 stops_frame {d = d} {frame = frame} takes output report = record {
   done = [];
   given = frame ∷ [];
+  next = inr (frame, refl);
   stream = λ following last. (frames (d ++ following), takes.stream following last);
   output = output;
   report = report;
@@ -137,6 +139,7 @@ unfolding between_on
 stops_on {holds = holds} first stops = record {
   done = first.given ++ stops.done;
   given = first.given ++ stops.given;
+  next = next_behind first.given stops.done stops.given stops.next;
   stream = λ following last. (
     (stops.stream following last).0,
     first.stream following last ∙ ap (λ (l : List (List ℕ)). first.given ++ l) (stops.stream following last).1
@@ -157,6 +160,7 @@ stops_fed : {X : Type 0} {text told : List (List ℕ) → List ℕ} {holds : X �
 stops_fed {a = a} d stops = record {
   done = stops.done;
   given = stops.given;
+  next = stops.next;
   stream = λ following last. let whole = stops.stream (d ++ following) (λ never. cc) in (whole.0, ap frames (append_assoc a d following) ∙ whole.1);
   output = stops.output;
   report = stops.report;

@@ -3,7 +3,7 @@ use Rattle.std.specs.Prelude.{◌≡◌, ◌+◌, ◌-◌, ◌*◌, ◌%◌, ◌
 use Rattle.std.specs.List.{All}
 use Rattle.std.specs.Ordering.{nat_cmp}
 use Rattle.std.specs.Cmp.Lexicographic.{slice_cmp}
-use Rattle.std.specs.BTreeSet.{BTreeSet, contains}
+use Rattle.std.specs.BTreeSet.{BTreeSet, btree_set_len, contains}
 use Rattle.std.specs.BTreeMap.{is_at}
 use Rattle.std.specs.Map.{lookup}
 use Rattle.std.specs.Option.{unwrap_or}
@@ -69,6 +69,14 @@ abbrev pub AddsKey : MessagesState → MessagesState → List ℕ → Type 0
 AddsKey old new message =
     (other : List ℕ) → has_key new other
     ≡ (is_at (slice_cmp nat_cmp message) other || has_key old other)
+
+-- the number of messages in the set
+abbrev pub held : MessagesState → ℕ
+held s = length s.list + btree_set_len s.others
+
+-- one message more is held if it was added, else as many as before
+abbrev pub AddsOnce : MessagesState → MessagesState → Bool → Type 0
+AddsOnce old new added = held new ≡ held old + (if added then 1 else 0)
 
 -- what a stream gave so far: the messages of its GPS and Galileo ephemerides, and a cache of payloads as they were read
 pub record GivenState : Type 0 where
@@ -195,10 +203,15 @@ pub record StreamMoves (r : ℕ) (prefix : List ℕ) (text : NavItem → List �
   pub decides : (following : List ℕ) → more ≡ true → decided (before ++ following) ≡ frames_are ++ decided (after ++ following)
   pub goes : StreamGoes r prefix text frames_are written written_new reported reported_new given given_new counts counts_new
 
+-- these frames are the others, or have one frame more
+abbrev pub IsNext : List (List ℕ) → List (List ℕ) → Type 0
+IsNext done given = (given ≡ done) ⊎ ((frame : List ℕ) × (given ≡ done ++ frame ∷ []))
+
 -- Frames of these bytes were found, and the last of them is not fully processed, whatever bytes follow.
 pub record StreamStops (r : ℕ) (prefix : List ℕ) (text : NavItem → List ℕ) (more : Bool) (before : List ℕ) (written written_new reported reported_new : Option (List ℕ)) (given : GivenState) (counts : StreamCounts) : Type 0 where
   pub done : List (List ℕ)
   pub frames_are : List (List ℕ)
+  pub next : IsNext done frames_are
   pub stream : (following : List ℕ) → (more ≡ false → following ≡ []) → (rest : List (List ℕ)) × (frames (before ++ following) ≡ frames_are ++ rest)
   pub breaks : (past : List (List ℕ)) (start begun : Option (List ℕ)) → StreamSoFar r prefix text past start written begun reported given counts
       → StreamBroke r prefix text (past ++ done) (past ++ frames_are) start written_new begun reported_new
@@ -226,6 +239,7 @@ pub record StreamPart (r : ℕ) (prefix : List ℕ) (text : NavItem → List ℕ
   pub stops : StreamStops r prefix text more taken written written_new reported reported_new given counts
   pub flushes : BeginsFlushed stops.done taken
   pub too_long : fault ≡ TooLong → length taken ≡ 2 ^ 32
+  pub memory : fault ≡ NoMemory → length taken < 2 ^ 32
   pub form : fault ≡ NotThisForm → ⊥
   pub exact : fault ≡ ReadFault → StreamGoes r prefix text (decided taken) written written_new reported reported_new given given_new counts counts_new
 

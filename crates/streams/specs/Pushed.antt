@@ -1,16 +1,16 @@
 -- A stream whose bytes are pushed in pieces: what was written and reported of those so far.
-use Rattle.std.specs.Prelude.{◌≡◌, ◌+◌, ◌≤◌, ◌^◌, ◌⊎◌, ℕ, List, ◌++◌, length, Option}
+use Rattle.std.specs.Prelude.{◌≡◌, ◌+◌, ◌≤◌, ◌^◌, ◌⊎◌, ℕ, List, ◌++◌, length, Option, Some}
 use Rattle.std.specs.Io.KnownBytes.{Appends}
 use Rattle.nav_io.specs.Prefix.{AppendsPrefix}
 use Rattle.rtcm_frame.specs.Frames.{decided, frames}
 use Rattle.rtcm_frame.specs.State.{DeframerState, MayFeed}
 use Rattle.outlets.specs.Targets.{prefix_text, item_text}
 use Rattle.outlets.specs.declared.target.Target.{Target}
-use Rattle.one_run.specs.Runs.{AppendsBetween}
+use Rattle.one_run.specs.Runs.{AppendsBetween, StopAtOnePlace, Texts}
 use Rattle.one_run.specs.declared.fault.BridgeFault.{BridgeFault}
 use Rattle.one_run.specs.declared.fault.BridgeFault.TheVariants.{TooLong}
 use Rattle.streams.specs.declared.counts.StreamCounts.{StreamCounts}
-use Rattle.streams.specs.Streams.{flushed_output_by, flushed_readings, readings_report, stream_output_by, stream_report}
+use Rattle.streams.specs.Streams.{flushed_output_by, flushed_readings, readings_report, stream_output_by, stream_readings, stream_report}
 use Rattle.streams.specs.Mirrors.{AreFew, GivenState, IsStreamFault, StreamSoFar}
 
 -- what contracts see of a conversion between two pieces
@@ -50,18 +50,28 @@ pub record IsPushed (s : StreamRunState) (bytes : List ℕ) (start written begun
   pub report : Appends begun reported (readings_report 1 (flushed_readings s.week bytes))
   pub behind : IsBehind s bytes start written begun reported
 
--- Something failed: no less was written than what `bytes` decide, and no more than what the
--- complete stream gives, of whose report a prefix was written.
+-- what bytes decide of the output and of the report
+abbrev pub decided_texts : StreamRunState → Texts
+decided_texts s = record {
+  output = flushed_output_by (prefix_text s.to) (item_text s.to 0) s.week;
+  report = λ bytes. readings_report 1 (flushed_readings s.week bytes);
+}
+
+-- Something failed: no less was written and reported than what `bytes` decide, and no more than what
+-- the complete stream gives. Both stop at one place, and counts are reported last.
 pub record IsCutShort (s : StreamRunState) (bytes whole : List ℕ) (start written begun reported : Option (List ℕ)) : Type 0 where
   pub output : AppendsBetween start written (flushed_output_by (prefix_text s.to) (item_text s.to 0) s.week bytes)
       (stream_output_by (prefix_text s.to) (item_text s.to 0) s.week whole)
-  pub report : AppendsPrefix begun reported (stream_report s.week whole)
+  pub report : AppendsBetween begun reported (readings_report 1 (flushed_readings s.week bytes)) (stream_report s.week whole)
+  pub stopped : StopAtOnePlace (Some (decided_texts s)) (Some whole) start written begun reported
+  pub counts_last : AppendsPrefix begun reported (readings_report 1 (stream_readings s.week whole))
+      ⊎ Appends start written (stream_output_by (prefix_text s.to) (item_text s.to 0) s.week whole)
 
 -- the complete stream was written and reported
 pub record IsWhole (s : StreamRunState) (bytes : List ℕ) (start written begun reported : Option (List ℕ)) : Type 0 where
   pub output : Appends start written (stream_output_by (prefix_text s.to) (item_text s.to 0) s.week bytes)
   pub report : Appends begun reported (stream_report s.week bytes)
 
--- why a piece was not taken: what a run over the stream may fail by, or 2^64 bytes
+-- why a piece was not taken: what a run over the stream may fail by; from 2^64 bytes on `TooLong`, and only then
 abbrev pub IsPushFault : ℕ → BridgeFault → Type 0
-IsPushFault size fault = IsStreamFault fault ⊎ ((fault ≡ TooLong) × (2 ^ 64 ≤ size))
+IsPushFault size fault = (IsStreamFault fault ⊎ ((fault ≡ TooLong) × (2 ^ 64 ≤ size))) × (2 ^ 64 ≤ size → fault ≡ TooLong)

@@ -4,8 +4,8 @@ use Rattle.std.specs.Io.KnownBytes.{Appends, Consumes, IsAtEnd}
 use Rattle.rtcm_frame.specs.Frames.{decided, frames}
 use Rattle.one_run.specs.Runs.{AppendsBetween, Meaning}
 use Rattle.one_run.specs.declared.fault.BridgeFault.{BridgeFault}
-use Rattle.one_run.specs.declared.fault.BridgeFault.TheVariants.{ReadFault, NotThisForm, TooLong}
-use Rattle.streams.specs.Mirrors.{BeginsFlushed}
+use Rattle.one_run.specs.declared.fault.BridgeFault.TheVariants.{ReadFault, NotThisForm, TooLong, NoMemory}
+use Rattle.streams.specs.Mirrors.{BeginsFlushed, IsNext}
 
 -- the least that was written or reported of the bytes taken, whatever fails: what belongs to the frames that all but the last
 -- 16,384 bytes decide (one read asks for so many); nothing if no byte was taken
@@ -62,6 +62,7 @@ pub record Takes {X : Type 0} (text told : List (List ℕ) → List ℕ) (holds 
 pub record Stops {X : Type 0} (text told : List (List ℕ) → List ℕ) (holds : X → List (List ℕ) → Type 0) (more : Bool) (before : List ℕ) (written written_new reported reported_new : Option (List ℕ)) (old : X) : Type 0 where
   pub done : List (List ℕ)
   pub given : List (List ℕ)
+  pub next : IsNext done given
   pub stream : (following : List ℕ) → (more ≡ false → following ≡ []) → (rest : List (List ℕ)) × (frames (before ++ following) ≡ given ++ rest)
   pub output : GivesBetween holds old text done given written written_new
   pub report : GivesBetween holds old told done given reported reported_new
@@ -85,5 +86,6 @@ pub record TakesPart {X : Type 0} (text told : List (List ℕ) → List ℕ) (ho
   pub stops : Stops text told holds more taken written written_new reported reported_new old
   pub flushes : BeginsFlushed stops.done taken
   pub too_long : fault ≡ TooLong → length taken ≡ 2 ^ 32
+  pub memory : fault ≡ NoMemory → length taken < 2 ^ 32
   pub form : fault ≡ NotThisForm → ⊥
   pub exact : fault ≡ ReadFault → Gives holds old text (decided taken) written written_new × Gives holds old told (decided taken) reported reported_new

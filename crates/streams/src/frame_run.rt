@@ -15,7 +15,7 @@ use crate::line::{FrameLine, frame_line};
 use arrayvec::ArrayVec;
 use nav_io::{Failed, MOST_TAKEN, Sink, Source, read_piece};
 use one_run::BridgeFault;
-use rtcm_frame::{Deframer, Frame};
+use rtcm_frame::{Deframer, Frame, decided_frames_stay};
 
 // The number of bytes that one read asks for.
 const PIECE: usize = 16_384;
@@ -45,6 +45,7 @@ pub fn run_frames<S: Source, T: Sink>(
     ensures ended { Ran frames_meaning S.left S.never_fails S.faults T.written T.faults
         (λ _. Some []) (λ _. 0) input.old input.new output.old output.new (tt {0}) (tt {0}) result }
 {
+    decided_frames_stay();
     let mut deframer = Deframer::new();
     let mut buffer = [0; PIECE];
     let mut taken = 0;

@@ -3,7 +3,8 @@
 ghost use Rattle.std.specs.Prelude.{◌≡◌, ℕ, ◌+◌, ◌*◌, ◌^◌};
 ghost use Rattle.std.specs.Prelude.{◌<◌, ◌≤◌, List, Option, None, Some};
 ghost use Rattle.std.specs.Prelude.{IfOk, OnOk, false, not};
-ghost use Rattle.streams.specs.Mirrors.{AddsKey, first_of, has_key, hash_of, hash_with};
+ghost use Rattle.streams.specs.Mirrors.{AddsKey, AddsOnce, first_of, has_key, hash_of};
+ghost use Rattle.streams.specs.Mirrors.{hash_with};
 
 use nav_bits::Bits;
 use std::alloc::{AllocError, Global};
@@ -95,6 +96,7 @@ impl<const N: usize> Messages<N> {
         requires apart { first_of self.old message.now ≡ Some false }
         ensures added { IfOk result (λ added. added ≡ not (has_key self.old message.now)) }
         ensures adds { OnOk result (AddsKey self.old self.new message.now) }
+        ensures once { IfOk result (AddsOnce self.old self.new) }
     {
         match self.others.insert(*message) {
             Ok(added) => Ok(added),
@@ -109,6 +111,7 @@ impl<const N: usize> Messages<N> {
         requires none { first_of self.old message.now ≡ None }
         ensures added { IfOk result (λ added. added ≡ not (has_key self.old message.now)) }
         ensures adds { OnOk result (AddsKey self.old self.new message.now) }
+        ensures once { IfOk result (AddsOnce self.old self.new) }
     {
         if self.others.contains(message) {
             return Ok(false);
@@ -130,6 +133,7 @@ impl<const N: usize> Messages<N> {
         requires long { 61 ≤ N }
         ensures added { IfOk result (λ added. added ≡ not (has_key self.old message.now)) }
         ensures adds { OnOk result (AddsKey self.old self.new message.now) }
+        ensures once { IfOk result (AddsOnce self.old self.new) }
     {
         let hash = hash(message);
         let message = message.bytes();

@@ -1,6 +1,6 @@
 //! The bytes of a stream, read piece by piece.
 
-ghost use Rattle.std.specs.Prelude.{◌≡◌, ◌+◌, ◌^◌, ◌<◌, ◌≤◌};
+ghost use Rattle.std.specs.Prelude.{◌≡◌, ◌⊎◌, ◌+◌, ◌^◌, ◌<◌, ◌≤◌};
 ghost use Rattle.std.specs.Prelude.{[], false, length, IsTrue, IsErrOf, IfErr, OnOk};
 ghost use Rattle.outlets.specs.Targets.{prefix_text, item_text};
 ghost use Rattle.one_run.specs.Causes.{HasItsCause, faults_of};
@@ -18,6 +18,19 @@ use rtcm_frame::Deframer;
 
 // The number of bytes that one read asks for.
 const PIECE: usize = 16_384;
+
+// The error of a run that ended in a piece by this fault, after so many bytes: without memory in a
+// byte too many it is `TooLong`.
+pub(crate) fn fault_at(taken: u64, fault: BridgeFault) -> BridgeFault
+    ensures same { (result ≡ fault) ⊎ ((result ≡ BridgeFault.TooLong)
+        × (fault ≡ BridgeFault.NoMemory) × (2 ^ 32 ≤ taken)) }
+    ensures memory { result ≡ BridgeFault.NoMemory → taken < 2 ^ 32 }
+{
+    match fault {
+        BridgeFault::NoMemory if taken > MOST_TAKEN => BridgeFault::TooLong,
+        fault => fault,
+    }
+}
 
 // Processes the frames of a stream up to its end.
 pub(crate) fn process_pieces<S: Source, T: Sink, U: Sink>(
@@ -54,7 +67,10 @@ pub(crate) fn process_pieces<S: Source, T: Sink, U: Sink>(
             Ok(count) => {
                 taken += count as u64;
                 let piece = &buffer[..count];
-                process_piece(to, r, &mut deframer, piece, given, output, report, counts)?;
+                match process_piece(to, r, &mut deframer, piece, given, output, report, counts) {
+                    Ok(()) => {}
+                    Err(fault) => return Err(fault_at(taken, fault)),
+                }
             }
         }
     }

@@ -113,7 +113,7 @@ impl StreamRun {
     ///
     /// - `WriteFault`, `ReportFault` only if the error count of the output or the report rose, or
     ///   is at its maximum.
-    /// - `TooLong` only if the stream has 2^64 bytes.
+    /// - `TooLong` if the stream has 2^64 bytes, and only then.
     /// - `NoMemory` if out of memory.
     ///
     /// After any of them each further call gives it again, and touches nothing.

@@ -11,6 +11,7 @@ use gnss_week::RefWeek;
 use nav_io::{Failed, Sink, Source};
 use one_run::BridgeFault;
 use outlets::Target;
+use rtcm_frame::decided_frames_stay;
 use std::alloc::Global;
 
 // Reads a stream to its end, and writes the conversion of its items while it reads.
@@ -26,6 +27,7 @@ pub(crate) fn convert_stream<S: Source, T: Sink, U: Sink>(
         S.left S.never_fails S.faults T.written T.faults U.written U.faults
         input.old input.new output.old output.new report.old report.new result }
 {
+    decided_frames_stay();
     match to.begin(output) {
         Ok(()) => {}
         Err(Failed) => return Err(BridgeFault::WriteFault),

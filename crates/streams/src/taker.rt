@@ -12,9 +12,10 @@ ghost use Rattle.streams.specs.Mirrors.{IsStreamFault};
 ghost use Rattle.streams.specs.Taken.{Gives, GivesBetween, HasRoomFor, Holds};
 ghost use Rattle.streams.specs.Taken.{Stops, Takes, TakesAll, TakesPart, frames_meaning_by};
 
+use crate::pieces::fault_at;
 use nav_io::{Failed, MOST_TAKEN, Sink, Source, read_piece};
 use one_run::{BridgeFault, Text};
-use rtcm_frame::{Deframer, Frame};
+use rtcm_frame::{Deframer, Frame, decided_frames_stay};
 
 // The number of bytes that one read asks for.
 const PIECE: usize = 16_384;
@@ -223,14 +224,11 @@ fn take_pieces<K: FrameTaker, S: Source, T: Sink, U: Sink>(
             }
             Ok(count) => {
                 taken += count as u64;
-                take_piece(
-                    taker,
-                    state,
-                    &mut deframer,
-                    &buffer[..count],
-                    output,
-                    report,
-                )?;
+                let piece = &buffer[..count];
+                match take_piece(taker, state, &mut deframer, piece, output, report) {
+                    Ok(()) => {}
+                    Err(fault) => return Err(fault_at(taken, fault)),
+                }
             }
         }
     }
@@ -263,6 +261,7 @@ pub fn run_taker<K: FrameTaker, S: Source, T: Sink, U: Sink>(
         S.left S.never_fails S.faults T.written T.faults U.written U.faults
         input.old input.new output.old output.new report.old report.new result }
 {
+    decided_frames_stay();
     taker.begins();
     match taker.begin(output) {
         Ok(()) => {}

@@ -15,7 +15,7 @@ loop-taken-init g c = record {
 pub returns-in-Err : goal.returns-in-Err
 returns-in-Err g c = record {
   ended =
-      broke_read _ _ _ _ _ _ (record { report = refl; told = refl; failed = refl }) c.loop-taken.invariant.so_far c.in-Err.ensures.bytes
+      broke_read _ _ _ _ _ _ c.decided_frames_stay.ensures (record { report = refl; told = refl; failed = refl }) c.loop-taken.invariant.so_far c.in-Err.ensures.bytes
       (subst (λ (n : ℕ). Rose n (g.S.Source.faults c.read_piece.new.source)) c.loop-taken.invariant.read c.in-Err.ensures.cause.failed)
       c.loop-taken.invariant.write
       (λ quiet. let none : false ≡ true = (c.in-Err.ensures.never (c.loop-taken.invariant.never quiet)).0 in cc);
@@ -32,7 +32,7 @@ returns-in-Ok-process_frames g c = record {
 pub returns-in-Err-process_frames : goal.returns-in-Err-process_frames
 returns-in-Err-process_frames g c = record {
   ended =
-      broke_last _ _ _ _ _ _ _ _ _ _ (record { report = refl; told = refl; failed = refl }) c.loop-taken.invariant.so_far c.in-Ok-eq0.field-0-test c.in-Ok-eq0.ensures.bytes.0
+      broke_last _ _ _ _ _ _ _ _ _ _ c.decided_frames_stay.ensures (record { report = refl; told = refl; failed = refl }) c.loop-taken.invariant.so_far c.in-Ok-eq0.field-0-test c.in-Ok-eq0.ensures.bytes.0
       (c.in-Ok-eq0.ensures.bytes.1 c.in-Ok-eq0.field-0-test) c.finish.ensures.rest c.finish.ensures.finished c.in-Err-process_frames.ensures.breaks
       (subst (λ (n : ℕ). Rose n (g.T.Sink.faults c.process_frames.new.output)) c.loop-taken.invariant.write c.in-Err-process_frames.ensures.cause.failed)
       (c.in-Ok-eq0.ensures.cause.stays ∙ c.loop-taken.invariant.read);
@@ -50,7 +50,7 @@ loop-taken-preserved g c = record {
 pub returns-in-Err-process_piece : goal.returns-in-Err-process_piece
 returns-in-Err-process_piece g c = record {
   ended =
-      broke_piece _ _ _ _ _ _ _ _ (record { report = refl; told = refl; failed = refl }) c.loop-taken.invariant.so_far c.in-Ok.ensures.bytes.0
+      broke_piece _ _ _ _ _ _ _ _ c.decided_frames_stay.ensures (record { report = refl; told = refl; failed = refl }) c.loop-taken.invariant.so_far c.in-Ok.ensures.bytes.0
       (omega (arith, c.in-Ok.ensures.count, c.in-Ok.ensures.within)) c.in-Err-process_piece.ensures.breaks
       (subst (λ (n : ℕ). Rose n (g.T.Sink.faults c.process_piece.new.output)) c.loop-taken.invariant.write c.in-Err-process_piece.ensures.cause.failed)
       (c.in-Ok.ensures.cause.stays ∙ c.loop-taken.invariant.read);
@@ -59,5 +59,5 @@ returns-in-Err-process_piece g c = record {
 pub returns : goal.returns
 returns g c = record {
   ended =
-      broke_long _ _ _ _ _ (record { report = refl; told = refl; failed = refl }) c.loop-taken.invariant.so_far (omega arith) c.loop-taken.invariant.read c.loop-taken.invariant.write;
+      broke_long _ _ _ _ _ c.decided_frames_stay.ensures (record { report = refl; told = refl; failed = refl }) c.loop-taken.invariant.so_far (omega arith) c.loop-taken.invariant.read c.loop-taken.invariant.write;
 }

@@ -1,5 +1,4 @@
 use Rattle.std.proofs.Common.{◌∙◌, refl, ap, arith}
-use Rattle.std.proofs.lemmas.Result.{err_from_is_err_and}
 use Rattle.streams.proofs.PieceLemmas.{so_far_piece, so_far_start}
 use Rattle.streams.proofs.PieceEnds.{if_err2, part_of_last, part_of_long, part_of_piece, part_of_read, pieces_all}
 use Rattle.streams.proofs.StreamLemmas.{on_ok2}
@@ -19,7 +18,7 @@ pub returns-in-Ok-eq0-clause-part : goal.returns-in-Ok-eq0-clause-part
 returns-in-Ok-eq0-clause-part g c =
     if_err2 c.process_frames.result c.process_frames.ensures.breaks c.process_frames.ensures.kinds
     (λ fault breaks kind.
-    part_of_last c.args.r _ _ _ _ _ _ _ _ _ _ _ _ _ _ _ _ _ _ _ _ _ _ fault c.loop-taken.invariant.so_far c.in-Ok-eq0.field-0-test c.in-Ok-eq0.ensures.bytes.0
+    part_of_last c.args.r _ _ _ _ _ _ _ _ _ _ _ _ _ _ _ _ _ _ _ _ _ _ fault c.loop-taken.invariant.so_far (omega arith) c.in-Ok-eq0.field-0-test c.in-Ok-eq0.ensures.bytes.0
     (c.in-Ok-eq0.ensures.bytes.1 c.in-Ok-eq0.field-0-test) c.finish.ensures.rest c.finish.ensures.finished breaks kind)
 
 pub loop-taken-init : goal.loop-taken-init
@@ -35,7 +34,7 @@ loop-taken-init g c = record {
 
 pub loop-taken-preserved : goal.loop-taken-preserved
 loop-taken-preserved g c =
-    let took = c.in_ok-process_piece-in-Ok.ensures in
+    let took = c.in-Ok-process_piece.ensures in
     record {
       so_far = so_far_piece c.args.r _ _ _ _ _ _ _ _ _ _ _ _ _ _ _ _ _ _ _ _ _ _ c.loop-taken.invariant.so_far c.in-Ok.ensures.bytes.0 c.in-Ok.ensures.count took.goes took.may_feed took.room;
       few = took.some;
@@ -46,11 +45,11 @@ loop-taken-preserved g c =
       never = λ quiet. (c.in-Ok.ensures.never (c.loop-taken.invariant.never quiet)).1;
     }
 
-pub returns-in_err-process_piece-in-Ok-clause-part : goal.returns-in_err-process_piece-in-Ok-clause-part
-returns-in_err-process_piece-in-Ok-clause-part g c =
-    let p = err_from_is_err_and c.from_residual.result c.from_residual.ensures.1 in
-    rw (p.1, p.2) (part_of_piece c.args.r _ _ _ _ _ _ _ _ _ _ _ _ _ _ _ _ _ _ _ _ _ c.loop-taken.invariant.so_far c.in-Ok.ensures.bytes.0 (omega (arith, c.in-Ok.ensures.count, c.in-Ok.ensures.within))
-    c.in_err-process_piece-in-Ok.ensures.breaks c.in_err-process_piece-in-Ok.ensures.kinds)
+pub returns-in-Err-process_piece-clause-part : goal.returns-in-Err-process_piece-clause-part
+returns-in-Err-process_piece-clause-part g c =
+    part_of_piece c.args.r _ _ _ _ _ _ _ _ _ _ _ _ _ _ _ _ _ _ _ _ _ c.in-Err-process_piece.fault _ c.loop-taken.invariant.so_far c.in-Ok.ensures.bytes.0
+    (omega (arith, c.in-Ok.ensures.count, c.in-Ok.ensures.within)) c.in-Ok.ensures.count c.in-Ok.ensures.most c.in-Err-process_piece.ensures.breaks c.in-Err-process_piece.ensures.kinds
+    (record { same = c.fault_at.ensures.same; memory = c.fault_at.ensures.memory })
 
 pub returns-clause-part : goal.returns-clause-part
 returns-clause-part g c = part_of_long c.args.r _ _ _ _ _ _ _ _ _ _ _ _ _ _ c.loop-taken.invariant.so_far (omega (arith, c.loop-taken.invariant.limit))

@@ -17,7 +17,7 @@ returns-in_err-process_pieces g c = record {
   ended =
       let p = err_from_is_err_and c.from_residual.result c.from_residual.ensures.1 in
       rw (p.1, p.2)
-      (broke_stream c.args.r _ _ _ _ _ _ _ _ _ _ _ c.in-Ok.ensures.bytes c.in-Ok.ensures.cause.stays (c.new-given.ensures.none, c.new-given.ensures.kept) c.new-counts.ensures
+      (broke_stream c.args.r _ _ _ _ _ _ _ _ _ _ _ c.decided_frames_stay.ensures c.in-Ok.ensures.bytes c.in-Ok.ensures.cause.stays (c.new-given.ensures.none, c.new-given.ensures.kept) c.new-counts.ensures
       c.in_err-process_pieces.ensures.part c.in_err-process_pieces.ensures.cause c.in_err-process_pieces.ensures.never);
 }
 
@@ -35,7 +35,7 @@ returns g c = record {
   ended =
       let cause = c.in_ok-process_pieces.ensures.cause in
       let text = subst (λ (l : List ℕ). AppendsPrefix (g.U.Sink.written c.process_pieces.new.report) (g.U.Sink.written c.write.new.self) l) (c.as_slice.ensures.value ∙ c.stream_counts_text.ensures) c.in-Err-write.ensures.bytes in
-      broke_counts c.args.r _ _ _ _ _ _ _ _ _ _ c.in-Ok.ensures.bytes (c.new-given.ensures.none, c.new-given.ensures.kept) c.new-counts.ensures c.in_ok-process_pieces.ensures.all text
+      broke_counts c.args.r _ _ _ _ _ _ _ _ _ _ c.decided_frames_stay.ensures c.in-Ok.ensures.bytes (c.new-given.ensures.none, c.new-given.ensures.kept) c.new-counts.ensures c.in_ok-process_pieces.ensures.all text
       (subst (λ (n : ℕ). Rose n (g.U.Sink.faults c.write.new.self)) (ap (λ f. f.report) cause) c.in-Err-write.ensures.cause.failed)
       (ap (λ f. f.input) cause) (ap (λ f. f.output) cause ∙ c.in-Ok.ensures.cause.stays);
 }

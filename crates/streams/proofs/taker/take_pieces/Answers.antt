@@ -1,5 +1,4 @@
 use Rattle.std.proofs.Common.{◌∙◌, refl, ap, arith}
-use Rattle.std.proofs.lemmas.Result.{err_from_is_err_and}
 use Rattle.streams.proofs.PieceEnds.{if_err2}
 use Rattle.streams.proofs.StreamLemmas.{on_ok2}
 use Rattle.streams.proofs.TakenEnds.{part_of_last, part_of_long, part_of_piece, part_of_read, so_far_piece, so_far_start, takes_all}
@@ -19,7 +18,7 @@ pub returns-in-Ok-eq0-clause-part : goal.returns-in-Ok-eq0-clause-part
 returns-in-Ok-eq0-clause-part g c =
     if_err2 c.take_frames.result c.take_frames.ensures.stops c.take_frames.ensures.kinds
     (λ fault stops kind.
-    part_of_last _ c.loop-taken.invariant.so_far c.in-Ok-eq0.field-0-test c.in-Ok-eq0.ensures.bytes.0 (c.in-Ok-eq0.ensures.bytes.1 c.in-Ok-eq0.field-0-test)
+    part_of_last _ c.loop-taken.invariant.so_far (omega arith) c.in-Ok-eq0.field-0-test c.in-Ok-eq0.ensures.bytes.0 (c.in-Ok-eq0.ensures.bytes.1 c.in-Ok-eq0.field-0-test)
     c.finish.ensures.rest c.finish.ensures.finished stops kind)
 
 pub loop-taken-init : goal.loop-taken-init
@@ -34,7 +33,7 @@ loop-taken-init g c = record {
 
 pub loop-taken-preserved : goal.loop-taken-preserved
 loop-taken-preserved g c =
-    let took = c.in_ok-take_piece-in-Ok.ensures in
+    let took = c.in-Ok-take_piece.ensures in
     record {
       so_far = so_far_piece _ c.loop-taken.invariant.so_far c.in-Ok.ensures.bytes.0 c.in-Ok.ensures.count took.takes took.may_feed;
       limit = omega (arith, c.in-Ok.ensures.most);
@@ -44,11 +43,10 @@ loop-taken-preserved g c =
       never = λ quiet. (c.in-Ok.ensures.never (c.loop-taken.invariant.never quiet)).1;
     }
 
-pub returns-in_err-take_piece-in-Ok-clause-part : goal.returns-in_err-take_piece-in-Ok-clause-part
-returns-in_err-take_piece-in-Ok-clause-part g c =
-    let p = err_from_is_err_and c.from_residual.result c.from_residual.ensures.1 in
-    rw (p.1, p.2) (part_of_piece _ c.loop-taken.invariant.so_far c.in-Ok.ensures.bytes.0 (omega (arith, c.in-Ok.ensures.count, c.in-Ok.ensures.within))
-    c.in_err-take_piece-in-Ok.ensures.stops c.in_err-take_piece-in-Ok.ensures.kinds)
+pub returns-in-Err-take_piece-clause-part : goal.returns-in-Err-take_piece-clause-part
+returns-in-Err-take_piece-clause-part g c =
+    part_of_piece _ c.loop-taken.invariant.so_far c.in-Ok.ensures.bytes.0 (omega (arith, c.in-Ok.ensures.count, c.in-Ok.ensures.within)) c.in-Ok.ensures.count c.in-Ok.ensures.most
+    c.in-Err-take_piece.ensures.stops c.in-Err-take_piece.ensures.kinds (record { same = c.fault_at.ensures.same; memory = c.fault_at.ensures.memory })
 
 pub returns-clause-part : goal.returns-clause-part
 returns-clause-part g c = part_of_long c.loop-taken.invariant.so_far (omega (arith, c.loop-taken.invariant.limit))

@@ -18,7 +18,7 @@ returns-in_err-process_frames-clause-short g c =
     rw p.1
     (λ bytes start begun old.
     subst (λ (s : StreamRunState). IsCutShort s bytes bytes start (g.T.Sink.written c.process_frames.new.output) begun (g.U.Sink.written c.process_frames.new.report)) c.self.view_is
-    (cut_last _ _ _ bytes start _ _ begun _ _ ((c.self.invariant (none_by c.self.inside.fault c.in_default.not-Some)).may_feed.1) (subst (λ (s : StreamRunState). IsPushed s bytes start (g.T.Sink.written c.args.output.now) begun (g.U.Sink.written c.args.report.now)) (sym c.self.view_is) old) (ap not c.finish.ensures.finished) c.finish.ensures.rest c.in_err-process_frames.ensures.breaks))
+    (cut_last _ c.decided_frames_stay.ensures _ _ bytes start _ _ begun _ _ ((c.self.invariant (none_by c.self.inside.fault c.in_default.not-Some)).may_feed.1) (subst (λ (s : StreamRunState). IsPushed s bytes start (g.T.Sink.written c.args.output.now) begun (g.U.Sink.written c.args.report.now)) (sym c.self.view_is) old) (ap not c.finish.ensures.finished) c.finish.ensures.rest c.in_err-process_frames.ensures.breaks))
 
 pub returns-in-Ok-clause-whole : goal.returns-in-Ok-clause-whole
 returns-in-Ok-clause-whole g c bytes start begun old =
@@ -38,4 +38,4 @@ returns-clause-short g c bytes start begun old =
     let took = c.in_ok-process_frames.ensures in
     let text = subst (λ (l : List ℕ). AppendsPrefix (g.U.Sink.written c.process_frames.new.report) (g.U.Sink.written c.write.new.self) l) (c.as_slice.ensures.value ∙ c.stream_counts_text.ensures) c.in-Err.ensures.bytes in
     subst (λ (s : StreamRunState). IsCutShort s bytes bytes start (g.T.Sink.written c.process_frames.new.output) begun (g.U.Sink.written c.write.new.self)) c.self.view_is
-    (cut_counts _ _ _ _ bytes start _ _ begun _ _ _ _ _ ((c.self.invariant (none_by c.self.inside.fault c.in_default.not-Some)).may_feed.1) (subst (λ (s : StreamRunState). IsPushed s bytes start (g.T.Sink.written c.args.output.now) begun (g.U.Sink.written c.args.report.now)) (sym c.self.view_is) old) (ap not c.finish.ensures.finished) c.finish.ensures.rest (took.last c.finish.ensures.finished) took.goes text)
+    (cut_counts _ c.decided_frames_stay.ensures _ _ _ bytes start _ _ begun _ _ _ _ _ ((c.self.invariant (none_by c.self.inside.fault c.in_default.not-Some)).may_feed.1) (subst (λ (s : StreamRunState). IsPushed s bytes start (g.T.Sink.written c.args.output.now) begun (g.U.Sink.written c.args.report.now)) (sym c.self.view_is) old) (ap not c.finish.ensures.finished) c.finish.ensures.rest (took.last c.finish.ensures.finished) took.goes text)

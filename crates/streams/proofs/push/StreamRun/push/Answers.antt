@@ -20,4 +20,4 @@ returns-in-Ok-clause-pushed g c bytes start begun old =
 pub returns-in-Err-clause-short : goal.returns-in-Err-clause-short
 returns-in-Err-clause-short g c bytes more start begun old =
     subst (λ (s : StreamRunState). IsCutShort s bytes ((bytes ++ c.args.piece.now) ++ more) start (g.T.Sink.written c.process_piece.new.output) begun (g.U.Sink.written c.process_piece.new.report)) c.self.view_is
-    (cut_piece _ bytes c.args.piece.now more start _ _ begun _ _ (c.self.invariant (none_by c.self.inside.fault c.in_default.not-Some)).may_feed.1 (subst (λ (s : StreamRunState). IsPushed s bytes start (g.T.Sink.written c.args.output.now) begun (g.U.Sink.written c.args.report.now)) (sym c.self.view_is) old) c.in-Err.ensures.breaks)
+    (cut_piece _ c.decided_frames_stay.ensures bytes c.args.piece.now more start _ _ begun _ _ (c.self.invariant (none_by c.self.inside.fault c.in_default.not-Some)).may_feed.1 (subst (λ (s : StreamRunState). IsPushed s bytes start (g.T.Sink.written c.args.output.now) begun (g.U.Sink.written c.args.report.now)) (sym c.self.view_is) old) c.in-Err.ensures.breaks)
