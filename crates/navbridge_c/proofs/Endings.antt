@@ -2,11 +2,11 @@
 use Rattle.std.proofs.Common.{◌≡◌, ◌≤◌, ◌<◌, ◌^◌, ◌⊎◌, inl, inr, refl, sym, ap, ◌∙◌, subst, arith, ℕ, Bool, true, false, List, [], ◌++◌, length, append-nil, length-append}
 use Rattle.std.proofs.lemmas.Bool.{eq-eqb, eqb-true, ltb-true, ltb-false}
 use Rattle.std.specs.Prelude.{All, IsUtf8, Option, None, Some, Result, Ok, Err, IfSome, IsSome, nat_lt, ◌==◌, if◌then◌else◌}
-use Rattle.std.specs.Io.KnownBytes.{Consumes, IsAtEnd}
-use Rattle.nav_io.specs.Prefix.{IsPrefix}
+use Rattle.std.specs.Io.KnownBytes.{Appends, Consumes, IsAtEnd}
+use Rattle.nav_io.specs.Prefix.{AppendsPrefix, IsPrefix}
 use Rattle.one_run.specs.declared.fault.BridgeFault.{BridgeFault}
 use Rattle.one_run.specs.declared.fault.BridgeFault.TheVariants.{ReadFault, WriteFault, ReportFault, NotThisForm, TooLong, NoMemory}
-use Rattle.one_run.specs.Runs.{Broke, Done, Ended, Meaning, World, world}
+use Rattle.one_run.specs.Runs.{Broke, Done, Ended, Meaning, StopAtOnePlace, Texts, World, world}
 use Rattle.one_run.specs.Ends.{status_of, uncounted}
 use Rattle.one_run.proofs.Surface.{forget, forgotten, status_forgotten}
 use Rattle.bridge_engine.specs.Job.{GivesJob, IsJob}
@@ -73,7 +73,7 @@ form_end words input job texts is none = record {
 }
 
 pub memory_end : (words : List (List ℕ)) (input : List ℕ) (made : Made) → All IsUtf8 words
-    → (made ≡ nothing) ⊎ ForJob words (λ job. IsBegun job input made) → HasEndedInMemory words input made 6
+    → (made ≡ nothing) ⊎ ForJob words (λ job. IsBegun job input made × IsSome ((meaning_of job).counts (read_by job input))) → HasEndedInMemory words input made 6
 memory_end words input made texts some = record {
   done = λ e. absurd (no 6 0 refl e);
   no_job = λ e. absurd (no 6 2 refl e);
@@ -151,6 +151,21 @@ refused_by counts false input none = none
 grown : (old new text : List ℕ) → old ≡ [] → new ≡ old ++ text → new ≡ text
 grown old new text none grew = grew ∙ ap (λ (l : List ℕ). l ++ text) none
 
+grown_within : (old new text : List ℕ) → old ≡ [] → AppendsPrefix (Some old) (Some new) text → IsPrefix new text
+grown_within old new text none (some, within, grew) = subst (λ (l : List ℕ). IsPrefix l text) (sym (grown old new some none grew)) within
+
+-- ---- what the complete input gives
+
+-- of what is known of the bytes that are read, as it is of them
+of_read : (P : List ℕ → Type 0) (reads : Bool) (input : List ℕ) → IfSome (bytes_by reads input) P → P (if reads then input else [])
+of_read P true input p = p
+of_read P false input p = p
+
+stopped_read : (flushed : Option Texts) (reads : Bool) (input : List ℕ) (w w' u u' : Option (List ℕ)) → StopAtOnePlace flushed (bytes_by reads input) w w' u u'
+    → StopAtOnePlace flushed (Some (if reads then input else [])) w w' u u'
+stopped_read flushed true input w w' u u' stops = stops
+stopped_read flushed false input w w' u u' stops = stops
+
 -- ---- a run over memory
 
 module _ {S T U : Type 0} (left : S → List ℕ) (written : T → List ℕ) (writes : T → ℕ) (reported : U → List ℕ) (reports : U → ℕ) where
@@ -169,6 +184,37 @@ module _ {S T U : Type 0} (left : S → List ℕ) (written : T → List ℕ) (wr
         report = grown _ _ _ silent done.told ∙ ap m.whole.report all;
       }
 
+  ahead_of : (job : Job) (i i' : S) (o o' : T) (r r' : U) (fault : BridgeFault) → Broke (meaning_of job) (world_at i o r) (world_at i' o' r') fault
+      → AppendsPrefix (Some (written o)) (Some (written o')) ((meaning_of job).whole.output (read_by job (left i)))
+      × AppendsPrefix (Some (reported r)) (Some (reported r')) ((meaning_of job).whole.report (read_by job (left i)))
+  ahead_of job i i' o o' r r' fault broke =
+      of_read (λ bytes. AppendsPrefix (Some (written o)) (Some (written o')) ((meaning_of job).whole.output bytes)
+      × AppendsPrefix (Some (reported r)) (Some (reported r')) ((meaning_of job).whole.report bytes))
+      (meaning_of job).reads (left i) broke.ahead
+
+  stops_of : (job : Job) (i i' : S) (o o' : T) (r r' : U) (fault : BridgeFault) → written o ≡ [] → reported r ≡ []
+      → Broke (meaning_of job) (world_at i o r) (world_at i' o' r') fault
+      → StopAtOnePlace (meaning_of job).flushed (Some (read_by job (left i))) (Some []) (Some (written o')) (Some []) (Some (reported r'))
+  stops_of job i i' o o' r r' fault none silent broke =
+      let m = meaning_of job in
+      subst (λ (l : List ℕ). StopAtOnePlace m.flushed (Some (read_by job (left i))) (Some l) (Some (written o')) (Some []) (Some (reported r'))) none
+      (subst (λ (l : List ℕ). StopAtOnePlace m.flushed (Some (read_by job (left i))) (Some (written o)) (Some (written o')) (Some l) (Some (reported r'))) silent
+      (stopped_read m.flushed m.reads (left i) _ _ _ _ broke.stopped))
+
+  last_of : (job : Job) (i i' : S) (o o' : T) (r r' : U) (fault : BridgeFault) → written o ≡ [] → reported r ≡ []
+      → Broke (meaning_of job) (world_at i o r) (world_at i' o' r') fault
+      → IsPrefix (reported r') ((meaning_of job).rejections (read_by job (left i))) ⊎ (written o' ≡ (meaning_of job).whole.output (read_by job (left i)))
+  last_of job i i' o o' r r' fault none silent broke = by broke.counts_last where
+    m : Meaning (Unit {0})
+    m = meaning_of job
+    by : IfSome (bytes_by m.reads (left i)) (λ bytes. AppendsPrefix (Some (reported r)) (Some (reported r')) (m.rejections bytes))
+        ⊎ ((fault ≡ ReportFault) × IsAtEnd (bytes_by m.reads (left i')) × Appends (Some (written o)) (Some (written o')) (m.whole.output broke.taken))
+        → IsPrefix (reported r') (m.rejections (read_by job (left i))) ⊎ (written o' ≡ m.whole.output (read_by job (left i)))
+    by (inl early) =
+        inl (grown_within _ _ _ silent (of_read (λ bytes. AppendsPrefix (Some (reported r)) (Some (reported r')) (m.rejections bytes)) m.reads (left i) early))
+    by (inr (is, end, all)) =
+        inr (grown _ _ _ none all ∙ ap m.whole.output (all_taken m.reads (left i) (left i') broke.taken broke.consumes end))
+
   begun_of : (job : Job) (i i' : S) (o o' : T) (r r' : U) (fault : BridgeFault) → written o ≡ [] → reported r ≡ []
       → Broke (meaning_of job) (world_at i o r) (world_at i' o' r') fault → IsBegun job (left i) (made_of (written o') (reported r'))
   begun_of job i i' o o' r r' fault none silent broke =
@@ -182,12 +228,20 @@ module _ {S T U : Type 0} (left : S → List ℕ) (written : T → List ℕ) (wr
         least = subst (λ (l : List ℕ). IsPrefix (m.least.output broke.taken) l) is broke.text.no_less;
         report = subst (λ (l : List ℕ). IsPrefix l (m.whole.report broke.taken)) told broke.told.within;
         least_report = subst (λ (l : List ℕ). IsPrefix (m.least.report broke.taken) l) told broke.told.no_less;
+        ahead_output = grown_within _ _ _ none (ahead_of job i i' o o' r r' fault broke).0;
+        ahead_report = grown_within _ _ _ silent (ahead_of job i i' o o' r r' fault broke).1;
+        stopped = stops_of job i i' o o' r r' fault none silent broke;
+        counts_last = last_of job i i' o o' r r' fault none silent broke;
       }
 
   nothing_of : (o o' : T) (r r' : U) → written o ≡ [] → reported r ≡ [] → o' ≡ o → r' ≡ r → nothing ≡ made_of (written o') (reported r')
   nothing_of o o' r r' none silent same told =
       sym (ap (λ (x : T). made_of (written x) (reported r')) same ∙ ap (λ (x : U). made_of (written o) (reported x)) told
       ∙ ap (λ (l : List ℕ). made_of l (reported r)) none ∙ ap (λ (l : List ℕ). made_of [] l) silent)
+
+  some_of : (job : Job) (i : S) → IfSome (bytes_by (meaning_of job).reads (left i)) (λ bytes. IsSome ((meaning_of job).counts bytes))
+      → IsSome ((meaning_of job).counts (read_by job (left i)))
+  some_of job i some = of_read (λ bytes. IsSome ((meaning_of job).counts bytes)) (meaning_of job).reads (left i) some
 
   by_end : (words : List (List ℕ)) (job : Job) (i i' : S) (o o' : T) (r r' : U) (run : Result (Unit {0}) BridgeFault) → All IsUtf8 words → IsJob words job
       → written o ≡ [] → reported r ≡ [] → Ended (meaning_of job) (world_at i o r) (world_at i' o' r') run
@@ -196,14 +250,14 @@ module _ {S T U : Type 0} (left : S → List ℕ) (written : T → List ℕ) (wr
       whole_end words _ _ job texts is (whole_of job i i' o o' r r' counts none silent done)
   by_end words job i i' o o' r r' (Err ReadFault) texts is none silent broke = absurd (broke.says.2 refl)
   by_end words job i i' o o' r r' (Err WriteFault) texts is none silent broke =
-      memory_end words _ _ texts (inr (job, is, begun_of job i i' o o' r r' WriteFault none silent broke))
+      memory_end words _ _ texts (inr (job, is, (begun_of job i i' o o' r r' WriteFault none silent broke, some_of job i broke.says.1)))
   by_end words job i i' o o' r r' (Err NotThisForm) texts is none silent broke =
       subst (λ (made : Made). HasEndedInMemory words (left i) made 5) (nothing_of o o' r r' none silent broke.says.2 broke.says.3)
       (form_end words (left i) job texts is (refused_by (meaning_of job).counts (meaning_of job).reads (left i) broke.says.1))
   by_end words job i i' o o' r r' (Err NoMemory) texts is none silent broke =
-      memory_end words _ _ texts (inr (job, is, begun_of job i i' o o' r r' NoMemory none silent broke))
+      memory_end words _ _ texts (inr (job, is, (begun_of job i i' o o' r r' NoMemory none silent broke, some_of job i broke.says.1)))
   by_end words job i i' o o' r r' (Err ReportFault) texts is none silent broke =
-      memory_end words _ _ texts (inr (job, is, begun_of job i i' o o' r r' ReportFault none silent broke))
+      memory_end words _ _ texts (inr (job, is, (begun_of job i i' o o' r r' ReportFault none silent broke, some_of job i broke.says.2)))
   by_end words job i i' o o' r r' (Err TooLong) texts is none silent broke =
       long_end words _ _ job texts is (begun_of job i i' o o' r r' TooLong none silent broke)
       (long_taken (meaning_of job).reads (left i) (left i') broke.taken broke.consumes (broke.says ∙ limit_of job))

@@ -1,7 +1,8 @@
 -- A conversion over memory: its output for an input, how that is put into the given buffers, and
 -- what its status means.
-use Rattle.std.specs.Prelude.{◌≡◌, ◌≢◌, ◌⊎◌, ◌↔◌, ◌^◌, ◌<◌, ◌≤◌, ℕ, List, [], length, All, IsUtf8, None, IsSome, if◌then◌else◌}
+use Rattle.std.specs.Prelude.{◌≡◌, ◌≢◌, ◌⊎◌, ◌↔◌, ◌^◌, ◌<◌, ◌≤◌, ℕ, List, [], length, All, IsUtf8, None, Some, IsSome, if◌then◌else◌}
 use Rattle.nav_io.specs.Prefix.{IsPrefix}
+use Rattle.one_run.specs.Runs.{StopAtOnePlace}
 use Rattle.bridge_engine.specs.Job.{GivesJob, IsJob}
 use Rattle.bridge_engine.specs.Meanings.{meaning_of}
 use Rattle.bridge_engine.specs.declared.job.Job.{Job}
@@ -31,7 +32,8 @@ pub record IsWhole (job : Job) (input : List ℕ) (made : Made) : Type 0 where
   pub report : made.report ≡ (meaning_of job).whole.report (read_by job input)
 
 -- The conversion ended before it was done: it took some prefix of the input, and made a prefix of
--- what that gives, neither output nor report less than its least.
+-- what that gives, neither output nor report less than its least. Both are prefixes of what the
+-- complete input gives, both stop at one place, and counts are reported last.
 pub record IsBegun (job : Job) (input : List ℕ) (made : Made) : Type 0 where
   pub taken : List ℕ
   pub prefix : IsPrefix taken (read_by job input)
@@ -39,6 +41,11 @@ pub record IsBegun (job : Job) (input : List ℕ) (made : Made) : Type 0 where
   pub least : IsPrefix ((meaning_of job).least.output taken) made.output
   pub report : IsPrefix made.report ((meaning_of job).whole.report taken)
   pub least_report : IsPrefix ((meaning_of job).least.report taken) made.report
+  pub ahead_output : IsPrefix made.output ((meaning_of job).whole.output (read_by job input))
+  pub ahead_report : IsPrefix made.report ((meaning_of job).whole.report (read_by job input))
+  pub stopped : StopAtOnePlace (meaning_of job).flushed (Some (read_by job input)) (Some []) (Some made.output) (Some []) (Some made.report)
+  -- no counts were reported, or the whole output was written
+  pub counts_last : IsPrefix made.report ((meaning_of job).rejections (read_by job input)) ⊎ (made.output ≡ (meaning_of job).whole.output (read_by job input))
 
 -- the arguments name a conversion, and this holds of it
 abbrev pub ForJob : List (List ℕ) → (Job → Type 0) → Type 0
@@ -57,8 +64,8 @@ pub record HasEnded (words : List (List ℕ)) (input : List ℕ) (room report_ro
   pub output_short : status ≡ 4 → ForJob words (λ job. IsWhole job input made × (room < length made.output))
   -- the input is not of the format that the conversion reads
   pub not_this_form : status ≡ 5 → ForJob words (λ job. ((meaning_of job).counts (read_by job input) ≡ None) × (made ≡ nothing))
-  -- there was no memory
-  pub no_memory : status ≡ 6 → (made ≡ nothing) ⊎ ForJob words (λ job. IsBegun job input made)
+  -- there was no memory: nothing was made, or the conversion accepts the input
+  pub no_memory : status ≡ 6 → (made ≡ nothing) ⊎ ForJob words (λ job. IsBegun job input made × IsSome ((meaning_of job).counts (read_by job input)))
   -- all was made, there was room for the output, and the report is longer than its room
   pub report_short : status ≡ 7 → ForJob words (λ job. IsWhole job input made × (length made.output ≤ room) × (report_room < length made.report))
   -- the input is too long
