@@ -1,6 +1,6 @@
 -- A navigation file that is written as a capture, and the capture received of it that is converted back.
 use Rattle.std.proofs.Common.{◌++◌, filter, ◌≡◌, ℕ, inl, inr, false, List, [], ◌∷◌, refl, sym, ap, subst, ◌∙◌}
-use Rattle.std.specs.Prelude.{Option, Some, None, Result, Ok, Err, IsOk, All}
+use Rattle.std.specs.Prelude.{Option, Some, None, Result, Ok, Err, IsOk, All, Contains}
 use Rattle.std.specs.List.{AllByRecursion, flat_map}
 use Rattle.std.proofs.lemmas.List.Elements.{All-from_recursion}
 use Rattle.nav_io.specs.Lines.{Line, lines_by}
@@ -9,6 +9,7 @@ use Rattle.nav_eph.specs.declared.items.NavItem.{NavItem}
 use Rattle.nav_eph.specs.declared.items.NavItem.TheVariants.{Gps, Gal, Ion}
 use Rattle.capture_lines.specs.Heads.{head_of, plain_head}
 use Rattle.capture_lines.specs.declared.head.CaptureHead.{CaptureHead}
+use Rattle.nav_eph.specs.declared.part.Part.{Part}
 use Rattle.periods.specs.PeriodLists.{items_in}
 use Rattle.periods.specs.PeriodsOf.{periods_of}
 use Rattle.capture_log.specs.Heard.{NoneLate, SameItems}
@@ -33,7 +34,7 @@ use Rattle.bridge_engine.specs.Job.{IsJob}
 use Rattle.bridge_engine.specs.Meanings.{meaning_of}
 use Rattle.bridge_engine.specs.declared.job.Job.{Job}
 use Rattle.bridge_engine.specs.declared.job.Job.TheVariants.{SendRinex, SendRinex3}
-use Rattle.nav_laws.specs.SentAgain.{AreRepeats, IsHeardAgain, SameByType}
+use Rattle.nav_laws.specs.SentAgain.{AreRepeats, AreSentAgain, AreTurned, IsHeardAgain, IsSentAgain, SameByType}
 use Rattle.nav_laws.specs.SentCapture.{IsOfLines, IsStillHeard, sent_capture}
 use Rattle.job_laws.specs.RoundTrip.{AreReceived, AreTwoRuns, IsOfEphemerides, IsOfItems, Sends, items_text}
 use Rattle.job_laws.specs.Written.{IsWritten}
@@ -53,6 +54,10 @@ pub record Laws : Type 0 where
       → NoneLate 7200 (line_items_of lines) → items_in (periods_of r 7200 (parts_of 7200 lines)) ≡ sent_items r is
   pub repeated : (r : ℕ) (is : List NavItem) (lines : List Line) → All IsItem is → AreRepeats lines (sent_capture r is) → IsHeardAgain (sent_capture r is) lines
       → SameByType (items_in (periods_of r 7200 (parts_of 7200 lines))) (sent_items r is)
+  pub repeats : (r : ℕ) (is : List NavItem) (lines : List Line) (part : Part) → All IsItem is → AreRepeats lines (sent_capture r is) → Contains (parts_of 7200 lines) part
+      → (sent : Part) × Contains (parts_of 7200 (sent_capture r is)) sent × IsSentAgain part sent
+  pub in_order : (r : ℕ) (is : List NavItem) (lines : List Line) → All IsItem is → AreSentAgain (parts_of 7200 lines) (parts_of 7200 (sent_capture r is))
+      → (AreTurned (parts_of 7200 lines) → ⊥) → items_in (periods_of r 7200 (parts_of 7200 lines)) ≡ sent_items r is
 
 some_some : {X : Type 0} (x y : X) → Some x ≡ Some y → x ≡ y
 some_some x y e = cc
@@ -174,3 +179,12 @@ module _ (laws : Laws) where
 
       pub ephemerides_back : IsOfEphemerides to → text ≡ items_text to (sent_items r is)
       ephemerides_back of = text_of_back (of_items to of) ∙ same_text to back (sent_items r is) of same_back.ephemerides
+
+      pub back_in_order : IsOfItems to → (AreTurned (parts_of 7200 received.lines) → ⊥) → text ≡ items_text to (sent_items r is)
+      back_in_order of never =
+          let repeats_it : AreRepeats received.lines (sent_capture r is) = subst (λ (l : List Line). AreRepeats received.lines l) sent_lines repeats in
+          let again : AreSentAgain (parts_of 7200 received.lines) (parts_of 7200 (sent_capture r is)) = record {
+            each = λ p i. laws.repeats r is received.lines p all repeats_it i;
+            every = subst (λ (l : List Line). IsHeardAgain l received.lines) sent_lines heard;
+          } in
+          text_of_back of ∙ ap (items_text to) (laws.in_order r is received.lines all again never)
