@@ -57,6 +57,19 @@ while at < len(data):
     sys.stdout.buffer.write(data[at:at + size])
     at += size'
 }
+# a navigation file of so many records of each of these kinds, with random numbers: those of checks/systems.py
+systems() {
+  python3 -B - "$@" << 'END'
+import random, sys
+sys.path.insert(0, "checks")
+from systems import Record, header
+draw = random.Random(7)
+records = [Record(draw, kind) for kind in sys.argv[2:] for _ in range(int(sys.argv[1]))]
+draw.shuffle(records)
+print(header("4.01") + "".join(it.of("4.01", 1) for it in records), end="")
+END
+}
+as_rtcm() { "$navconvert" -q -f rinex -t rtcm -o - - < "$here/$1"; }
 in_here() { (cd "$here" && "$@"); }
 made small.frames "$here/frames" make 250000
 made small.starts "$here/frames" start 250000
@@ -68,6 +81,12 @@ made small.capture in_here capture ./captures
 made small.shuffled shuffled small.capture
 made small.partial "$here/captures" partial 10000
 made small.ubx in_here log
+seven=('G LNAV' 'E INAV' 'E FNAV' 'R FDMA' 'C D1' 'J LNAV' 'I LNAV')
+made small.two.rinex systems 1000 'G LNAV' 'E INAV'
+made small.seven.rinex systems 300 "${seven[@]}"
+made small.nine.rinex systems 200 "${seven[@]}" 'C D2' 'S SBAS'
+made small.two.rtcm as_rtcm small.two.rinex
+made small.seven.rtcm as_rtcm small.seven.rinex
 : > "$work/none"
 for it in rinex rinex3; do head -n 4 "$here/small.$it" > "$work/none.$it"; done
 head -n 1 "$here/small.capture" > "$work/none.capture"
@@ -172,6 +191,16 @@ all_jobs() {
   job 'navconvert, capture to rinex' line 20000 small.capture none.capture "heard rinex $head 2295" "${front[@]}" - "${week[@]}" -f capture -
   job 'navconvert, rinex to rinex' record "$(grep -c '^> EPH' "$here/small.rinex")" small.rinex none.rinex "files rinex rinex $head" \
     "${front[@]}" - -f rinex -
+  # GPS and Galileo alone, and with the other systems: seven messages in a stream, nine kinds of records in a file
+  local it
+  for it in two nine; do
+    job "navconvert, $it kinds, rinex to rinex" record "$(grep -c '^> EPH' "$here/small.$it.rinex")" "small.$it.rinex" none.rinex - \
+      "${front[@]}" - -f rinex -
+  done
+  for it in two seven; do
+    job "navconvert, $it kinds, stream to rinex" frame "$(grep -c '^> EPH' "$here/small.$it.rinex")" "small.$it.rtcm" none - \
+      "${front[@]}" - "${week[@]}" -f stream -
+  done
   if [ -z "$by" ] || [ "$by" = 'navconvert, a run over 55 kB' ]; then
     rm -f "$work/station.rnx"
     job 'navconvert, a run over 55 kB' run 1 small.capture - - "${front[@]}" "$work/station.rnx" "$work/station.navcap"
