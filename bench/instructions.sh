@@ -57,6 +57,40 @@ while at < len(data):
     sys.stdout.buffer.write(data[at:at + size])
     at += size'
 }
+# a navigation file of so many records of each of these kinds, with random numbers: those of checks/systems.py
+systems() {
+  python3 -B - "$@" << 'END'
+import random, sys
+sys.path.insert(0, "checks")
+from systems import Record, header
+draw = random.Random(7)
+records = [Record(draw, kind) for kind in sys.argv[2:] for _ in range(int(sys.argv[1]))]
+draw.shuffle(records)
+print(header("4.01") + "".join(it.of("4.01", 1) for it in records), end="")
+END
+}
+# frames of so many of each of these messages, with random fields by the tables of docs/FORMATS.md
+messages() {
+  python3 -B - "$@" << 'END'
+import random, re, sys
+sys.path.insert(0, "bench")
+from feeder import frame, pack
+draw = random.Random(7)
+limits = {"satellite": (1, 10), "toe": (0, 10079), "toc": (0, 10079), "sisa": (0, 125), "nt": (1, 1460)}
+rows = dict(re.findall(r"(?m)^[|] (10\d\d) [|] \d+ [|] (.*) [|]$", open("docs/FORMATS.md").read()))
+frames = []
+for number in sys.argv[2:]:
+    for _ in range(int(sys.argv[1])):
+        fields = []
+        for name, width, low, high in re.findall(r"(\w+) (\d+)[usm]?(?: \((\d+) to (\d+)\))?", rows[number]):
+            least, most = limits.get(name, (int(low or 0), int(high or 2 ** int(width) - 1)))
+            fields.append((int(number) if name == "number" else draw.randint(least, most), int(width)))
+        value, bits = pack(fields)
+        frames.append(frame((value << -bits % 8).to_bytes((bits + 7) // 8, "big")))
+draw.shuffle(frames)
+sys.stdout.buffer.write(b"".join(frames))
+END
+}
 in_here() { (cd "$here" && "$@"); }
 made small.frames "$here/frames" make 250000
 made small.starts "$here/frames" start 250000
@@ -68,6 +102,10 @@ made small.capture in_here capture ./captures
 made small.shuffled shuffled small.capture
 made small.partial "$here/captures" partial 10000
 made small.ubx in_here log
+made small.two.rinex systems 1000 'G LNAV' 'E INAV'
+made small.nine.rinex systems 200 'G LNAV' 'E INAV' 'E FNAV' 'R FDMA' 'C D1' 'C D2' 'J LNAV' 'I LNAV' 'S SBAS'
+made small.two.rtcm messages 1000 1019 1046
+made small.seven.rtcm messages 300 1019 1020 1041 1042 1044 1045 1046
 : > "$work/none"
 for it in rinex rinex3; do head -n 4 "$here/small.$it" > "$work/none.$it"; done
 head -n 1 "$here/small.capture" > "$work/none.capture"
@@ -172,6 +210,16 @@ all_jobs() {
   job 'navconvert, capture to rinex' line 20000 small.capture none.capture "heard rinex $head 2295" "${front[@]}" - "${week[@]}" -f capture -
   job 'navconvert, rinex to rinex' record "$(grep -c '^> EPH' "$here/small.rinex")" small.rinex none.rinex "files rinex rinex $head" \
     "${front[@]}" - -f rinex -
+  # GPS and Galileo alone, and all systems
+  local it
+  for it in two nine; do
+    job "navconvert, rinex of $it kinds" record "$(grep -c '^> EPH' "$here/small.$it.rinex")" "small.$it.rinex" none.rinex - \
+      "${front[@]}" - -f rinex -
+  done
+  for it in two seven; do
+    n=$(./bench/build/streams frames < "$here/small.$it.rtcm" | wc -l)
+    job "navconvert, stream of $it kinds" frame "$n" "small.$it.rtcm" none - "${front[@]}" - "${week[@]}" -f stream -
+  done
   if [ -z "$by" ] || [ "$by" = 'navconvert, a run over 55 kB' ]; then
     rm -f "$work/station.rnx"
     job 'navconvert, a run over 55 kB' run 1 small.capture - - "${front[@]}" "$work/station.rnx" "$work/station.navcap"

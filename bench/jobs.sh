@@ -1,21 +1,23 @@
 #!/usr/bin/env bash
 # Measures the conversions: the built program compared with C programs for the same conversion of the same files.
 #
-#   bench/jobs.sh [MEGABYTES] [--program FILE] [--runs N]
+#   bench/jobs.sh [MEGABYTES] [--program FILE] [--navconvert FILE] [--runs N]
 #
-#   MEGABYTES       of each stream (50)
-#   --program FILE  navbridge (PROGRAM, or crates/navbridge/out/navbridge)
-#   --runs N        of each row, of which the least is printed (5)
+#   MEGABYTES          of each stream (50)
+#   --program FILE     navbridge (PROGRAM, or crates/navbridge/out/navbridge)
+#   --navconvert FILE  navconvert (NAVCONVERT, or crates/navconvert/out/navconvert)
+#   --runs N           of each row, of which the least is printed (5)
 #
 # Inputs are made in bench/build. First each conversion is run once into a file, and its bytes are compared with those of the C program, or
 # with what the maker of the input knows; then it is timed with the output to /dev/null, the least of the runs. Processor time (user and
 # system) depends less on other work than the clock; both are printed. "not built" means that the program does not have the conversion.
 set -eu
 . "$(dirname "$(readlink -f "$0")")/lib.sh"
-program='' runs=5
-options '--program: --runs: ..' "$@"
+program='' navconvert='' runs=5
+options '--program: --navconvert: --runs: ..' "$@"
 size=$((${arguments[0]:-50} * 1000000))
 built program navbridge
+built navconvert navconvert
 plain frames streams captures heard files spent
 date=(--date '20240101 000000 UTC' --leap 18)
 week=(--week 2295)
@@ -113,4 +115,7 @@ for window in 600 7200; do
   awk -v w="$window" -v one="${peaks[0]}" -v four="${peaks[1]}" -v ten="${peaks[2]}" 'BEGIN {
     printf "peak of ten hours, window %d s: %.2f times that of one, %.2f times that of four\n", w, ten / one, ten / four }'
 done
+one=../../examples/station.navcap
+awk '{ printf "navconvert, a file of 55 kB, start to end: %.1f ms, of the processor %.1f ms, %.1f MB\n", 1e3 * $1, 1e3 * $2, $3 / 1e3 }' \
+  <<< "$(spend "$one" "$navconvert" -q --overwrite "${date[@]}" -o "$here/one.rnx" "$here/$one")"
 echo "load $(cut -d' ' -f1-3 /proc/loadavg)"

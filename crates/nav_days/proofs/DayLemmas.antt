@@ -16,7 +16,7 @@ use Rattle.nav_days.specs.Days.{start, days_of, day_of_number, distance, nearer,
 use Rattle.nav_days.specs.Days.{IsNearestDay}
 use Rattle.nav_days.proofs.WeekLemmas.{both}
 
-start_low : (n : ℕ) → (b : Bool) → nat_lt n 28 ≡ b
+pub start_low : (n : ℕ) → (b : Bool) → nat_lt n 28 ≡ b
     → start n + 1 ≤ 4378 + 1461 * n + 1 × 4377 + 1461 * n ≤ start n
 start_low n true e = rw e (omega arith, omega arith)
 start_low n false e = rw e (omega arith, omega arith)
@@ -33,7 +33,7 @@ pub record IsDayOf (n nt d : ℕ) : Type 0 where
   pub few : nt ≤ days_of n
   pub is : d + 1 ≡ start n + nt
 
-some_same : {a b : ℕ} → Some a ≡ Some b → a ≡ b
+pub some_same : {a b : ℕ} → Some a ≡ Some b → a ≡ b
 some_same e = cc
 
 day_by : (n nt d : ℕ) (b : Bool) → (nat_le 1 nt && nat_le nt (days_of n)) ≡ b
@@ -117,7 +117,7 @@ step_nearer c nt k a b is less old = record {
   ];
 }
 
-later : (c nt k a b : ℕ) → day_of_number (suc k) nt ≡ Some b → IsNearestDay c nt k a → a < b
+pub later : (c nt k a b : ℕ) → day_of_number (suc k) nt ≡ Some b → IsNearestDay c nt k a → a < b
 later c nt k a b is old =
     let x = day_is old.period nt a old.has in
     let y = day_is (suc k) nt b is in

@@ -1,4 +1,5 @@
 pub mod WeekLemmas
 pub mod DayLemmas
+pub mod NearLemmas
 pub mod FrameLemmas
 pub mod Surface

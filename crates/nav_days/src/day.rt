@@ -47,29 +47,19 @@ fn nearer(center: u32, day: Option<u32>, other: Option<u32>) -> Option<u32>
     }
 }
 
-#[tactic(auto, unfolding(crate::specs::Days::nearest_to))]
-// The nearest day of the periods 1 to `periods`.
-fn nearest_of(center: u32, number: u32, periods: u32) -> Option<u32>
-    requires { periods ≤ 36 }
-    ensures { result ≡ nearest_to center number periods }
-{
-    if periods == 0 {
-        None
-    } else {
-        nearer(
-            center,
-            nearest_of(center, number, periods - 1),
-            day_of_number(periods, number),
-        )
-    }
-}
-
 /// The day of this number in its four years that is nearest to a day, the earlier of two; from
 /// 1996 to 2139.
 pub fn nearest_day(center: u32, number: u32) -> Option<u32>
     ensures { result ≡ nearest_to center number 36 }
 {
-    nearest_of(center, number, 36)
+    // It is in the center's period, the one before or the next.
+    let (period, _) = number_of_day(center.max(7_300).min(56_972));
+    let days = nearer(
+        center,
+        day_of_number(period - 1, number),
+        day_of_number(period, number),
+    );
+    nearer(center, days, day_of_number(period + 1, number))
 }
 
 /// The four years of a day from 1996 on, and its number in them.
