@@ -2,6 +2,7 @@
 
 use crate::dry::show_files;
 use crate::forms::file_kind;
+use crate::headers::headed;
 use crate::inputs::{Inputs, Staged};
 use crate::letters::Letter;
 use crate::long_names::convert_named;
@@ -137,6 +138,10 @@ fn convert<'a>(
     inputs: Inputs<'a>,
     known: &mut Known,
 ) -> u8 {
+    let settings = &Settings {
+        wanted: headed(settings, inputs.names),
+        ..*settings
+    };
     if settings.rejections.is_check && !settings.dry {
         return put_known(settings, first, inputs, Goal::Nowhere, first).0;
     }

@@ -1,0 +1,33 @@
+//! The leap seconds of the header of a navigation file.
+
+ghost use Rattle.std.specs.Prelude.{◌≡◌, ◌<◌, IfSome};
+ghost use Rattle.file_conversion.specs.Leaps.{leap_in, leap_of};
+
+// The number of one or two digits in columns 5 and 6.
+fn leap_in(tens: u8, ones: u8) -> Option<u8>
+    ensures is { result ≡ leap_in tens ones }
+    ensures range { IfSome result (λ leap. leap < 100) }
+{
+    match (tens, ones) {
+        (b' ', b'0'..=b'9') => Some(ones - b'0'),
+        (b'0'..=b'9', b'0'..=b'9') => Some(10 * (tens - b'0') + (ones - b'0')),
+        _ => None,
+    }
+}
+
+/// The leap seconds of GPS time that a line of a header has, in columns 1 to 6 (RINEX 2.11, 3.05
+/// and 4.01, header record LEAP SECONDS): one or two digits after blanks. A line of those of BeiDou
+/// time, by columns 25 to 27, has none.
+pub fn leap_of(line: &[u8]) -> Option<u8>
+    ensures is { result ≡ leap_of line.now }
+    ensures range { IfSome result (λ leap. leap < 100) }
+{
+    if line.len() < 72
+        || line[60..72] != *b"LEAP SECONDS"
+        || line[24..27] == *b"BDS"
+        || line[..4] != *b"    "
+    {
+        return None;
+    }
+    leap_in(line[4], line[5])
+}
