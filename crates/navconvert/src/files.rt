@@ -2,7 +2,7 @@
 
 use crate::dry::show_files;
 use crate::forms::file_kind;
-use crate::headers::headed;
+use crate::headers::{headed, read_ahead};
 use crate::inputs::{Inputs, Staged};
 use crate::letters::Letter;
 use crate::long_names::convert_named;
@@ -138,8 +138,16 @@ fn convert<'a>(
     inputs: Inputs<'a>,
     known: &mut Known,
 ) -> u8 {
+    let ahead = [read_ahead(settings, inputs.names)];
+    let inputs = match &ahead {
+        [None] => inputs,
+        ahead => Inputs {
+            staged: ahead,
+            ..inputs
+        },
+    };
     let settings = &Settings {
-        wanted: headed(settings, inputs.names),
+        wanted: headed(settings, inputs),
         ..*settings
     };
     if settings.rejections.is_check && !settings.dry {

@@ -1,30 +1,57 @@
 //! The leap seconds of the headers of navigation files, which the header that is written gets.
 
 use crate::files::Settings;
-use crate::inputs::{Input, Inputs, opened};
+use crate::inputs::{Input, Inputs, Staged, opened};
 use crate::records::is_labelled;
 use crate::taken::is_read_once;
 use crate::values::Wanted;
 use file_conversion::{Target, leap_of};
 use nav_io::{LineKind, Lines};
 use rinex_write::HeaderWords;
+use std::io::Read;
 use std::slice::from_ref;
+
+// So many bytes of standard input are read ahead.
+const ROOM: usize = 16_384;
 
 // So many lines of a header are looked at.
 const MOST: u32 = 100_000;
 
+// Whether the leap seconds of headers are asked for: a header is written, and none are named.
+fn is_asked(wanted: &Wanted) -> bool {
+    !wanted.is_leap_named
+        && matches!(
+            wanted.target,
+            Target::Rinex | Target::Rinex3 | Target::Merged | Target::Merged3
+        )
+}
+
+/// The first bytes of standard input, by one read, where its header is asked for.
+pub(crate) fn read_ahead(settings: &Settings, files: &[&str]) -> Staged {
+    match files {
+        ["-"] if is_asked(&settings.wanted) => {}
+        _ => return None,
+    }
+    let Ok(mut bytes) = vec![in settings.rt.alloc(); 0u8; ROOM] else {
+        return None;
+    };
+    match settings.rt.stdin().read(&mut bytes) {
+        Ok(count) => {
+            bytes.truncate(count);
+            Some(bytes)
+        }
+        Err(_) => None,
+    }
+}
+
 /// What is asked of files: if no leap seconds are named, with those of their headers, where these
 /// agree.
-pub(crate) fn headed(settings: &Settings, files: &[&str]) -> Wanted {
+pub(crate) fn headed(settings: &Settings, inputs: Inputs) -> Wanted {
     let wanted = settings.wanted;
-    let has_header = matches!(
-        wanted.target,
-        Target::Rinex | Target::Rinex3 | Target::Merged | Target::Merged3
-    );
-    if wanted.is_leap_named || !has_header {
+    if !is_asked(&wanted) {
         return wanted;
     }
-    match leap_of_files(settings, files) {
+    match leap_of_files(settings, inputs) {
         Some(leap) if leap < 100 => Wanted {
             header: HeaderWords {
                 date: wanted.header.date,
@@ -37,10 +64,10 @@ pub(crate) fn headed(settings: &Settings, files: &[&str]) -> Wanted {
 }
 
 // The leap seconds of each file that has some, if they are the same.
-fn leap_of_files(settings: &Settings, files: &[&str]) -> Option<u8> {
+fn leap_of_files(settings: &Settings, inputs: Inputs) -> Option<u8> {
     let mut all = None;
-    for file in files {
-        match (all, leap_of_file(settings, file)) {
+    for file in inputs.names {
+        match (all, leap_of_file(settings, file, inputs.staged)) {
             (_, None) => {}
             (None, leap) => all = leap,
             (Some(first), Some(leap)) => {
@@ -53,14 +80,20 @@ fn leap_of_files(settings: &Settings, files: &[&str]) -> Option<u8> {
     all
 }
 
-// The leap seconds of the first header of a file that can be read again.
-fn leap_of_file(settings: &Settings, file: &str) -> Option<u8> {
-    if file == "-" || is_read_once(settings.rt, file) {
-        return None;
-    }
-    let inputs = Inputs {
-        names: from_ref(&file),
-        staged: &[],
+// The leap seconds of the first header of a file that can be read again, or of the first bytes of
+// standard input.
+fn leap_of_file(settings: &Settings, file: &str, staged: &[Staged]) -> Option<u8> {
+    let inputs = match (file, staged) {
+        ("-", [Some(_), ..]) => Inputs {
+            names: &["first bytes"],
+            staged,
+        },
+        ("-", _) => return None,
+        _ if is_read_once(settings.rt, file) => return None,
+        _ => Inputs {
+            names: from_ref(&file),
+            staged: &[],
+        },
     };
     match opened(settings.rt, inputs) {
         Ok(input) => leap_of_header(input),

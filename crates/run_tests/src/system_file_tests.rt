@@ -353,7 +353,14 @@ fn ionosphere_parameters_and_carried_records_follow_ephemerides(
     let four = written(alloc, Version::Four)?;
     let last = [SAMPLES[0].title, SAMPLES[0].lines].concat(alloc)?;
     let given = [four.as_slice(), CARRIED, IONOSPHERES, &last, CARRIED].concat(alloc)?;
-    let wanted = [four.as_slice(), &last, CARRIED_TEXT, IONOSPHERES, CARRIED_TEXT].concat(alloc)?;
+    let wanted = [
+        four.as_slice(),
+        &last,
+        CARRIED_TEXT,
+        IONOSPHERES,
+        CARRIED_TEXT,
+    ]
+    .concat(alloc)?;
     let to = Target::Rinex(WORDS);
     assert!(rt; becomes(alloc, Version::Four, &to, &given, &wanted)?);
     assert!(rt; becomes(alloc, Version::Four, &to, &wanted, &wanted)?);

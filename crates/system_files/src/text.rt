@@ -9,7 +9,7 @@ ghost use Rattle.nav_rows.specs.Kinds.{IsKind};
 ghost use Rattle.nav_rows.specs.Rows.{value};
 ghost use Rattle.system_streams.specs.Streams.{row_text};
 ghost use Rattle.system_files.specs.Files.{carried_text, first_text, has_carried, has_text};
-ghost use Rattle.system_files.specs.Files.{is_ephemeris, is_late, last_text};
+ghost use Rattle.system_files.specs.Files.{is_ephemeris, is_late, is_rinex4, last_text};
 ghost use Rattle.system_files.specs.Mirrors.{HasFields, view_given};
 
 use crate::held::Held;
@@ -46,13 +46,27 @@ fn has_text(to: &Target, item: &NavItem) -> bool
     }
 }
 
+// Whether the output format is RINEX 4.
+fn is_rinex4(to: &Target) -> bool
+    ensures { result ≡ is_rinex4 to.now }
+{
+    match to {
+        Target::Rinex(_) => true,
+        Target::Rinex3(_) => false,
+        Target::Rtcm => false,
+        Target::ToList => false,
+        Target::Count => false,
+    }
+}
+
 // Whether an item of GPS LNAV and Galileo I/NAV is written after all ephemerides.
 fn is_late(to: &Target, item: &NavItem) -> bool
     ensures { result ≡ is_late to.now (inl item.now) }
 {
-    match to {
-        Target::Rinex(_) => !is_ephemeris(item),
-        _ => false,
+    match item {
+        NavItem::Gps(_) => false,
+        NavItem::Gal(_) => false,
+        NavItem::Ion(_) => is_rinex4(to),
     }
 }
 
