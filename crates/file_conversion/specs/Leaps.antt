@@ -1,14 +1,13 @@
 -- The leap seconds of the header of a navigation file.
-use Rattle.std.specs.Prelude.{ℕ, ◌+◌, ◌-◌, ◌*◌, ◌&&◌, ◌||◌, not, nat_le, Bool, if◌then◌else◌, bytes_eq, codes, List, length, take, drop, get_or, Option, None, Some}
-
--- a digit
-abbrev pub is_digit : ℕ → Bool
-is_digit c = nat_le 48 c && nat_le c 57
+use Rattle.std.specs.Prelude.{ℕ, ◌+◌, ◌-◌, ◌*◌, ◌&&◌, not, nat_eq, nat_le, Bool, if◌then◌else◌, bytes_eq, codes, List, length, take, drop, get_or, Option, None, Some}
+use Rattle.std.specs.Char.{is_ascii_digit}
 
 -- the number of one or two digits, of which the first may be blank
 abbrev pub leap_in : ℕ → ℕ → Option ℕ
-leap_in 32 ones = if is_digit ones then Some (ones - 48) else None
-leap_in tens ones = if is_digit tens && is_digit ones then Some (10 * (tens - 48) + (ones - 48)) else None
+leap_in tens ones =
+    if not (is_ascii_digit ones) then None
+    else if nat_eq tens 32 then Some (ones - 48)
+    else if is_ascii_digit tens then Some (10 * (tens - 48) + (ones - 48)) else None
 
 -- the line has leap seconds of GPS time: its label stands in columns 61 to 72, no `BDS` in columns 25 to 27, and columns 1 to 4 are blank
 abbrev pub has_leap : List ℕ → Bool

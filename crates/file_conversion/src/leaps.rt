@@ -8,10 +8,14 @@ fn leap_in(tens: u8, ones: u8) -> Option<u8>
     ensures is { result ≡ leap_in tens ones }
     ensures range { IfSome result (λ leap. leap < 100) }
 {
-    match (tens, ones) {
-        (b' ', b'0'..=b'9') => Some(ones - b'0'),
-        (b'0'..=b'9', b'0'..=b'9') => Some(10 * (tens - b'0') + (ones - b'0')),
-        _ => None,
+    if !ones.is_ascii_digit() {
+        None
+    } else if tens == b' ' {
+        Some(ones - b'0')
+    } else if tens.is_ascii_digit() {
+        Some(10 * (tens - b'0') + (ones - b'0'))
+    } else {
+        None
     }
 }
 
