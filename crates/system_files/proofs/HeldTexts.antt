@@ -3,11 +3,10 @@ use Rattle.std.proofs.Common.{◌≡◌, ℕ, Bool, true, false, not, if◌then�
 use Rattle.std.specs.Prelude.{filter}
 use Rattle.std.specs.List.{flat_map}
 use Rattle.std.proofs.lemmas.Grind.{flat_map-append}
-use Rattle.nav_eph.specs.declared.items.NavItem.TheVariants.{Gps, Gal, Ion}
 use Rattle.outlets.specs.Targets.{back_text, prefix_text}
 use Rattle.outlets.specs.declared.target.Target.{Target}
 use Rattle.system_streams.specs.Streams.{Numbered, text_of}
-use Rattle.system_files.specs.Files.{carried_in, carried_lines, counts_of, counts_text, early_items, first_text, held_by, held_text, is_last, is_late, is_rinex4, items_in, last_text, lasts_in, late_items, nav_items, numbered, read_text, reading_text, whole_by, whole_text}
+use Rattle.system_files.specs.Files.{carried_in, carried_lines, counts_of, counts_text, early_items, first_text, held_by, held_text, is_last, is_late, items_in, last_text, lasts_in, late_items, nav_items, numbered, read_text, reading_text, whole_by, whole_text}
 use Rattle.system_files.specs.Readings.{LineRead, Reading, refused, carried, passed}
 
 -- ---- what is written while records are read

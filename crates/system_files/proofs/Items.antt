@@ -17,7 +17,7 @@ use Rattle.rinex_read.specs.declared.judged.ItemRead.{ItemRead}
 use Rattle.rinex_read.specs.declared.judged.Judged.{Judged}
 use Rattle.rinex_read.specs.declared.judged.Judged.TheVariants.{Item, Refused, PassedOver}
 use Rattle.rinex_read.specs.declared.reason.Reason.{Reason}
-use Rattle.system_streams.specs.Streams.{Numbered, navs, text_of}
+use Rattle.system_streams.specs.Streams.{navs, text_of}
 use Rattle.system_streams.specs.declared.kinds.Kinds.{Kinds}
 use Rattle.system_files.specs.Files.{file_items, form_of, items_in, nav_form, nav_items}
 use Rattle.system_files.specs.Readings.{LineRead, Reading, refused, kind_reading, nav_judged, reading_by, reading_in, row_in, row_reading}

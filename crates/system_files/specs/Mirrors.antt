@@ -1,5 +1,5 @@
 -- A record while it is read and counted. Private functions cite these.
-use Rattle.std.specs.Prelude.{◌≡◌, ℕ, ◌+◌, ◌≤◌, ◌++◌, Bool, if◌then◌else◌, List, length, Ok, Err}
+use Rattle.std.specs.Prelude.{◌≡◌, ◌+◌, ◌≤◌, Bool, if◌then◌else◌, length, Ok, Err}
 use Rattle.std.proofs.Common.{inl, inr}
 use Rattle.rinex_write.specs.Columns.{AreFields}
 use Rattle.nav_rows.specs.Kinds.{IsKind}
