@@ -169,7 +169,7 @@ fn convert<'a>(
 // Makes the output on standard output, or shows the command for it; the status.
 fn convert_unnamed<'a>(settings: &Settings<'a>, first: &'a str, inputs: Inputs<'a>) -> u8 {
     if settings.dry {
-        return show_files(settings, first, inputs.names, None);
+        return show_files(settings, first, inputs, None);
     }
     put_known(settings, first, inputs, Goal::Standard, STANDARD_OUTPUT).0
 }
@@ -209,7 +209,7 @@ fn put_free<'a>(
         return tell_taken(settings, first, &refusal);
     }
     if settings.dry {
-        return show_files(settings, first, inputs.names, Some(name));
+        return show_files(settings, first, inputs, Some(name));
     }
     let (status, made) = put_known(settings, first, inputs, Goal::File, name);
     if made.is_some() && known.add(settings.rt, name).is_err() {

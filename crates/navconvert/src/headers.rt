@@ -10,6 +10,7 @@ use nav_io::{LineKind, Lines};
 use rinex_write::HeaderWords;
 use std::io::Read;
 use std::slice::from_ref;
+use whole_file::Kind;
 
 // So many bytes of standard input are read ahead.
 const ROOM: usize = 16_384;
@@ -26,10 +27,11 @@ fn is_asked(wanted: &Wanted) -> bool {
         )
 }
 
-/// The first bytes of standard input, by one read, where its header is asked for.
+/// The first bytes of standard input, by one read, where it may have a header that is asked for.
 pub(crate) fn read_ahead(settings: &Settings, files: &[&str]) -> Staged {
-    match files {
-        ["-"] if is_asked(&settings.wanted) => {}
+    match (files, settings.wanted.form) {
+        (["-"], None | Some(Kind::Rinex4 | Kind::Rinex3 | Kind::Rinex2))
+            if is_asked(&settings.wanted) => {}
         _ => return None,
     }
     let Ok(mut bytes) = vec![in settings.rt.alloc(); 0u8; ROOM] else {
