@@ -16,9 +16,9 @@ ghost use Rattle.system_files.specs.Readings.{LineRead};
 ghost use Rattle.system_files.specs.declared.version.Version.{Version};
 
 /// Of any bytes, the items that [`nav_files::run_rinex`] and [`nav_files::run_rinex3`] write are
-/// those of GPS and Galileo I/NAV among the ones that [`crate::run_system_file`] writes, in the
-/// same order, each with the same number of its line and the same text; so are the ephemerides, and
-/// so are the ionosphere parameters, which follow all ephemerides in RINEX 4.
+/// those of GPS and Galileo I/NAV that [`crate::run_system_file`] reads, in the same order, each
+/// with the same number of its line and the same text. It writes them in that order, in RINEX 4
+/// first the ephemerides, and then the ionosphere parameters.
 pub fn a_file_has_the_same_items_of_gps_and_galileo()
     ensures items { (ks : Kinds) (v : Version) (bytes : List ℕ)
         → navs (file_items ks v bytes) ≡ list_by (nav_form v) bytes }
@@ -32,9 +32,9 @@ pub fn a_file_has_the_same_items_of_gps_and_galileo()
         → late_items to is ≡ late_items to (nav_items is) }
 {}
 
-/// What a run writes of a file is the leading text, the text of the ephemerides in the order of
-/// the records, that of the records of ionosphere parameters and the carried ones in the order of
-/// the records, and the text of the counts.
+/// What a run writes of a file is the leading text, the text of the items, that of the carried
+/// records, both in the order of the records, and the text of the counts; in RINEX 4 the ionosphere
+/// parameters stand among the carried records, in the order of the records.
 pub fn what_is_written_of_a_file_is_the_text_of_its_items()
     ensures text { (to : Target) (reads : List LineRead) → whole_by to reads
         ≡ (prefix_text to ++ flat_map (text_of to) (early_items to (items_in reads)))
