@@ -34,7 +34,7 @@ pub fn a_file_has_the_same_items_of_gps_and_galileo()
 
 /// What a run writes of a file is the leading text, the text of the items, that of the carried
 /// records, both in the order of the records, and the text of the counts; in RINEX 4 the ionosphere
-/// parameters stand among the carried records, in the order of the records.
+/// parameters are among the carried records, in the order of the records.
 pub fn what_is_written_of_a_file_is_the_text_of_its_items()
     ensures text { (to : Target) (reads : List LineRead) → whole_by to reads
         ≡ (prefix_text to ++ flat_map (text_of to) (early_items to (items_in reads)))
