@@ -68,6 +68,11 @@ run "version 3" 0 "v.rnx: 4 ephemerides; nothing rejected, nothing skipped" "${d
 is_same "version 3" <(bridged_part v.rnx) "$examples/version3.rnx"
 input=station.navcap run "standard input" 0 "-: 2 ephemerides, 2 ionosphere records" "${date[@]}" -
 is_same "standard input" out "$examples/station.rnx"
+sed 's/^    18 /    17 /' station.rnx > leap.rnx
+input=leap.rnx run "leap seconds of standard input" 0 "-: 2 ephemerides, 2 ionosphere records" "${date[@]}" -
+grep -q '^    17  .* LEAP SECONDS$' out || differs "leap seconds of standard input" "$(sed -n 3p out)"
+input=leap.rnx run "leap seconds in a command" 0 - -n "${date[@]}" -
+grep -qF -- "'--leap=17'" out || differs "leap seconds in a command" "$(cat out)"
 run "into a folder, in quiet" 0 - -q -t rtcm -o out.d station.navcap
 is_same "into a folder" out.d/station.rtcm3 "$examples/ephemerides.rtcm3"
 run "a long name" 0 "STAT00CCC_R_20233650200_01H_MN.rnx: 2 ephemerides, 2 ionosphere records" "${date[@]}" --long-name STAT00CCC -o out.d station.navcap

@@ -391,6 +391,34 @@ def merge(check, draw, count):
         check.same(f"{target} once more", body(check.converted(target, header(version) + wanted, target)), wanted)
 
 
+LOST = ("IONOSPHERIC CORR", "TIME SYSTEM CORR", "ION ALPHA", "ION BETA", "DELTA-UTC: A0,A1,T,W", "CORR TO SYSTEM TIME", "D-UTC A0,A1,T,W,S,U")
+
+
+def headers(check, draw):
+    """The leap seconds on which the headers of files agree, and the header lines that are not converted."""
+    for count in (1, 1, 1, 2, 2, 2, 3, 3):
+        leaps, lost, paths = set(), 0, []
+        for at in range(count):
+            lines = draw.choices(LOST, k=draw.randrange(4))
+            lost += len(lines)
+            lines = [f"{'':60}{it}" for it in lines]
+            if draw.randrange(3):
+                leap = draw.choice((9, 17))
+                leaps.add(leap)
+                lines.insert(draw.randrange(len(lines) + 1), f"{leap:6}{'':54}LEAP SECONDS")
+            first, last = header(draw.choice(VERSIONS)).splitlines()
+            paths.append(os.path.join(check.folder, f"headers{at}.rnx"))
+            with open(paths[-1], "w", encoding="ascii") as file:
+                file.write("\n".join((first, *lines, last)) + "\n")
+        run = subprocess.run([check.program, "-t", "rinex" if count == 1 else "merged", "-o", "-", *paths],
+                             capture_output=True, text=True, check=False, stdin=subprocess.DEVNULL)
+        leap = leaps.pop() if len(leaps) == 1 else 18
+        got = "".join(it for it in run.stdout.splitlines(True) if "LEAP" in it)
+        check.same(f"leap seconds of {count} headers", got, f"{leap:6}{'':54}LEAP SECONDS\n")
+        said = f"{lost} header line{'s' * (lost != 1)} of ionosphere and time not converted" if lost else "nothing skipped"
+        check.same(f"what is said of {count} headers", run.stderr.strip().rpartition("; ")[2].rpartition(", ")[2], said)
+
+
 CARRIED = ("EPH G CNAV 9", "EPH C CNV1 10", "EPH J CNV2 10", "EPH R L1OC 9", "STO G LNAV 2", "STO E IFNV 2", "EOP J CNVX 3", "ION C D1D2 3", "ION J LNAV 3")
 
 
@@ -527,6 +555,7 @@ def main():
                 for target, to in (("rinex", "4.01"), ("rinex3", "3.05")):
                     wanted = "".join(it.of(to, 1) for it in records)
                     check.same(f"RINEX {version} of {system} to {to}", body(check.converted(f"RINEX {version}", data, target)), wanted)
+        headers(check, draw)
         if options.files:
             merge(check, draw, options.records)
         return check.ended()

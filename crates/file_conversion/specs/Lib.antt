@@ -12,3 +12,4 @@ pub mod KindTexts
 pub mod Says
 pub mod Causes
 pub mod Counted
+pub mod Leaps

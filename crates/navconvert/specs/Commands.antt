@@ -53,7 +53,7 @@ option_rules forms targets =
     ∷ option_rule (codes "to") (Some 116) (parsers.Names targets) (codes "rinex" ∷ [])
     ∷ option_rule (codes "output") (Some 111) parsers.String []
     ∷ option_rule (codes "week") None (parsers.Signed (pos 1024) (pos 8191)) []
-    ∷ option_rule (codes "leap") None (parsers.Signed (pos 0) (pos 99)) (codes "18" ∷ [])
+    ∷ option_rule (codes "leap") None (parsers.Signed (pos 0) (pos 99)) []
     ∷ option_rule (codes "date") None parsers.String []
     ∷ option_rule (codes "long-name") None parsers.String []
     ∷ option_rule (codes "report") None parsers.String []

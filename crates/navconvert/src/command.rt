@@ -169,9 +169,8 @@ static OPTIONS: [Row; 15] = [
     Row {
         name: "leap",
         parser: ValueParser::Signed(0, 99),
-        defaults: &["18"],
         values: &["SECONDS"],
-        help: "The leap seconds of a header",
+        help: "The leap seconds of a header; by default those of the files, or 18",
         ..OPTION
     },
     Row {

@@ -18,18 +18,15 @@ use whole_file::Kind;
 pub(crate) fn show_files(
     settings: &Settings,
     first: &str,
-    files: &[&str],
+    inputs: Inputs,
     name: Option<&str>,
 ) -> u8 {
+    let files = inputs.names;
     for file in files {
         if settings.wanted.target.takes_several() && older_kind(settings, file).is_some() {
             return show_own(settings, files, name);
         }
     }
-    let inputs = Inputs {
-        names: files,
-        staged: &[],
-    };
     match input_kind(settings, settings.wanted.form, opened(settings.rt, inputs)) {
         Ok(kind) => show_kind(settings, first, files, name, kind),
         Err(refusal) => tell_file(settings, first, &refusal),

@@ -2,6 +2,7 @@
 
 use crate::dry::show_files;
 use crate::forms::file_kind;
+use crate::headers::{headed, read_ahead};
 use crate::inputs::{Inputs, Staged};
 use crate::letters::Letter;
 use crate::long_names::convert_named;
@@ -137,6 +138,18 @@ fn convert<'a>(
     inputs: Inputs<'a>,
     known: &mut Known,
 ) -> u8 {
+    let ahead = [read_ahead(settings, inputs.names)];
+    let inputs = match &ahead {
+        [None] => inputs,
+        ahead => Inputs {
+            staged: ahead,
+            ..inputs
+        },
+    };
+    let settings = &Settings {
+        wanted: headed(settings, inputs),
+        ..*settings
+    };
     if settings.rejections.is_check && !settings.dry {
         return put_known(settings, first, inputs, Goal::Nowhere, first).0;
     }
@@ -156,7 +169,7 @@ fn convert<'a>(
 // Makes the output on standard output, or shows the command for it; the status.
 fn convert_unnamed<'a>(settings: &Settings<'a>, first: &'a str, inputs: Inputs<'a>) -> u8 {
     if settings.dry {
-        return show_files(settings, first, inputs.names, None);
+        return show_files(settings, first, inputs, None);
     }
     put_known(settings, first, inputs, Goal::Standard, STANDARD_OUTPUT).0
 }
@@ -196,7 +209,7 @@ fn put_free<'a>(
         return tell_taken(settings, first, &refusal);
     }
     if settings.dry {
-        return show_files(settings, first, inputs.names, Some(name));
+        return show_files(settings, first, inputs, Some(name));
     }
     let (status, made) = put_known(settings, first, inputs, Goal::File, name);
     if made.is_some() && known.add(settings.rt, name).is_err() {

@@ -15,13 +15,14 @@ pub(crate) type Input<'a> = ReadSource<Bytes<'a>>;
 /// The bytes of standard input, or of files.
 #[derive(Drop)]
 pub(crate) enum Bytes<'a> {
-    /// Of standard input.
-    Standard(Stdin),
+    /// Of standard input, after those that were read of it before.
+    Standard(&'a [u8], Stdin),
     /// Of files, concatenated.
     Files(Files<'a>),
 }
 
-/// The bytes that replace a file, if it was converted before.
+/// The bytes that replace a file, if it was converted before; of standard input the first bytes, if
+/// they were read before.
 pub(crate) type Staged = Option<Vec<u8>>;
 
 /// Files that are read as one: their names, and the bytes that replace them, if there are any.
@@ -106,7 +107,13 @@ impl Read for Bytes<'_> {
     /// One `read` of standard input, or of the first file that has bytes left.
     fn read(&mut self, buf: &mut [u8]) -> io::Result<usize> {
         match self {
-            Bytes::Standard(input) => input.read(buf),
+            Bytes::Standard(ahead, input) => {
+                if ahead.is_empty() {
+                    input.read(buf)
+                } else {
+                    ahead.read(buf)
+                }
+            }
             Bytes::Files(files) => files.read_some(buf),
         }
     }
@@ -118,7 +125,11 @@ pub(crate) fn opened<'a>(rt: &'a HostRuntime, inputs: Inputs<'a>) -> Result<Inpu
 {
     if let [file] = inputs.names {
         if *file == "-" {
-            return Ok(ReadSource::new(Bytes::Standard(rt.stdin())));
+            let ahead: &[u8] = match inputs.staged {
+                [Some(bytes), ..] => bytes.as_slice(),
+                _ => &[],
+            };
+            return Ok(ReadSource::new(Bytes::Standard(ahead, rt.stdin())));
         }
     }
     match inputs.open(rt, 0) {

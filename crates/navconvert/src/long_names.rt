@@ -36,7 +36,7 @@ pub(crate) fn convert_named<'a>(
         return status;
     };
     if settings.dry {
-        return show_files(settings, first, inputs.names, Some(name.as_str()));
+        return show_files(settings, first, inputs, Some(name.as_str()));
     }
     if known.add(settings.rt, name.as_str()).is_err() {
         return tell_file(settings, first, &Refusal::NoMemory);

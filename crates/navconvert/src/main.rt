@@ -14,6 +14,7 @@ mod diff;
 mod dry;
 mod files;
 mod forms;
+mod headers;
 mod inputs;
 mod json;
 mod letters;

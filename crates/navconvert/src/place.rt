@@ -95,6 +95,8 @@ pub(crate) struct Seen {
     pub skips: Skips,
     /// The records that were made.
     pub made: Made,
+    /// The header lines of ionosphere and time.
+    pub header_lines: u64,
 }
 
 /// The files of the system, of which some are read as one, and where their output goes.
@@ -143,6 +145,7 @@ impl<'a> Place<'a> {
         Seen {
             skips,
             made: self.made,
+            header_lines: self.watch.header_lines(),
         }
     }
 

@@ -24,6 +24,8 @@ pub(crate) struct Records {
     pub skips: Skips,
     /// The first line of another version or type.
     pub other: Option<u64>,
+    /// The header lines of ionosphere and time.
+    pub header_lines: u64,
 }
 
 impl Records {
@@ -38,6 +40,7 @@ impl Records {
             is_galileo: false,
             skips: Skips::new(),
             other: None,
+            header_lines: 0,
         }
     }
 
@@ -82,10 +85,21 @@ impl Records {
             self.see_version(line);
         } else if self.in_header {
             self.in_header = !is_labelled(line, b"END OF HEADER");
+            self.see_header(line);
         } else if self.version == b'4' {
             self.see_line4(line);
         } else if self.version == b'3' {
             self.see_line3(line);
+        }
+    }
+
+    // Sees a line of a header.
+    fn see_header(&mut self, line: &[u8]) {
+        for label in &DROPPED {
+            if is_labelled(line, label) {
+                self.header_lines = self.header_lines.saturating_add(1);
+                return;
+            }
         }
     }
 
@@ -148,8 +162,19 @@ impl Records {
     }
 }
 
-// Whether a line has this label in columns 61 to 80.
-fn is_labelled(line: &[u8], label: &[u8]) -> bool {
+// The labels of header lines of ionosphere and time: of RINEX 3 and 4, and of RINEX 2.
+static DROPPED: [&[u8]; 7] = [
+    b"IONOSPHERIC CORR",
+    b"TIME SYSTEM CORR",
+    b"ION ALPHA",
+    b"ION BETA",
+    b"DELTA-UTC",
+    b"CORR TO SYSTEM TIME",
+    b"D-UTC",
+];
+
+/// Whether a line has this label in columns 61 to 80.
+pub(crate) fn is_labelled(line: &[u8], label: &[u8]) -> bool {
     match line.get(60..) {
         Some(rest) => rest.starts_with(label),
         None => false,

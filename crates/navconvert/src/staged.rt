@@ -27,6 +27,8 @@ pub(crate) struct Before {
     pub passed: u64,
     /// Those of other systems.
     pub skips: Skips,
+    /// The header lines of ionosphere and time.
+    pub header_lines: u64,
 }
 
 impl Before {
@@ -36,6 +38,7 @@ impl Before {
             rejected: 0,
             passed: 0,
             skips: Skips::new(),
+            header_lines: 0,
         }
     }
 
@@ -45,6 +48,7 @@ impl Before {
         self.rejected = self.rejected.saturating_add(counted.amiss[0]);
         self.passed = self.passed.saturating_add(counted.skipped);
         self.skips.join(&seen.skips);
+        self.header_lines = self.header_lines.saturating_add(seen.header_lines);
     }
 }
 

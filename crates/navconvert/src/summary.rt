@@ -147,6 +147,7 @@ impl fmt::Display for Summary<'_, '_> {
                 f.write_str(", nothing skipped")?;
             }
         }
+        write_some(f, false, self.header_lines(), HEADER_LINES)?;
         match self.clock_week() {
             None => Ok(()),
             Some(week) => {
@@ -198,6 +199,12 @@ impl Summary<'_, '_> {
             skips = Skips::new();
         }
         (all, skips)
+    }
+
+    // The header lines of ionosphere and time.
+    fn header_lines(&self) -> u64 {
+        let before = self.settings.before.header_lines;
+        self.seen.header_lines.saturating_add(before)
     }
 
     // The week of the clock, if the file was read by it: its task has a week, and none is named.
@@ -309,11 +316,12 @@ impl Summary<'_, '_> {
             write_member(f, before, SYSTEMS[system], Some(skips.of(system)))?;
             before = ",";
         }
+        write_member(f, "},", "header_lines", Some(self.header_lines()))?;
         let week = match self.clock_week() {
             None => None,
             Some(week) => Some(u64::from(week)),
         };
-        write_member(f, "},", "clock_week", week)
+        write_member(f, ",", "clock_week", week)
     }
 }
 
@@ -322,6 +330,9 @@ const ITEMS: (&str, &str) = (
     "ephemeris or ionosphere record",
     "ephemerides and ionosphere records",
 );
+
+// What is said of header lines that are not converted.
+const HEADER_LINES: (&str, &str) = ("header line", " of ionosphere and time not converted");
 
 // What is amiss: its key, its unit, and what is said of so many; the first is of the format's unit.
 const KINDS: usize = 8;

@@ -24,6 +24,8 @@ pub(crate) struct Wanted {
     pub clock_week: RefWeek,
     /// The date and the leap seconds of a header.
     pub header: HeaderWords,
+    /// Whether these leap seconds are named.
+    pub is_leap_named: bool,
 }
 
 impl Wanted {
@@ -66,6 +68,7 @@ pub(crate) fn wanted_of<'a>(rt: &HostRuntime, asked: &Asked<'a>) -> Result<Wante
             week,
             clock_week,
             header: HeaderWords { date, leap },
+            is_leap_named: asked.value("leap").is_some(),
         }),
     }
 }

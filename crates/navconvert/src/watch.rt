@@ -98,6 +98,14 @@ impl Watch {
         }
     }
 
+    /// The lines of a navigation file's headers that are of ionosphere and time.
+    pub(crate) fn header_lines(&self) -> u64 {
+        match &self.records {
+            None => 0,
+            Some(records) => records.header_lines,
+        }
+    }
+
     /// Where a navigation file has records of another version or type.
     pub(crate) fn other(&self) -> Option<Refusal<'static>> {
         match &self.records {

@@ -185,6 +185,16 @@ const CARRIED_TEXT: &[u8] = b"\
     \x20    1.500000000000D+01 0.000000000000D+00 0.000000000000D+00 2.000000000000D+01\n\
     \x20    1.728090000000D+05                                       2.000000000000D+01\n";
 
+// Ionosphere parameters of GPS and Galileo, from an independent writer.
+const IONOSPHERES: &[u8] = b"\
+    > ION G14 LNAV\n\
+    \x20   2024 01 02 02 00 00 1.396983861923D-08 2.235174179077D-08-5.960464477539D-08\n\
+    \x20   -1.192092895508D-07 1.105920000000D+05 1.474560000000D+05-1.310720000000D+05\n\
+    \x20   -3.932160000000D+05 0.000000000000D+00\n\
+    > ION E02 IFNV\n\
+    \x20   2024 01 02 02 00 00 7.075000000000D+01 1.718750000000D-01 3.997802734375D-03\n\
+    \x20    0.000000000000D+00\n";
+
 // One of 12 lines, and one of 13.
 const LONG: &[u8] = b"> EPH R04 L1OC\n\n\n\n\n\n\n\n\n\n\n\n";
 
@@ -332,6 +342,28 @@ fn records_of_other_kinds_are_carried(rt: HostRuntime) -> Result<(), Fail> {
     assert!(rt; becomes(alloc, Version::Four, &to, &wanted, &wanted)?);
     let list = Target::ToList;
     assert!(rt; becomes(alloc, Version::Four, &list, &given, b"")?);
+    Ok(())
+}
+
+#[test]
+fn ionosphere_parameters_and_carried_records_follow_ephemerides(
+    rt: HostRuntime,
+) -> Result<(), Fail> {
+    let alloc = rt.alloc();
+    let four = written(alloc, Version::Four)?;
+    let last = [SAMPLES[0].title, SAMPLES[0].lines].concat(alloc)?;
+    let given = [four.as_slice(), CARRIED, IONOSPHERES, &last, CARRIED].concat(alloc)?;
+    let wanted = [
+        four.as_slice(),
+        &last,
+        CARRIED_TEXT,
+        IONOSPHERES,
+        CARRIED_TEXT,
+    ]
+    .concat(alloc)?;
+    let to = Target::Rinex(WORDS);
+    assert!(rt; becomes(alloc, Version::Four, &to, &given, &wanted)?);
+    assert!(rt; becomes(alloc, Version::Four, &to, &wanted, &wanted)?);
     Ok(())
 }
 

@@ -1,8 +1,7 @@
 -- The carried records of a merged file: each that was read once, in order.
-use Rattle.std.proofs.Common.{◌≡◌, ℕ, List, [], ◌∷◌, ◌++◌, ◌↔◌, Contains, map, sym, ap, subst, ◌∙◌, Ok, Err, append-nil, append_assoc}
-use Rattle.std.specs.Prelude.{Result, Option, OnOk}
+use Rattle.std.proofs.Common.{◌≡◌, ℕ, List, [], ◌∷◌, ◌++◌, ◌↔◌, Contains, map, sym, ap, subst, ◌∙◌, append-nil}
+use Rattle.std.specs.Prelude.{Result, OnOk}
 use Rattle.std.specs.List.Sorted.{IsStrictlySortedBy}
-use Rattle.std.specs.Ordering.{ordering_then}
 use Rattle.std.specs.declared.cmp.Ordering.TheVariants.{Equal}
 use Rattle.std.proofs.lemmas.List.{map-append}
 use Rattle.std.proofs.lemmas.Map.Lookups.{exact_bytes}

@@ -17,9 +17,9 @@ use Rattle.rinex_read.specs.declared.judged.ItemRead.{ItemRead}
 use Rattle.rinex_read.specs.declared.judged.Judged.{Judged}
 use Rattle.rinex_read.specs.declared.judged.Judged.TheVariants.{Item, Refused, PassedOver}
 use Rattle.rinex_read.specs.declared.reason.Reason.{Reason}
-use Rattle.system_streams.specs.Streams.{Numbered, navs, text_of}
+use Rattle.system_streams.specs.Streams.{navs, text_of}
 use Rattle.system_streams.specs.declared.kinds.Kinds.{Kinds}
-use Rattle.system_files.specs.Files.{file_items, form_of, items_in, nav_form, nav_items, numbered, read_text, reading_text}
+use Rattle.system_files.specs.Files.{file_items, form_of, items_in, nav_form, nav_items}
 use Rattle.system_files.specs.Readings.{LineRead, Reading, refused, kind_reading, nav_judged, reading_by, reading_in, row_in, row_reading}
 use Rattle.system_files.specs.declared.version.Version.{Version}
 use Rattle.system_files.specs.declared.version.Version.TheVariants.{Four, Three}
@@ -125,15 +125,6 @@ pub file_navs : (ks : Kinds) (v : Version) (bytes : List ℕ) → navs (file_ite
 file_navs ks v bytes = bytes_same navs_follow ks v bytes ∙ in_records (file_reads (nav_form v) bytes)
 
 -- ---- the texts
-
--- the text of a record is that of its item, if it has one
-item_texts : (to : Target) (line : ℕ) (x : Reading) (rest : List Numbered) → reading_text to line x ++ flat_map (text_of to) rest ≡ flat_map (text_of to) (numbered line x ++ rest)
-item_texts to line (Ok item) rest = refl
-item_texts to line (Err fault) rest = refl
-
-pub texts_are : (to : Target) (reads : List LineRead) → flat_map (read_text to) reads ≡ flat_map (text_of to) (items_in reads)
-texts_are to [] = refl
-texts_are to (r ∷ rs) = ap (λ (l : List ℕ). read_text to r ++ l) (texts_are to rs) ∙ item_texts to r.line r.reading (items_in rs)
 
 other_texts : (to : Target) (n : ℕ) (x : Reading) (all : List LineRead) → ((item : NavItem) → x ≡ Ok (inl item) → ⊥)
     → flat_map (text_of to) (nav_items (items_in (record { line = n; reading = x } ∷ all))) ≡ flat_map (text_of to) (nav_items (items_in all))

@@ -1,5 +1,6 @@
 pub mod Records
 pub mod CarriedTexts
+pub mod HeldTexts
 pub mod Items
 pub mod KeptLines
 pub mod RowOrder

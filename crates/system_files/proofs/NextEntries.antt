@@ -1,5 +1,5 @@
 -- Which comes next of items, rows and carried records.
-use Rattle.std.proofs.Common.{◌≡◌, Bool, true, false, List, [], ◌∷◌, map, refl, sym, ap, subst, ◌∙◌, inl, inr}
+use Rattle.std.proofs.Common.{◌≡◌, Bool, true, false, List, [], ◌∷◌, sym, ap, subst, ◌∙◌, inl, inr}
 use Rattle.std.specs.Prelude.{Option, None, Some}
 use Rattle.std.specs.Borrow.{Bor}
 use Rattle.std.specs.Iterator.{YieldsFirstRef}
@@ -7,7 +7,7 @@ use Rattle.nav_eph.specs.declared.items.NavItem.{NavItem}
 use Rattle.nav_rows.specs.Order.{KindRow}
 use Rattle.system_files.specs.CarriedOrder.{CarriedRecord}
 use Rattle.system_files.specs.MergeMirrors.{IsNext, IsNextItem, held}
-use Rattle.system_files.specs.Merging.{Entry, all_entries, interleaved, is_before, is_carried_before}
+use Rattle.system_files.specs.Merging.{all_entries, interleaved, is_carried_before}
 use Rattle.system_files.specs.declared.next.Next.{Next}
 use Rattle.system_files.specs.declared.next.Next.TheVariants.{Nav, Further, Carried}
 use Rattle.system_files.proofs.Merges.{first_first, held_is, second_first}

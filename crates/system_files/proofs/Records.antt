@@ -1,20 +1,20 @@
 -- What a record more adds to what is written, reported and counted.
-use Rattle.std.proofs.Common.{◌≡◌, ℕ, ◌+◌, Bool, if◌then◌else◌, List, [], ◌∷◌, ◌++◌, length, map, sum, refl, sym, ap, ◌∙◌, arith, length-append}
+use Rattle.std.proofs.Common.{◌≡◌, ℕ, ◌+◌, Bool, if◌then◌else◌, List, [], ◌∷◌, ◌++◌, map, sum, refl, sym, ap, ◌∙◌, arith, length-append}
 use Rattle.std.specs.Prelude.{Option, None}
 use Rattle.std.specs.List.{sum_by}
 use Rattle.std.proofs.lemmas.List.{map-append}
 use Rattle.std.proofs.lemmas.List.Sums.{sum-map, sum_by-append}
 use Rattle.outlets.specs.declared.target.Target.{Target}
 use Rattle.outlets.specs.declared.times.Times.{Times}
-use Rattle.system_files.specs.Files.{counts_by, counts_of, is_unwritten, reading_text, times_after, times_over}
+use Rattle.system_files.specs.Files.{counts_by, counts_of, is_unwritten, first_text, times_after, times_over}
 use Rattle.system_files.specs.Mirrors.{counted}
 use Rattle.system_files.specs.Readings.{LineRead, Reading, is_carried, is_item, is_passed, is_refused, reading_report, readings}
 use Rattle.system_files.specs.declared.counts.SystemCounts.{SystemCounts}
 
 -- ---- of equal lines and readings
 
-pub same_text : (to : Target) (l m : ℕ) (x y : Reading) → l ≡ m → x ≡ y → reading_text to l x ≡ reading_text to m y
-same_text to l m x y e f = ap (λ n. reading_text to n x) e ∙ ap (reading_text to m) f
+pub same_text : (to : Target) (l m : ℕ) (x y : Reading) → l ≡ m → x ≡ y → first_text to l x ≡ first_text to m y
+same_text to l m x y e f = ap (λ n. first_text to n x) e ∙ ap (first_text to m) f
 
 pub same_report : (l m : ℕ) (x y : Reading) → l ≡ m → x ≡ y → reading_report l x ≡ reading_report m y
 same_report l m x y e f = ap (λ n. reading_report n x) e ∙ ap (reading_report m) f

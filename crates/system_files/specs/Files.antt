@@ -1,6 +1,6 @@
 -- What a run over a navigation file of all systems writes and counts.
-use Rattle.std.specs.Prelude.{ℕ, not, Bool, true, false, List, [], ◌∷◌, ◌++◌, codes, length, map, sum, if◌then◌else◌, Option, None, Ok, Err}
-use Rattle.std.proofs.Common.{inl, inr, ◌⊎◌}
+use Rattle.std.specs.Prelude.{ℕ, not, Bool, true, false, List, [], ◌∷◌, ◌++◌, codes, length, filter, map, sum, if◌then◌else◌, Option, None, Ok, Err}
+use Rattle.std.proofs.Common.{inl, inr}
 use Rattle.carried_records.specs.CarriedLines.{record_text}
 use Rattle.std.specs.List.{flat_map}
 use Rattle.nav_eph.specs.declared.items.NavItem.TheVariants.{Gps, Gal, Ion}
@@ -109,10 +109,41 @@ carried_text Rtcm lines = []
 carried_text ToList lines = []
 carried_text Count lines = []
 
--- the text of the item of a record at this line
+-- the text of a record at this line: that of its item, or of its carried lines
 abbrev pub reading_text : Target → ℕ → Reading → List ℕ
 reading_text to line (Ok item) = text_of to (line, item)
-reading_text to line (Err fault) = []
+reading_text to line (Err (carried lines)) = carried_text to lines
+reading_text to line (Err (refused reason)) = []
+reading_text to line (Err passed) = []
+
+-- the output format is RINEX 4
+abbrev pub is_rinex4 : Target → Bool
+is_rinex4 (Rinex words) = true
+is_rinex4 (Rinex3 words) = false
+is_rinex4 Rtcm = false
+is_rinex4 ToList = false
+is_rinex4 Count = false
+
+-- the item is written after all ephemerides: ionosphere parameters in RINEX 4
+abbrev pub is_late : Target → Item → Bool
+is_late to (inl (Gps e)) = false
+is_late to (inl (Gal e)) = false
+is_late to (inl (Ion e)) = is_rinex4 to
+is_late to (inr x) = false
+
+-- the record is written after all ephemerides: such an item, or carried lines
+abbrev pub is_last : Target → Reading → Bool
+is_last to (Ok item) = is_late to item
+is_last to (Err (carried lines)) = true
+is_last to (Err (refused reason)) = false
+is_last to (Err passed) = false
+
+-- the text of a record that is written while records are read, and of one that is written after all of them
+abbrev pub first_text : Target → ℕ → Reading → List ℕ
+first_text to line x = if not (is_last to x) then reading_text to line x else []
+
+abbrev pub last_text : Target → ℕ → Reading → List ℕ
+last_text to line x = if is_last to x then reading_text to line x else []
 
 -- the lines of a record, if it is carried
 abbrev pub carried_lines : Reading → List (List (List ℕ))
@@ -121,17 +152,32 @@ carried_lines (Err (carried lines)) = lines ∷ []
 carried_lines (Err (refused reason)) = []
 carried_lines (Err passed) = []
 
--- the lines of the carried records, in order, and their text
+-- the lines of the carried records, in order
 abbrev pub carried_in : List LineRead → List (List (List ℕ))
 carried_in [] = []
 carried_in (read ∷ reads) = carried_lines read.reading ++ carried_in reads
 
-abbrev pub carried_by : Target → List LineRead → List ℕ
-carried_by to reads = flat_map (carried_text to) (carried_in reads)
+-- the records that are written after all ephemerides
+abbrev pub lasts_in : Target → List LineRead → List LineRead
+lasts_in to reads = filter (λ read. is_last to read.reading) reads
 
--- what is written and what is reported of a record
+-- the items that are written while records are read, and those that are written after all ephemerides
+abbrev pub early_items : Target → List Numbered → List Numbered
+early_items to is = filter (λ i. not (is_late to i.1)) is
+
+abbrev pub late_items : Target → List Numbered → List Numbered
+late_items to is = filter (λ i. is_late to i.1) is
+
+-- the text of a record, whenever it is written
+abbrev pub whole_text : Target → LineRead → List ℕ
+whole_text to read = reading_text to read.line read.reading
+
+-- what is written of a record while records are read, what after all of them, and what is reported of it
 abbrev pub read_text : Target → LineRead → List ℕ
-read_text to read = reading_text to read.line read.reading
+read_text to read = first_text to read.line read.reading
+
+abbrev pub held_text : Target → LineRead → List ℕ
+held_text to read = last_text to read.line read.reading
 
 abbrev pub read_report : LineRead → List ℕ
 read_report read = reading_report read.line read.reading
@@ -172,12 +218,15 @@ counts_text c =
 
 -- ---- the run
 
--- what is written of records while they are read, and of all records: the carried ones behind all items
+-- what is written of records while they are read, what is held back of them, and what is written of all records
 abbrev pub text_by : Target → List LineRead → List ℕ
 text_by to reads = prefix_text to ++ flat_map (read_text to) reads
 
+abbrev pub held_by : Target → List LineRead → List ℕ
+held_by to reads = flat_map (held_text to) reads
+
 abbrev pub whole_by : Target → List LineRead → List ℕ
-whole_by to reads = text_by to reads ++ (carried_by to reads ++ back_text to (counts_text (counts_of to reads)))
+whole_by to reads = text_by to reads ++ (held_by to reads ++ back_text to (counts_text (counts_of to reads)))
 
 -- what is reported of records, and of all records
 abbrev pub told_by : List LineRead → List ℕ

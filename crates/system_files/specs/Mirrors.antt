@@ -1,11 +1,10 @@
 -- A record while it is read and counted. Private functions cite these.
-use Rattle.std.specs.Prelude.{◌≡◌, ℕ, ◌+◌, ◌≤◌, ◌++◌, Bool, if◌then◌else◌, List, length, Ok, Err}
-use Rattle.outlets.specs.declared.target.Target.{Target}
+use Rattle.std.specs.Prelude.{◌≡◌, ◌+◌, ◌≤◌, Bool, if◌then◌else◌, length, Ok, Err}
 use Rattle.std.proofs.Common.{inl, inr}
 use Rattle.rinex_write.specs.Columns.{AreFields}
 use Rattle.nav_rows.specs.Kinds.{IsKind}
 use Rattle.nav_rows.specs.Rows.{value}
-use Rattle.system_files.specs.Files.{carried_text, times_after}
+use Rattle.system_files.specs.Files.{times_after}
 use Rattle.system_files.specs.Readings.{Reading, refused, carried, passed, is_carried, is_item, is_passed, is_refused}
 use Rattle.system_files.specs.declared.counts.SystemCounts.{SystemCounts}
 use Rattle.system_files.specs.declared.read.Given.{Given}
@@ -42,10 +41,3 @@ counted c written x = record {
 -- every record counted is rejected, of a kind that is not read, carried, or an item, and no more are unwritten
 abbrev pub AreCounted : SystemCounts → Type 0
 AreCounted c = (c.refused + c.passed + c.carried + c.items ≡ c.records) × (c.unwritten ≤ c.records)
-
--- the text of the carried records, old and new, where the last record gave this
-abbrev pub IsBehind : Target → Reading → List ℕ → List ℕ → Type 0
-IsBehind to (Ok item) old new = new ≡ old
-IsBehind to (Err (carried lines)) old new = new ≡ old ++ carried_text to lines
-IsBehind to (Err (refused reason)) old new = new ≡ old
-IsBehind to (Err passed) old new = new ≡ old

@@ -4,9 +4,9 @@
 //! file, frames or list. Its GPS LNAV and Galileo I/NAV ephemerides, and the ionosphere parameters,
 //! are those of [`nav_files::run_rinex`] and [`nav_files::run_rinex3`], in the same order; the
 //! others come from the tables of [`nav_rows`]. Of other records of RINEX 4 the lines are
-//! carried, by [`carried_records`], behind all ephemerides; further records are skipped and
-//! counted. [`run_system_merge`] writes each ephemeris and each carried record once, in order of
-//! time.
+//! carried, by [`carried_records`]; further records are skipped and counted. In RINEX 4 the carried
+//! records and those of ionosphere parameters stand after all ephemerides. [`run_system_merge`]
+//! writes each ephemeris and each carried record once, in order of time.
 //!
 //! ```rust
 //! use outlets::Target;
@@ -23,6 +23,7 @@
 mod carried_key;
 mod counts;
 mod form;
+mod held;
 mod laws;
 mod merge;
 mod merge_counts;

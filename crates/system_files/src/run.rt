@@ -5,15 +5,16 @@ ghost use Rattle.std.specs.Io.KnownBytes.{Appends};
 ghost use Rattle.nav_io.specs.Prefix.{AppendsPrefix};
 ghost use Rattle.one_run.specs.Causes.{HasItsCause, faults_of};
 ghost use Rattle.one_run.specs.Runs.{Ran};
-ghost use Rattle.system_files.specs.Files.{carried_by, counts_of, files_meaning, is_unwritten};
-ghost use Rattle.system_files.specs.Files.{reading_text, reported_by, text_by, told_by, whole_by};
+ghost use Rattle.system_files.specs.Files.{counts_of, files_meaning, first_text, held_by};
+ghost use Rattle.system_files.specs.Files.{is_unwritten, reported_by, text_by, told_by, whole_by};
 ghost use Rattle.system_files.specs.Mirrors.{AreCounted, HasFields, view_given};
 ghost use Rattle.system_files.specs.Readings.{reading_report};
 
 use crate::counts::{SystemCounts, count_read, counts_text};
 use crate::form::SystemForm;
+use crate::held::Held;
 use crate::read::{Given, RecordRead};
-use crate::text::{has_carried, has_text, keep_given, write_behind, write_row};
+use crate::text::{has_carried, hold_given, write_behind, write_nav, write_row};
 use crate::version::Version;
 use nav_files::{Taker, reason_word, run_file};
 use nav_io::{Failed, Sink, Source};
@@ -22,8 +23,8 @@ use outlets::Target;
 use std::alloc::Global;
 use system_streams::Kinds;
 
-// Writes the item of a record, or reports why it is rejected; whether an item or carried lines have
-// a text.
+// Writes the item of a record, unless it is held back, or reports why the record is rejected;
+// whether an item or carried lines have a text.
 fn tell_read<T: Sink, U: Sink>(
     to: &Target,
     line: u32,
@@ -33,13 +34,13 @@ fn tell_read<T: Sink, U: Sink>(
 ) -> Result<bool, BridgeFault>
     requires { HasFields given.now }
     ensures output { OnOk result (Appends (T.written output.old) (T.written output.new)
-        (reading_text to.now line (view_given given.now))) }
+        (first_text to.now line (view_given given.now))) }
     ensures report { OnOk result (Appends (U.written report.old) (U.written report.new)
         (reading_report line (view_given given.now))) }
     ensures has { IfOk result (λ written. (if written then 0 else 1)
         ≡ is_unwritten to.now (view_given given.now)) }
     ensures part { OnErr result (AppendsPrefix (T.written output.old) (T.written output.new)
-        (reading_text to.now line (view_given given.now))) }
+        (first_text to.now line (view_given given.now))) }
     ensures report_part { OnErr result (AppendsPrefix (U.written report.old) (U.written report.new)
         (reading_report line (view_given given.now))) }
     ensures cause { HasItsCause (faults_of 0 (T.faults output.old) (U.faults report.old))
@@ -48,8 +49,8 @@ fn tell_read<T: Sink, U: Sink>(
         ⊎ (fault ≡ BridgeFault.ReportFault)) }
 {
     match given {
-        Given::Nav(item) => match to.put(line, item, output) {
-            Ok(()) => Ok(has_text(to, item)),
+        Given::Nav(item) => match write_nav(to, line, item, output) {
+            Ok(has) => Ok(has),
             Err(Failed) => Err(BridgeFault::WriteFault),
         },
         Given::Further(kind, row) => match write_row(to, line, kind, row, output) {
@@ -68,15 +69,15 @@ fn tell_read<T: Sink, U: Sink>(
     }
 }
 
-// The state of a conversion: the counts, and the text of the carried records.
+// The state of a conversion: the counts, and the text that is held back.
 #[derive(Drop)]
 struct SystemsWritten {
     counts: SystemCounts,
-    behind: Vec<u8>,
+    held: Held,
 }
 
-// The conversion that writes each item as soon as its record was read, and the carried records
-// behind them.
+// The conversion that writes each item as soon as its record was read, and what is held back
+// after them.
 #[derive(Drop)]
 struct Systems {
     to: Target,
@@ -102,7 +103,7 @@ impl Taker<RecordRead> for Systems {
     ghost memory = { true };
 
     ghost holds = { λ s state reads. (state.counts ≡ counts_of s.to reads)
-        × AreCounted state.counts × (state.behind.items ≡ carried_by s.to reads) };
+        × AreCounted state.counts × (state.held.bytes.items ≡ held_by s.to reads) };
 
     fn begins(&self) {}
 
@@ -118,8 +119,9 @@ impl Taker<RecordRead> for Systems {
         report: &mut U,
     ) -> Result<(), BridgeFault> {
         let given = read.given();
-        let written = tell_read(&self.to, read.line(), given, output, report)?;
-        keep_given(&self.to, given, &mut state.behind)?;
+        let line = read.line();
+        let written = tell_read(&self.to, line, given, output, report)?;
+        hold_given(&self.to, line, given, &mut state.held)?;
         count_read(given, written, &mut state.counts);
         Ok(())
     }
@@ -130,7 +132,12 @@ impl Taker<RecordRead> for Systems {
 
     fn finish<T: Sink>(&self, state: &mut SystemsWritten, output: &mut T) -> Result<(), Failed> {
         let counts = counts_text(&state.counts);
-        write_behind(&self.to, state.behind.as_slice(), counts.as_slice(), output)
+        write_behind(
+            &self.to,
+            state.held.bytes.as_slice(),
+            counts.as_slice(),
+            output,
+        )
     }
 
     fn counts_text(&self, counts: &SystemCounts) -> Text {
@@ -144,14 +151,15 @@ impl Taker<RecordRead> for Systems {
 /// The header is checked first. Then the leading text is written, and after each record the text of
 /// its item, repeats included. A rejected record gives a line of the report, with the number of its
 /// first line, and the report ends with the counts. Of a record of RINEX 4 of another kind
-/// the lines are carried, if there are at most 12: they are written behind all items, in the order
-/// of the records. Further records of kinds that are not read are counted. So are items and carried
-/// records that have no text in the output format.
+/// the lines are carried, if there are at most 12. In RINEX 4 the carried records and those of
+/// ionosphere parameters are written after all ephemerides, in the order of the input. Further
+/// records of kinds that are not read are counted. So are items and carried records that have no
+/// text in the output format.
 ///
 /// # Errors
 ///
-/// As those of [`nav_files::run_rinex`], and `NoMemory`: the text of carried records is held until
-/// the input ends. Without such records no memory is allocated.
+/// As those of [`nav_files::run_rinex`], and `NoMemory`: the text of the records that are written
+/// after all ephemerides is held until the input ends. Without such records no memory is allocated.
 pub fn run_system_file<S: Source, T: Sink, U: Sink>(
     alloc: Global,
     kinds: &Kinds,
@@ -167,7 +175,10 @@ pub fn run_system_file<S: Source, T: Sink, U: Sink>(
 {
     let mut state = SystemsWritten {
         counts: SystemCounts::new(),
-        behind: Vec::new(alloc),
+        held: Held {
+            bytes: Vec::new(alloc),
+            faults: 0,
+        },
     };
     let form = SystemForm {
         kinds: *kinds,

@@ -1,3 +1,4 @@
+use Rattle.system_files.proofs.HeldTexts.{early_navs, late_navs}
 use Rattle.system_files.proofs.Items.{file_navs, file_texts}
 use Rattle.system_files.proofs.laws.a_file_has_the_same_items_of_gps_and_galileo.Goals as goal
 
@@ -6,3 +7,9 @@ returns-clause-items c = file_navs
 
 pub returns-clause-text : goal.returns-clause-text
 returns-clause-text c = file_texts
+
+pub returns-clause-early : goal.returns-clause-early
+returns-clause-early c = early_navs
+
+pub returns-clause-late : goal.returns-clause-late
+returns-clause-late c = late_navs

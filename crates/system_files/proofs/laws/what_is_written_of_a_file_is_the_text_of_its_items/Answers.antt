@@ -1,9 +1,14 @@
-use Rattle.std.proofs.Common.{◌++◌, List, ℕ, ap}
-use Rattle.outlets.specs.Targets.{back_text, prefix_text}
-use Rattle.system_files.specs.Files.{carried_by, counts_of, counts_text}
-use Rattle.system_files.proofs.Items.{texts_are}
+use Rattle.system_files.proofs.HeldTexts.{last_carried, last_items, whole_alone, whole_texts}
 use Rattle.system_files.proofs.laws.what_is_written_of_a_file_is_the_text_of_its_items.Goals as goal
 
-pub returns : goal.returns
-returns c = λ to reads.
-    ap (λ (l : List ℕ). (prefix_text to ++ l) ++ (carried_by to reads ++ back_text to (counts_text (counts_of to reads)))) (texts_are to reads)
+pub returns-clause-text : goal.returns-clause-text
+returns-clause-text c = whole_texts
+
+pub returns-clause-items : goal.returns-clause-items
+returns-clause-items c = last_items
+
+pub returns-clause-carried : goal.returns-clause-carried
+returns-clause-carried c = last_carried
+
+pub returns-clause-alone : goal.returns-clause-alone
+returns-clause-alone c = whole_alone
