@@ -112,7 +112,7 @@ part_of_take f text told holds memory left l1 l2 w w1 w2 u u1 u2 s0 s1 s2 read f
           (report far.given start far.held (far.report start begun));
       form = λ is. no_form kind is;
       too_long = λ is. absurd (no_length kind is);
-      wants = λ is. wants kind is;
+      wants = λ is. (wants kind is, gives.low);
       exact = λ is. absurd (no_read kind is);
     }
   where
