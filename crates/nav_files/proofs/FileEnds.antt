@@ -1,9 +1,9 @@
 -- How a run over a file ends: in the header, after it, after its records, or well. What is written, reported and counted of the
 -- records is the job's.
-use Rattle.std.proofs.Common.{◌≡◌, ◌⊎◌, inl, inr, ◌^◌, ℕ, Bool, true, false, List, [], ◌∷◌, ◌++◌, length, refl, sym, ap, subst, ◌∙◌, arith, append_assoc, append-nil, length-append}
+use Rattle.std.proofs.Common.{◌≡◌, ◌⊎◌, inl, inr, ◌^◌, ◌<◌, ℕ, Bool, true, false, List, [], ◌∷◌, ◌++◌, length, refl, sym, ap, subst, ◌∙◌, arith, append_assoc, append-nil, length-append}
 use Rattle.std.specs.Prelude.{Option, None, Some, Result, Ok, Err, IfSome, IsSome, IsTrue, IsErrOf}
 use Rattle.std.specs.List.{flat_map}
-use Rattle.std.specs.Io.KnownBytes.{Appends, Consumes, IsAtEnd}
+use Rattle.std.specs.Io.KnownBytes.{Appends, IsAtEnd}
 use Rattle.std.proofs.KnownBytes.{Appends-nil, Consumes-trans}
 use Rattle.std.proofs.lemmas.Grind.{flat_map-append}
 use Rattle.nav_io.specs.Causes.{Rose}
@@ -19,7 +19,7 @@ use Rattle.one_run.specs.declared.fault.BridgeFault.{BridgeFault}
 use Rattle.one_run.specs.declared.fault.BridgeFault.TheVariants.{ReadFault, WriteFault, ReportFault, NotThisForm, TooLong, NoMemory}
 use Rattle.one_run.specs.Causes.{Faults, HasItsCause, faults_of}
 use Rattle.one_run.specs.Runs.{AppendsBetween, Broke, CountsAreLast, Done, IsAheadOf, Leaves, Meaning, Says, StopAtOnePlace, World, faults_in}
-use Rattle.one_run.proofs.Surface.{ahead_at_end, ahead_by, all_of, between, between_within, no_prefix, none_failed, nothing_ahead, nothing_stopped, nothing_told, prefix_nil, prefix_of, prefix_trans, prefix_within, read_failed, report_failed, taken_all, with_rest, write_failed}
+use Rattle.one_run.proofs.Surface.{ahead_at_end, ahead_by, all_of, between, between_within, no_prefix, none_failed, nothing_ahead, nothing_stopped, nothing_told, prefix_nil, prefix_of, prefix_within, read_failed, report_failed, taken_all, with_rest, write_failed}
 use Rattle.nav_files.specs.Files.{counted_in, file_meaning, text_before, text_in}
 use Rattle.nav_files.specs.Mirrors.{HeaderFaultOf, NoHeader}
 use Rattle.nav_files.specs.Taken.{AtEnd}

@@ -1,6 +1,6 @@
 -- Where a run over a file has stopped: in one record, at one place of output and report.
-use Rattle.std.proofs.Common.{◌≡◌, ◌⊎◌, inl, inr, ℕ, List, [], ◌∷◌, ◌++◌, Ok, Err, refl, sym, ap, subst, ◌∙◌, append_assoc, append-nil}
-use Rattle.std.specs.Prelude.{Option, Some, Result}
+use Rattle.std.proofs.Common.{◌≡◌, ◌⊎◌, inl, inr, ℕ, List, [], ◌∷◌, ◌++◌, Ok, Err, refl, sym, ap, subst, ◌∙◌, append_assoc}
+use Rattle.std.specs.Prelude.{Option, Result}
 use Rattle.nav_io.specs.Prefix.{AppendsPrefix, IsPrefix}
 use Rattle.rinex_read.specs.declared.judged.HeaderFault.{HeaderFault}
 use Rattle.rinex_read.specs.Forms.{Form}
@@ -35,6 +35,7 @@ with_last (x ∷ y ∷ ys) = ap (λ (l : List _). x ∷ l) (with_last (y ∷ ys)
 
 -- the records of a beginning are among those before the last one, or go on behind it
 no_more_or_past : {R : Type 0} (xs more front rest : List R) → xs ++ more ≡ front ++ rest → BeginsWith (but_last xs) front ⊎ BeginsWith front xs
+unfolding last_of
 no_more_or_past {R} xs more front rest e = by xs e
   where
     by : (xs : List R) → xs ++ more ≡ front ++ rest → BeginsWith (but_last xs) front ⊎ BeginsWith front xs
@@ -42,7 +43,6 @@ no_more_or_past {R} xs more front rest e = by xs e
     by (x ∷ xs) e = step (but_last (x ∷ xs)) (last_of (x ∷ xs)) (some x xs) (with_last (x ∷ xs)) e
       where
         some : (x : R) (xs : List R) → (y : R) × (last_of (x ∷ xs) ≡ y ∷ [])
-        unfolding last_of
         some x [] = (x, refl)
         some x (y ∷ ys) = some y ys
 
