@@ -109,7 +109,7 @@ cut_capture : (run : CaptureRunState) (job : CaptureJob) (bytes whole output rep
 cut_capture run job bytes whole output report fault to week cut =
     let of_job = named run.to (target_of job.to) run.week job.week to week in
     let out : cut.output.prefix ≡ output = sym cut.output.grew in
-    let rep : cut.report.0 ≡ report = sym cut.report.2 in
+    let rep : cut.report.prefix ≡ report = sym cut.report.grew in
     record {
       read = λ e. subst (CutSays run.week whole) e cut.says;
       form = λ e. ap (λ (w : Option ℕ). forgotten (counts_in (capture_of w whole))) (sym week)
@@ -121,7 +121,7 @@ cut_capture run job bytes whole output report fault to week cut =
       output = subst (λ (l : List ℕ). IsPrefix output l) (of_job (λ t w. output_of t w whole))
           (subst (λ (l : List ℕ). IsPrefix l (output_of run.to run.week whole)) out cut.output.within);
       report = subst (λ (l : List ℕ). IsPrefix report l) (of_job (λ t w. report_of_capture w whole))
-          (subst (λ (l : List ℕ). IsPrefix l (report_of_capture run.week whole)) rep cut.report.1);
+          (subst (λ (l : List ℕ). IsPrefix l (report_of_capture run.week whole)) rep cut.report.within);
     }
 
 pub capture_goes : (run run' : CaptureRunState) (piece output output' report report' : List ℕ) → (run'.to ≡ run.to) × (run'.week ≡ run.week)
@@ -166,23 +166,23 @@ capture_ends_short run output output' report report' fault short job bytes is = 
 -- ---- a stream's run
 
 not_read : (size : ℕ) (fault : BridgeFault) → IsPushFault size fault → fault ≢ ReadFault
-not_read size fault (inl stream) e = subst IsStreamFault e stream
-not_read size fault (inr (is, long)) e = cc
+not_read size fault (inl stream, only) e = subst IsStreamFault e stream
+not_read size fault (inr (is, long), only) e = cc
 
 not_form : (size : ℕ) (fault : BridgeFault) → IsPushFault size fault → fault ≢ NotThisForm
-not_form size fault (inl stream) e = subst IsStreamFault e stream
-not_form size fault (inr (is, long)) e = cc
+not_form size fault (inl stream, only) e = subst IsStreamFault e stream
+not_form size fault (inr (is, long), only) e = cc
 
 how_long : (size : ℕ) (fault : BridgeFault) → IsPushFault size fault → fault ≡ TooLong → 2 ^ 64 ≤ size
-how_long size fault (inl stream) e = absurd (subst IsStreamFault e stream)
-how_long size fault (inr (is, long)) e = long
+how_long size fault (inl stream, only) e = absurd (subst IsStreamFault e stream)
+how_long size fault (inr (is, long), only) e = long
 
 cut_stream : (run : StreamRunState) (job : StreamJob) (size : ℕ) (bytes whole output report : List ℕ) (fault : BridgeFault) → run.to ≡ target_of_stream job.to → run.week ≡ job.week
     → IsPushFault size fault → size ≤ length whole → IsCutShort run bytes whole (Some []) (Some output) (Some []) (Some report) → IsCut (jobs.Stream job) bytes whole output report fault
 cut_stream run job size bytes whole output report fault to week kind within cut =
     let of_job = named run.to (target_of_stream job.to) run.week job.week to week in
     let out : cut.output.prefix ≡ output = sym cut.output.grew in
-    let rep : cut.report.0 ≡ report = sym cut.report.2 in
+    let rep : cut.report.prefix ≡ report = sym cut.report.grew in
     record {
       read = not_read size fault kind;
       form = λ e. absurd (not_form size fault kind e);
@@ -193,7 +193,7 @@ cut_stream run job size bytes whole output report fault to week kind within cut 
       output = subst (λ (l : List ℕ). IsPrefix output l) (of_job (whole_text whole))
           (subst (λ (l : List ℕ). IsPrefix l (whole_text whole run.to run.week)) out cut.output.within);
       report = subst (λ (l : List ℕ). IsPrefix report l) (of_job (whole_told whole))
-          (subst (λ (l : List ℕ). IsPrefix l (whole_told whole run.to run.week)) rep cut.report.1);
+          (subst (λ (l : List ℕ). IsPrefix l (whole_told whole run.to run.week)) rep cut.report.within);
     }
 
 pub stream_goes : (run run' : StreamRunState) (piece output output' report report' : List ℕ) → (run'.to ≡ run.to) × (run'.week ≡ run.week)
@@ -231,7 +231,7 @@ pub stream_ends_short : (run : StreamRunState) (output output' report report' : 
     → (run.fault ≡ None → IsStreamFault fault)
     → EndsShort (Stream run) output output' report report' fault
 stream_ends_short run output output' report report' fault short kind (jobs.Stream job) bytes is = (
-  cut_stream run job 0 bytes bytes output' report' fault is.2 is.3 (inl (kind is.0)) (omega arith) (short bytes is.4),
+  cut_stream run job 0 bytes bytes output' report' fault is.2 is.3 (inl (kind is.0), λ many. absurd (omega (arith, many))) (omega arith) (short bytes is.4),
   λ e. subst IsStreamFault e (kind is.0),
 )
 stream_ends_short run output output' report report' fault short kind job bytes is = absurd is
