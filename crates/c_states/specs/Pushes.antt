@@ -86,16 +86,19 @@ pub record HasMade (s : PushState) (job : Job) (bytes : List ℕ) : Type 0 where
   pub output : s.output ≡ (meaning_of job).whole.output bytes
   pub report : s.report ≡ (meaning_of job).whole.report bytes
 
--- The conversion was ended early: what `bytes` decide was written, and of what the complete input
--- gives no more than a prefix was written and reported. With the result 5 the complete input is not
--- of the form that the conversion reads, with 6 it is, and with 8 it is too long.
+-- The conversion was ended early: what `bytes` decide was written and reported, and of what the
+-- complete input gives no more than a prefix. With the result 5 the complete input is not of the
+-- form that the conversion reads, with 6 it is, and with 8 it is too long.
 pub record IsCutAt (s : PushState) (job : Job) (bytes whole : List ℕ) (answer : ℕ) : Type 0 where
   pub form : answer ≡ 5 → (meaning_of job).counts whole ≡ None
   pub long : answer ≡ 8 → too_many job ≤ length whole
   pub lack : answer ≡ 6 → IsSome ((meaning_of job).counts whole)
   pub least : IfSome (meaning_of job).flushed (λ texts. IsPrefix (texts.output bytes) s.output)
   pub output : IsPrefix s.output ((meaning_of job).whole.output whole)
+  pub least_report : IfSome (meaning_of job).flushed (λ texts. IsPrefix (texts.report bytes) s.report)
   pub report : IsPrefix s.report ((meaning_of job).whole.report whole)
+  -- no counts were reported, or the whole output was written
+  pub counts_last : IsPrefix s.report ((meaning_of job).rejections whole) ⊎ (s.output ≡ (meaning_of job).whole.output whole)
 
 -- what was written and reported stays, and more is after it
 abbrev pub Grows : PushState → PushState → Type 0
