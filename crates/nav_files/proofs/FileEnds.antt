@@ -1,9 +1,9 @@
 -- How a run over a file ends: in the header, after it, after its records, or well. What is written, reported and counted of the
 -- records is the job's.
-use Rattle.std.proofs.Common.{◌≡◌, ◌⊎◌, inl, inr, ◌^◌, ℕ, Bool, true, false, List, [], ◌∷◌, ◌++◌, length, refl, sym, ap, subst, ◌∙◌, arith, append_assoc, append-nil, length-append}
+use Rattle.std.proofs.Common.{◌≡◌, ◌⊎◌, inl, inr, ◌^◌, ◌<◌, ℕ, Bool, true, false, List, [], ◌∷◌, ◌++◌, length, refl, sym, ap, subst, ◌∙◌, arith, append_assoc, append-nil, length-append}
 use Rattle.std.specs.Prelude.{Option, None, Some, Result, Ok, Err, IfSome, IsSome, IsTrue, IsErrOf}
 use Rattle.std.specs.List.{flat_map}
-use Rattle.std.specs.Io.KnownBytes.{Appends, Consumes, IsAtEnd}
+use Rattle.std.specs.Io.KnownBytes.{Appends, IsAtEnd}
 use Rattle.std.proofs.KnownBytes.{Appends-nil, Consumes-trans}
 use Rattle.std.proofs.lemmas.Grind.{flat_map-append}
 use Rattle.nav_io.specs.Causes.{Rose}
@@ -18,13 +18,14 @@ use Rattle.rinex_read.specs.declared.judged.HeaderFault.{HeaderFault}
 use Rattle.one_run.specs.declared.fault.BridgeFault.{BridgeFault}
 use Rattle.one_run.specs.declared.fault.BridgeFault.TheVariants.{ReadFault, WriteFault, ReportFault, NotThisForm, TooLong, NoMemory}
 use Rattle.one_run.specs.Causes.{Faults, HasItsCause, faults_of}
-use Rattle.one_run.specs.Runs.{AppendsBetween, Broke, Done, IsAheadOf, Leaves, Meaning, Says, World, faults_in}
-use Rattle.one_run.proofs.Surface.{ahead_at_end, ahead_by, between, between_within, no_prefix, none_failed, nothing_ahead, nothing_told, prefix_nil, prefix_of, prefix_trans, prefix_within, read_failed, report_failed, taken_all, with_rest, write_failed}
+use Rattle.one_run.specs.Runs.{AppendsBetween, Broke, CountsAreLast, Done, IsAheadOf, Leaves, Meaning, Says, StopAtOnePlace, World, faults_in}
+use Rattle.one_run.proofs.Surface.{ahead_at_end, ahead_by, all_of, between, between_within, no_prefix, none_failed, nothing_ahead, nothing_stopped, nothing_told, prefix_nil, prefix_of, prefix_within, read_failed, report_failed, taken_all, with_rest, write_failed}
 use Rattle.nav_files.specs.Files.{counted_in, file_meaning, text_before, text_in}
 use Rattle.nav_files.specs.Mirrors.{HeaderFaultOf, NoHeader}
 use Rattle.nav_files.specs.Taken.{AtEnd}
 use Rattle.nav_files.proofs.RecordLemmas.{AreNear}
 use Rattle.nav_files.proofs.TakenLemmas.{least_all, least_before}
+use Rattle.nav_files.proofs.Stopping.{Firsts, Grows, stopped_after, stopped_before, stopped_in}
 use Rattle.nav_files.proofs.FileLemmas.{Begins, Earlies, NoEarlies, Opens, Wholes, ends_there, file_prefix, file_taken, file_whole, none_left}
 
 -- ---- what failed
@@ -215,7 +216,8 @@ broke_header f memory wrote tells output report count b a s0 s1 fault begins ope
       text = between_none b.written a.written _ _ written (ap (text_before wrote) early);
       told = between_none b.reported a.reported _ _ reported (ap (text_before tells) early);
       ahead = nothing_ahead m.whole b.left b.written a.written b.reported a.reported written reported;
-      no_counts = λ other. nothing_told m.rejections b.left b.reported a.reported reported;
+      stopped = nothing_stopped m.flushed b.left b.written a.written b.reported a.reported written reported;
+      counts_last = inl (nothing_told m.rejections b.left b.reported a.reported reported);
       cause = header_cause b a fault s1 broken.by cause writes reports;
       leaves = reading m b a refl refl;
       says = says_header f memory wrote tells output report count b a s0 s1 fault begins new broken.steps broken.by rose never out told
@@ -224,7 +226,7 @@ broke_header f memory wrote tells output report count b a s0 s1 fault begins ope
 
 says_behind : {C R S T U : Type 0} (f : Form R) (memory : Bool) (wrote tells output report : List R → List ℕ) (count : List R → C) (b a : World S T U) (taken : List ℕ) (fault : BridgeFault)
     → IfSome b.left (λ bytes. IsSome (counted_in count (file_reads f bytes)))
-    → Fails b a fault → (fault ≡ TooLong → length taken ≡ 2 ^ 32) → (fault ≡ NoMemory → memory ≡ true)
+    → Fails b a fault → (fault ≡ TooLong → length taken ≡ 2 ^ 32) → (fault ≡ NoMemory → (memory ≡ true) × (length taken < 2 ^ 32))
     → Flushed f wrote tells taken b a fault
     → Says (file_meaning f memory wrote tells output report count) taken b a fault
 says_behind f memory wrote tells output report count b a taken ReadFault some fails long wants flushed = (refl, fails.cause.0, fails.never refl, flushed refl)
@@ -232,7 +234,7 @@ says_behind f memory wrote tells output report count b a taken WriteFault some f
 says_behind f memory wrote tells output report count b a taken ReportFault some fails long wants flushed = (refl, fails.cause.0, some)
 says_behind f memory wrote tells output report count b a taken NotThisForm some fails long wants flushed = absurd (fails.form refl)
 says_behind f memory wrote tells output report count b a taken TooLong some fails long wants flushed = long refl
-says_behind f memory wrote tells output report count b a taken NoMemory some fails long wants flushed = (wants refl, some)
+says_behind f memory wrote tells output report count b a taken NoMemory some fails long wants flushed = let low = wants refl in (low.0, some, low.1)
 
 -- the run breaks off after the header, once these records were read: a prefix was written and reported of what these give
 pub broke_file : {C R S T U : Type 0} (f : Form R) (memory : Bool) (wrote tells output report : List R → List ℕ) (count : List R → C) (b a : World S T U) (l1 : Option (List ℕ)) (s0 s1 s2 : RecordsState)
@@ -242,12 +244,13 @@ pub broke_file : {C R S T U : Type 0} (f : Form R) (memory : Bool) (wrote tells 
     → IsPrefix (text_before tells (early_reads f (header.steps.reads.taken ++ steps.reads.taken))) few
     → AppendsBetween b.written a.written some text → IsPrefix text (output (given ++ records_to_come f s2 []))
     → AppendsBetween b.reported a.reported few told → IsPrefix told (report (given ++ records_to_come f s2 []))
-    → ((fault ≡ ReportFault → ⊥) → IfSome b.left (λ bytes. AppendsPrefix b.reported a.reported (text_in tells (file_reads f bytes))))
+    → StopAtOnePlace (file_meaning f memory wrote tells output report count).flushed b.left b.written a.written b.reported a.reported
+    → CountsAreLast (file_meaning f memory wrote tells output report count) (header.steps.reads.taken ++ steps.reads.taken) b a fault
     → IsAheadOf (file_meaning f memory wrote tells output report count).whole b.left b.written a.written b.reported a.reported
-    → Fails b a fault → (fault ≡ TooLong → s2.lines.taken ≡ 2 ^ 32) → (fault ≡ NoMemory → memory ≡ true)
+    → Fails b a fault → (fault ≡ TooLong → s2.lines.taken ≡ 2 ^ 32) → (fault ≡ NoMemory → (memory ≡ true) × (s2.lines.taken < 2 ^ 32))
     → Flushed f wrote tells (header.steps.reads.taken ++ steps.reads.taken) b a fault
     → Broke (file_meaning f memory wrote tells output report count) b a fault
-broke_file f memory wrote tells output report count b a l1 s0 s1 s2 given some text few told fault begins new header steps least least_told written text_is reported told_is early ahead fails long wants flushed =
+broke_file f memory wrote tells output report count b a l1 s0 s1 s2 given some text few told fault begins new header steps least least_told written text_is reported told_is stopped last ahead fails long wants flushed =
     let m = file_meaning f memory wrote tells output report count in
     let is = file_prefix f b.left l1 a.left s0 s1 s2 given begins new header steps in
     let taken = header.steps.reads.taken ++ steps.reads.taken in record {
@@ -256,11 +259,13 @@ broke_file f memory wrote tells output report count b a l1 s0 s1 s2 given some t
       text = between_within b.written a.written _ some text _ least (subst (λ r. IsPrefix text (text_in output r)) (sym is) text_is) written;
       told = between_within b.reported a.reported _ few told _ least_told (subst (λ r. IsPrefix told (text_in report r)) (sym is) told_is) reported;
       ahead = ahead;
-      no_counts = early;
+      stopped = stopped;
+      counts_last = last;
       cause = fails.cause;
       leaves = reading m b a refl refl;
       says = says_behind f memory wrote tells output report count b a taken fault (accepted f count b.left l1 s0 s1 begins new header) fails
-          (λ is_long. omega (arith, length-append header.steps.reads.taken steps.reads.taken, new.taken, header.steps.reads.count, steps.reads.count, long is_long)) wants flushed;
+          (λ is_long. omega (arith, length-append header.steps.reads.taken steps.reads.taken, new.taken, header.steps.reads.count, steps.reads.count, long is_long))
+          (λ none. let low = wants none in (low.0, omega (arith, length-append header.steps.reads.taken steps.reads.taken, new.taken, header.steps.reads.count, steps.reads.count, low.1))) flushed;
     }
 
 -- the records of all bytes, where these are left
@@ -299,42 +304,59 @@ file_ahead f memory wrote tells output report count b a l1 s0 s1 s2 given text t
       prefix_within b.reported a.reported told _ (subst (λ r. IsPrefix told (text_in report r)) (sym all) (told_is more)) reported,
     ))
 
--- what is written grows with the records
-abbrev pub Grows : {R : Type 0} → (List R → List ℕ) → Type 0
-Grows text = (some more : List _) → IsPrefix (text some) (text (some ++ more))
+-- output and report stop in the last of the records, or behind it
+file_stopped : {R : Type 0} (f : Form R) (wrote tells : List R → List ℕ) (left l1 l2 w w1 u u1 : Option (List ℕ)) (s0 s1 s2 : RecordsState) (given : List R)
+    → Begins f → Firsts f → Grows wrote → Grows tells → IsNew s0 → (header : PassesHeader f left l1 s0 s1) → (steps : Steps f l1 l2 s1 s2 given)
+    → AppendsBetween w w1 (wrote (but_last given)) (wrote given) → AppendsBetween u u1 (tells (but_last given)) (tells given)
+    → StopAtOnePlace (Some (record { output = λ bytes. text_in wrote (whole_reads f bytes); report = λ bytes. text_in tells (whole_reads f bytes) })) left w w1 u u1
+file_stopped f wrote tells left l1 l2 w w1 u u1 s0 s1 s2 given begins firsts grows more_told new header steps written reported =
+    with_rest left l2 (header.steps.reads.taken ++ steps.reads.taken) _ (Consumes-trans left l1 l2 _ _ header.steps.reads.consumes steps.reads.consumes)
+    (λ rest is. stopped_in f wrote tells firsts grows more_told _ given (records_to_come f s2 rest) (file_rest f left l1 l2 s0 s1 s2 given begins new header steps rest is) w w1 u u1 written reported)
 
 -- the same, where all was written before the last of the records; and where a read failed all of it was written and reported
 pub broke_taken : {C R S T U : Type 0} (f : Form R) (memory : Bool) (wrote tells output report : List R → List ℕ) (count : List R → C) (b a : World S T U) (l1 : Option (List ℕ)) (s0 s1 s2 : RecordsState)
-    (given : List R) (text told : List ℕ) (fault : BridgeFault)
-    → Begins f → Wholes f → Earlies f → Grows wrote → Grows tells → IsNew s0 → PassesHeader f b.left l1 s0 s1 → (steps : Steps f l1 a.left s1 s2 given) → AreEarly s1.lines steps.reads.taken steps.lines
-    → AppendsBetween b.written a.written (wrote (but_last given)) text → ((more : List R) → IsPrefix text (output (given ++ more)))
-    → AppendsBetween b.reported a.reported (tells (but_last given)) told → ((more : List R) → IsPrefix told (report (given ++ more))) → ((more : List R) → IsPrefix told (tells (given ++ more)))
-    → Fails b a fault → (fault ≡ TooLong → s2.lines.taken ≡ 2 ^ 32) → (fault ≡ NoMemory → memory ≡ true)
+    (given : List R) (fault : BridgeFault)
+    → Begins f → Wholes f → Earlies f → Firsts f → Grows wrote → Grows tells → IsNew s0 → PassesHeader f b.left l1 s0 s1 → (steps : Steps f l1 a.left s1 s2 given) → AreEarly s1.lines steps.reads.taken steps.lines
+    → AppendsBetween b.written a.written (wrote (but_last given)) (wrote given) → ((more : List R) → IsPrefix (wrote given) (output (given ++ more)))
+    → AppendsBetween b.reported a.reported (tells (but_last given)) (tells given) → ((more : List R) → IsPrefix (tells given) (report (given ++ more)))
+    → Fails b a fault → (fault ≡ TooLong → s2.lines.taken ≡ 2 ^ 32) → (fault ≡ NoMemory → (memory ≡ true) × (s2.lines.taken < 2 ^ 32))
     → (fault ≡ ReadFault → IsPaused s2 × Appends b.written a.written (wrote given) × Appends b.reported a.reported (tells given))
     → Broke (file_meaning f memory wrote tells output report count) b a fault
-broke_taken f memory wrote tells output report count b a l1 s0 s1 s2 given text told fault begins wholes earlies grows more_told new header steps early written text_is reported told_is tells_is fails long wants exact =
+broke_taken f memory wrote tells output report count b a l1 s0 s1 s2 given fault begins wholes earlies firsts grows more_told new header steps early written text_is reported told_is fails long wants exact =
     let few = earlies b.left l1 a.left s0 s1 s2 given new header steps early in
-    let some_told = prefix_of b.reported a.reported _ told reported in
-    broke_file f memory wrote tells output report count b a l1 s0 s1 s2 given (wrote (but_last given)) text (tells (but_last given)) told fault begins new header steps
+    let some_told = prefix_of b.reported a.reported _ (tells given) reported in
+    broke_file f memory wrote tells output report count b a l1 s0 s1 s2 given (wrote (but_last given)) (wrote given) (tells (but_last given)) (tells given) fault begins new header steps
     (least_before wrote grows given _ few) (least_before tells more_told given _ few) written (text_is _) reported (told_is _)
-    (λ other. file_told f tells b.left l1 a.left b.reported a.reported s0 s1 s2 given told begins new header steps some_told tells_is)
-    (file_ahead f memory wrote tells output report count b a l1 s0 s1 s2 given text told begins new header steps (prefix_of b.written a.written _ text written) text_is some_told told_is) fails long wants
+    (file_stopped f wrote tells b.left l1 a.left b.written a.written b.reported a.reported s0 s1 s2 given begins firsts grows more_told new header steps written reported)
+    (inl (file_told f tells b.left l1 a.left b.reported a.reported s0 s1 s2 given (tells given) begins new header steps some_told (more_told given)))
+    (file_ahead f memory wrote tells output report count b a l1 s0 s1 s2 given (wrote given) (tells given) begins new header steps (prefix_of b.written a.written _ (wrote given) written) text_is some_told told_is) fails long wants
     (flushed_file f wrote tells b a l1 s0 s1 s2 given fault wholes new header steps exact)
 
+-- they stop in the leading text
+begin_stopped : {R : Type 0} (f : Form R) (wrote tells : List R → List ℕ) (left l1 l2 w w1 u u1 : Option (List ℕ)) (s0 s1 s2 : RecordsState) (given : List R)
+    → Begins f → Firsts f → Grows wrote → Grows tells → IsNew s0 → (header : PassesHeader f left l1 s0 s1) → (steps : Steps f l1 l2 s1 s2 given)
+    → AppendsPrefix w w1 (wrote []) → AppendsPrefix u u1 (tells [])
+    → StopAtOnePlace (Some (record { output = λ bytes. text_in wrote (whole_reads f bytes); report = λ bytes. text_in tells (whole_reads f bytes) })) left w w1 u u1
+begin_stopped f wrote tells left l1 l2 w w1 u u1 s0 s1 s2 given begins firsts grows more_told new header steps written reported =
+    with_rest left l2 (header.steps.reads.taken ++ steps.reads.taken) _ (Consumes-trans left l1 l2 _ _ header.steps.reads.consumes steps.reads.consumes)
+    (λ rest is. stopped_before f wrote tells firsts grows more_told _ w w1 u u1 written reported)
+
 -- the leading text is not written to its end
-pub broke_begin : {C R S T U : Type 0} (f : Form R) (memory : Bool) (wrote tells output report : List R → List ℕ) (count : List R → C) (b a : World S T U) (s0 s1 : RecordsState) (prefix : List ℕ)
-    → Begins f → Earlies f → AreNear f → IsNew s0 → PassesHeader f b.left a.left s0 s1 → NearSteps f a.left a.left s1 s1 []
-    → AppendsPrefix b.written a.written prefix → ((more : List R) → IsPrefix prefix (output more)) → a.reported ≡ b.reported → Fails b a WriteFault
+pub broke_begin : {C R S T U : Type 0} (f : Form R) (memory : Bool) (wrote tells output report : List R → List ℕ) (count : List R → C) (b a : World S T U) (s0 s1 : RecordsState)
+    → Begins f → Earlies f → Firsts f → AreNear f → Grows wrote → Grows tells → IsNew s0 → PassesHeader f b.left a.left s0 s1 → NearSteps f a.left a.left s1 s1 []
+    → AppendsPrefix b.written a.written (wrote []) → ((more : List R) → IsPrefix (wrote []) (output more)) → tells [] ≡ [] → a.reported ≡ b.reported → Fails b a WriteFault
     → Broke (file_meaning f memory wrote tells output report count) b a WriteFault
-broke_begin f memory wrote tells output report count b a s0 s1 prefix begins earlies nears new header none written prefix_is same fails =
+broke_begin f memory wrote tells output report count b a s0 s1 begins earlies firsts nears grows more_told new header none written prefix_is untold same fails =
     let all = nears a.left a.left s1 s1 [] none in
     let early = none_begin _ (earlies b.left a.left a.left s0 s1 s1 [] new header all.steps all.early) in
     let silent : AppendsPrefix b.reported a.reported [] = subst (λ (u : Option (List ℕ)). AppendsPrefix b.reported u []) (sym same) (no_prefix b.reported []) in
-    broke_file f memory wrote tells output report count b a a.left s0 s1 s1 [] [] prefix [] [] WriteFault begins new header all.steps
+    broke_file f memory wrote tells output report count b a a.left s0 s1 s1 [] [] (wrote []) [] [] WriteFault begins new header all.steps
     (subst (λ (l : List _). IsPrefix (text_before wrote l) []) (sym early) (prefix_nil [])) (subst (λ (l : List _). IsPrefix (text_before tells l) []) (sym early) (prefix_nil []))
-    (between b.written a.written prefix written) (prefix_is _) (between b.reported a.reported [] silent) (prefix_nil _)
-    (λ other. file_told f tells b.left a.left a.left b.reported a.reported s0 s1 s1 [] [] begins new header all.steps silent (λ more. prefix_nil _))
-    (file_ahead f memory wrote tells output report count b a a.left s0 s1 s1 [] prefix [] begins new header all.steps written prefix_is silent (λ more. prefix_nil _)) fails (λ long. cc) (λ wants. cc) (λ is. absurd (let none : WriteFault ≡ ReadFault = is in cc))
+    (between b.written a.written (wrote []) written) (prefix_is _) (between b.reported a.reported [] silent) (prefix_nil _)
+    (begin_stopped f wrote tells b.left a.left a.left b.written a.written b.reported a.reported s0 s1 s1 [] begins firsts grows more_told new header all.steps written
+    (subst (AppendsPrefix b.reported a.reported) (sym untold) silent))
+    (inl (file_told f tells b.left a.left a.left b.reported a.reported s0 s1 s1 [] [] begins new header all.steps silent (λ more. prefix_nil _)))
+    (file_ahead f memory wrote tells output report count b a a.left s0 s1 s1 [] (wrote []) [] begins new header all.steps written prefix_is silent (λ more. prefix_nil _)) fails (λ long. cc) (λ wants. absurd (let none : WriteFault ≡ NoMemory = wants in cc)) (λ is. absurd (let none : WriteFault ≡ ReadFault = is in cc))
   where
     none_begin : {X : Type 0} (xs : List X) → BeginWith [] xs → xs ≡ []
     none_begin [] h = refl
@@ -343,11 +365,11 @@ broke_begin f memory wrote tells output report count b a s0 s1 prefix begins ear
 -- the same where all records were given and what is written of them was
 pub broke_end : {C R S T U : Type 0} (f : Form R) (memory : Bool) (wrote tells output report : List R → List ℕ) (count : List R → C) (b a : World S T U) (l1 : Option (List ℕ)) (s0 s1 s2 : RecordsState)
     (given : List R) (text told : List ℕ) (fault : BridgeFault)
-    → Begins f → Earlies f → AreNear f → Grows wrote → Grows tells → IsNew s0 → PassesHeader f b.left l1 s0 s1 → NearSteps f l1 a.left s1 s2 given → AtEnd s2
+    → Begins f → Earlies f → Firsts f → AreNear f → Grows wrote → Grows tells → IsNew s0 → PassesHeader f b.left l1 s0 s1 → NearSteps f l1 a.left s1 s2 given → AtEnd s2
     → AppendsBetween b.written a.written (wrote given) text → IsPrefix text (output given) → AppendsBetween b.reported a.reported (tells given) told → IsPrefix told (report given)
-    → ((fault ≡ ReportFault → ⊥) → IsPrefix told (tells given)) → Fails b a fault → (fault ≡ TooLong → ⊥) → (fault ≡ NoMemory → memory ≡ true) → (fault ≡ ReadFault → ⊥)
+    → IsPrefix told (tells given) ⊎ ((fault ≡ ReportFault) × Appends b.written a.written (output given)) → Fails b a fault → (fault ≡ TooLong → ⊥) → (fault ≡ NoMemory → ⊥) → (fault ≡ ReadFault → ⊥)
     → Broke (file_meaning f memory wrote tells output report count) b a fault
-broke_end f memory wrote tells output report count b a l1 s0 s1 s2 given text told fault begins earlies nears grows more_told new header near end written text_is reported told_is early fails short wants over =
+broke_end f memory wrote tells output report count b a l1 s0 s1 s2 given text told fault begins earlies firsts nears grows more_told new header near end written text_is reported told_is last fails short wants over =
     let steps = nears l1 a.left s1 s2 given near in
     let taken = header.steps.reads.taken ++ steps.steps.reads.taken in
     let consumes = Consumes-trans b.left l1 a.left _ _ header.steps.reads.consumes steps.steps.reads.consumes in
@@ -359,11 +381,28 @@ broke_end f memory wrote tells output report count b a l1 s0 s1 s2 given text to
     broke_file f memory wrote tells output report count b a l1 s0 s1 s2 given (wrote given) text (tells given) told fault begins new header steps.steps
     (least_all wrote grows given _ few) (least_all tells more_told given _ few)
     written (subst (λ (l : List _). IsPrefix text (output l)) all text_is) reported (subst (λ (l : List _). IsPrefix told (report l)) all told_is)
-    (λ other. taken_all b.left a.left taken _ consumes over_is (prefix_within b.reported a.reported told _ (subst (λ r. IsPrefix told (text_in tells r)) (sym whole) (early other)) some_told))
+    (taken_all b.left a.left taken _ consumes over_is (stopped_after f wrote tells firsts grows more_told taken given whole b.written a.written b.reported a.reported
+    (all_of b.written a.written _ text written) (all_of b.reported a.reported _ told reported)))
+    (counts last)
     (ahead_at_end (file_meaning f memory wrote tells output report count).whole b.left a.left b.written a.written b.reported a.reported taken consumes over_is
     (prefix_within b.written a.written text _ (subst (λ r. IsPrefix text (text_in output r)) (sym whole) text_is) (prefix_of b.written a.written _ text written))
     (prefix_within b.reported a.reported told _ (subst (λ r. IsPrefix told (text_in report r)) (sym whole) told_is) some_told))
-    fails (λ is. absurd (short is)) wants (λ is. absurd (over is))
+    fails (λ is. absurd (short is)) (λ is. absurd (wants is)) (λ is. absurd (over is))
+  where
+    counts : IsPrefix told (tells given) ⊎ ((fault ≡ ReportFault) × Appends b.written a.written (output given))
+        → CountsAreLast (file_meaning f memory wrote tells output report count) (header.steps.reads.taken ++ (nears l1 a.left s1 s2 given near).steps.reads.taken) b a fault
+    counts (inl early) =
+        let steps = nears l1 a.left s1 s2 given near in
+        let consumes = Consumes-trans b.left l1 a.left _ _ header.steps.reads.consumes steps.steps.reads.consumes in
+        let over_is = ends_there f b.left l1 a.left s0 s1 s2 given new header steps.steps end.ended in
+        let whole = file_whole f b.left l1 a.left s0 s1 s2 given begins new header steps.steps end.kept end.rest in
+        inl (taken_all b.left a.left (header.steps.reads.taken ++ steps.steps.reads.taken) _ consumes over_is
+        (prefix_within b.reported a.reported told _ (subst (λ r. IsPrefix told (text_in tells r)) (sym whole) early) (prefix_of b.reported a.reported _ told reported)))
+    counts (inr (is, wrote_all)) =
+        let steps = nears l1 a.left s1 s2 given near in
+        let over_is = ends_there f b.left l1 a.left s0 s1 s2 given new header steps.steps end.ended in
+        let whole = file_whole f b.left l1 a.left s0 s1 s2 given begins new header steps.steps end.kept end.rest in
+        inr (is, over_is, subst (λ r. Appends b.written a.written (text_in output r)) (sym whole) wrote_all)
 
 -- the run is done
 pub done_file : {C R S T U : Type 0} (f : Form R) (memory : Bool) (wrote tells output report : List R → List ℕ) (count : List R → C) (b a : World S T U) (l1 : Option (List ℕ)) (s0 s1 s2 : RecordsState)

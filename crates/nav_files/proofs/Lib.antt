@@ -4,6 +4,7 @@ pub mod SentLemmas
 pub mod RecordLemmas
 pub mod FileLemmas
 pub mod FileEnds
+pub mod Stopping
 pub mod ConvertLemmas
 mod TakenLemmas
 pub mod Surface

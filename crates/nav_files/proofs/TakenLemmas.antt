@@ -2,14 +2,14 @@
 use Rattle.std.proofs.Common.{◌≡◌, ◌⊎◌, inl, inr, ℕ, ◌+◌, ◌<◌, ◌^◌, Bool, true, List, [], ◌∷◌, ◌++◌, length, refl, sym, ap, subst, ◌∙◌, arith, append_assoc, append-nil, length-append}
 use Rattle.std.specs.Prelude.{Option}
 use Rattle.std.specs.Io.KnownBytes.{Appends}
-use Rattle.nav_io.specs.Prefix.{AppendsPrefix, IsPrefix}
+use Rattle.nav_io.specs.Prefix.{IsPrefix}
 use Rattle.rinex_read.specs.Files.{BeginWith, but_last}
 use Rattle.rinex_read.specs.Forms.{Form}
 use Rattle.rinex_read.specs.States.{EarlySteps, IsPaused, NearSteps, RecordsState, GivesRecord, GivesNone}
 use Rattle.one_run.specs.declared.fault.BridgeFault.{BridgeFault}
 use Rattle.one_run.specs.declared.fault.BridgeFault.TheVariants.{ReadFault, WriteFault, ReportFault, NotThisForm, TooLong, NoMemory}
 use Rattle.one_run.specs.Runs.{AppendsBetween}
-use Rattle.one_run.proofs.Surface.{prefix_nil, prefix_same, whole_prefix}
+use Rattle.one_run.proofs.Surface.{prefix_nil, prefix_same}
 use Rattle.nav_files.specs.Files.{text_before}
 use Rattle.nav_files.specs.Mirrors.{BreaksRead}
 use Rattle.nav_files.specs.Taken.{TakenReads, TakesAll, TakesPart}
@@ -112,7 +112,7 @@ part_of_take f text told holds memory left l1 l2 w w1 w2 u u1 u2 s0 s1 s2 read f
           (report far.given start far.held (far.report start begun));
       form = λ is. no_form kind is;
       too_long = λ is. absurd (no_length kind is);
-      wants = λ is. wants kind is;
+      wants = λ is. (wants kind is, gives.low);
       exact = λ is. absurd (no_read kind is);
     }
   where

@@ -45,6 +45,6 @@ pub record TakesPart {R : Type 0} (f : Form R) (text told : List R → List ℕ)
   pub report : (start : Option (List ℕ)) → Appends start reported (told []) → AppendsBetween start reported_new (told (but_last given)) (told given)
   pub form : fault ≡ NotThisForm → ⊥
   pub too_long : fault ≡ TooLong → new.lines.taken ≡ 2 ^ 32
-  pub wants : fault ≡ NoMemory → memory ≡ true
+  pub wants : fault ≡ NoMemory → (memory ≡ true) × (new.lines.taken < 2 ^ 32)
   pub exact : fault ≡ ReadFault → IsPaused new × ((start : Option (List ℕ)) → Appends start written (text []) → Appends start written_new (text given))
       × ((start : Option (List ℕ)) → Appends start reported (told []) → Appends start reported_new (told given))

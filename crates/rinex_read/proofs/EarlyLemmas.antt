@@ -3,16 +3,16 @@ use Rattle.std.proofs.Common.{◌≡◌, ◌⊎◌, inl, inr, ℕ, ◌+◌, ◌-
 use Rattle.std.specs.Prelude.{Option, Result}
 use Rattle.std.proofs.lemmas.List.{map-append}
 use Rattle.nav_io.specs.Lines.{Line, lines_by}
-use Rattle.nav_io.proofs.Surface.{IsPrefixOf, reads_more}
+use Rattle.nav_io.proofs.Surface.{IsPrefixOf, lines_prefix, reads_more}
 use Rattle.rinex_read.specs.declared.judged.HeaderState.{HeaderState}
 use Rattle.rinex_read.specs.declared.judged.HeaderState.TheVariants.{New, Open, Passed, NotRinexNav, OtherVersion}
 use Rattle.rinex_read.specs.declared.judged.HeaderFault.{HeaderFault}
 use Rattle.rinex_read.specs.declared.judged.HeaderFault.TheVariants as faults
-use Rattle.rinex_read.specs.Lines.{text_of_line}
+use Rattle.rinex_read.specs.Lines.{text_of_line, told_lines}
 use Rattle.rinex_read.specs.Forms.{Form, LooksAtKept, begins, is_version}
-use Rattle.rinex_read.specs.Files.{BeginWith, Body, but_last, early_reads, ends_header, header_of, header_passed, is_navigation, reads, reads_behind, records_in, up_to_next, whole_behind}
+use Rattle.rinex_read.specs.Files.{BeginWith, Body, but_last, early_reads, ends_header, file_reads, header_of, header_passed, is_navigation, reads, reads_behind, records_in, up_to_next, whole_behind, whole_reads}
 use Rattle.rinex_read.specs.States.{AreEarly, HeaderSteps, IsNew, IsOver, MayStand, PassesHeader, RecordsState, Steps, file_by, held_reads}
-use Rattle.rinex_read.proofs.FormLemmas.{ended_told}
+use Rattle.rinex_read.proofs.FormLemmas.{ended_told, file_told}
 use Rattle.rinex_read.proofs.NearLemmas.{early_behind, early_prefix}
 use Rattle.rinex_read.proofs.StepLemmas.{none_behind}
 use Rattle.rinex_read.proofs.TakeLemmas.{none_whole}
@@ -201,3 +201,22 @@ header_early f law left left_new old new first steps early still =
     none_before : {X : Type 0} (xs : List X) → BeginWith [] xs → xs ≡ []
     none_before [] h = refl
     none_before (x ∷ xs) (rest, e) = absurd (cc)
+
+-- the records that are whole whatever lines follow are the first of all
+behind_last : {R : Type 0} (r : Result (List R) HeaderFault) → BeginWith (records_in r) (records_in (whole_behind r))
+behind_last (Ok rs) = last_prefix rs
+behind_last (Err fault) = begin_nil []
+
+-- the records that are whole in a beginning are the first of the file
+pub whole_first : {R : Type 0} (f : Form R) → LooksAtKept f → (front rest : List ℕ) → BeginWith (records_in (file_reads f (front ++ rest))) (records_in (whole_reads f front))
+whole_first f law front rest =
+    let lines = lines_prefix false front rest in
+    let a = map text_of_line (lines_by true front) in
+    let b = map text_of_line lines.0 in
+    let texts : told_lines (front ++ rest) ≡ a ++ b = ap (map text_of_line) lines.1 ∙ map-append text_of_line (lines_by true front) lines.0 in
+    let all : records_in (reads_behind f (header_of f 0 (a ++ b))) ≡ records_in (file_reads f (front ++ rest)) =
+    ap (λ (ls : List (List ℕ)). records_in (reads_behind f (header_of f 0 ls))) (sym texts) ∙ ap records_in (file_told f law 0 (front ++ rest)) in
+    let some : whole_of f a ≡ records_in (whole_reads f front) = ap (λ (r : Result (List _) HeaderFault). records_in (whole_behind r)) (ended_told f law 0 front) in
+    subst (BeginWith (records_in (file_reads f (front ++ rest)))) some
+    (subst (λ (l : List _). BeginWith l (whole_of f a)) all
+    (begin_trans (records_in (reads_behind f (header_of f 0 (a ++ b)))) (whole_of f (a ++ b)) (whole_of f a) (behind_last (reads_behind f (header_of f 0 (a ++ b)))) (whole_prefix f a b)))

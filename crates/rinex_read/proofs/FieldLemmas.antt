@@ -19,7 +19,7 @@ use Rattle.rinex_write.specs.Accuracies.{first_from, ura_nominal, ura_greatest, 
 use Rattle.rinex_write.specs.Columns.{blanks, is_blank, is_unknown, is_below_unknown, not_known, unknown_text, shown, IsField, AreFields, column_text, row_text, row_lines, joined_rows, is_good_scale, is_near_scale, is_far_scale, is_good_range, is_good_rule, are_good}
 use Rattle.rinex_read.specs.declared.reason.Reason.{Reason}
 use Rattle.rinex_read.specs.declared.reason.Reason.TheVariants as reasons
-use Rattle.rinex_read.specs.Fields.{◌>>=◌, in_range, sent_or_unknown, taken, whole, is_beyond, or_unknown, field_of, field_at, read_row, read_rows}
+use Rattle.rinex_read.specs.Fields.{◌>>=◌, in_range, sent_or_unknown, taken, whole, or_unknown, field_of, field_at, read_row, read_rows}
 use Rattle.rinex_read.proofs.ColumnLemmas.{columns_at}
 
 pub bind_ok : {A B : Type 0} (r : Result A Reason) (x : A) (f : A → Result B Reason) → r ≡ Ok x → (r >>= f) ≡ f x

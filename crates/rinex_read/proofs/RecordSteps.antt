@@ -1,6 +1,6 @@
 -- How far the next record was read, and the result.
 use Rattle.std.proofs.Common.{◌≡◌, ℕ, ◌≤◌, Bool, true, false, List, [], ◌∷◌, ◌++◌, map, refl, sym, ap, ◌∙◌, subst, arith, append-nil}
-use Rattle.std.specs.Prelude.{Option, Some, None}
+use Rattle.std.specs.Prelude.{Option, Some}
 use Rattle.nav_io.specs.Lines.{Line}
 use Rattle.nav_io.specs.LinesState.{LinesState, Reads, GivesLine, GivesEnd}
 use Rattle.nav_io.specs.LineAnswers.{Answers, Breaks}
@@ -11,7 +11,7 @@ use Rattle.nav_io.specs.declared.lines.LineFault.TheVariants.{ReadFault, TooLong
 use Rattle.rinex_read.specs.Lines.{text_of_line, told_lines}
 use Rattle.rinex_read.specs.Forms.{Form}
 use Rattle.rinex_read.specs.Files.{but_last}
-use Rattle.rinex_read.specs.States.{RecordsState, held_reads, NearSteps, Steps, held_count, lines_left, GivesRecord, GivesRead, BreaksRecord}
+use Rattle.rinex_read.specs.States.{RecordsState, held_reads, NearSteps, Steps, held_count, lines_left, GivesRead, BreaksRecord}
 use Rattle.rinex_read.proofs.NearLemmas.{early_long, early_read, near_end, near_line}
 use Rattle.rinex_read.proofs.NearSteps.{early_steps_more, near_steps_more}
 use Rattle.rinex_read.proofs.TakeLemmas.{line_whole}

@@ -21,7 +21,7 @@ ghost use Rattle.rinex_write.specs.declared.words.HeaderWords.{HeaderWords};
 ghost use Rattle.rinex_write.specs.Texts.{IsHeader, header_lines, item_lines, rinex_text, text_of};
 ghost use Rattle.rinex_read.specs.declared.judged.Judged.TheVariants as judgments;
 ghost use Rattle.rinex_read.specs.Judging.{judged};
-ghost use Rattle.rinex_read.specs.Files.{BeginWith, early_reads, file_reads, items_of};
+ghost use Rattle.rinex_read.specs.Files.{BeginWith, early_reads, file_reads, items_of, records_in};
 ghost use Rattle.rinex_read.specs.Files.{rinex_list, whole_reads};
 ghost use Rattle.rinex_read.specs.declared.judged.HeaderState.TheVariants.{Passed};
 ghost use Rattle.rinex_read.specs.RoundTrip.{AllStand, AreHeaderLines, AreItems};
@@ -150,7 +150,8 @@ pub fn whole_records_are_given<R, F: FileForm<R>>(form: &F)
 }
 
 /// The records that are complete in all bytes taken but the last 4,096 were given, also if the
-/// reader broke off; before the end of a header there are none.
+/// reader broke off; before the end of a header there are none. Those that are complete in the first
+/// bytes of a file are its first.
 pub fn early_records_are_given<R, F: FileForm<R>>(form: &F)
     ensures records { (left middle left_new : Option (List ℕ)) (old now new : RecordsState)
         (given : List R) → IsNew old → (header : PassesHeader (F.form form.now) left middle old now)
@@ -161,6 +162,9 @@ pub fn early_records_are_given<R, F: FileForm<R>>(form: &F)
         → (steps : HeaderSteps (F.form form.now) left left_new old new)
         → AreEarly old.lines steps.reads.taken steps.lines → (new.header ≡ Passed → ⊥)
         → early_reads (F.form form.now) steps.reads.taken ≡ [] }
+    ensures first { (front rest : List ℕ)
+        → BeginWith (records_in (file_reads (F.form form.now) (front ++ rest)))
+        (records_in (whole_reads (F.form form.now) front)) }
 {
     form.looks_at_kept();
 }
