@@ -1,5 +1,5 @@
 -- A run that is given no report, or no input, seen as one whose report or input stays unchanged.
-use Rattle.std.proofs.Common.{◌≡◌, ℕ, Bool, false, true, List, [], Option, None, Some, Result, Ok, Err, refl, sym, ap, subst, ◌∙◌}
+use Rattle.std.proofs.Common.{◌≡◌, ◌⊎◌, inl, inr, ℕ, Bool, false, true, List, [], Option, None, Some, Result, Ok, Err, refl, sym, ap, subst, ◌∙◌}
 use Rattle.std.specs.Prelude.{IfSome, IsSome, OnErr, if◌then◌else◌}
 use Rattle.std.specs.Io.KnownBytes.{Appends, Consumes, IsAtEnd}
 use Rattle.std.proofs.KnownBytes.{Appends-nil}
@@ -7,7 +7,7 @@ use Rattle.one_run.specs.declared.fault.BridgeFault.{BridgeFault}
 use Rattle.one_run.specs.declared.fault.BridgeFault.TheVariants.{ReadFault, WriteFault, ReportFault, NotThisForm, TooLong, NoMemory}
 use Rattle.nav_io.specs.Prefix.{AppendsPrefix, IsPrefix}
 use Rattle.one_run.specs.Causes.{Faults, HasItsCause}
-use Rattle.one_run.specs.Runs.{AppendsBetween, Ended, IsAheadOf, Meaning, Says, Flushes, Texts, World, bytes_for, faults_in, world}
+use Rattle.one_run.specs.Runs.{AppendsAll, AppendsBetween, CountsAreLast, Ended, IsAheadOf, Meaning, Says, StopAtOnePlace, Flushes, Texts, World, bytes_for, faults_in, world}
 use Rattle.one_run.proofs.Surface.{no_prefix, none_failed, nothing_told, prefix_nil, read_failed, report_failed, write_failed}
 
 no_such : (b : Bool) → b ≡ true → b ≡ false → ⊥
@@ -57,6 +57,20 @@ ahead_beside : (whole : Texts) (o w w' v v' u : Option (List ℕ)) → IsAheadOf
 ahead_beside whole None w w' v v' u h = tt
 ahead_beside whole (Some bytes) w w' v v' u h = (h.0, no_prefix u (whole.report bytes))
 
+-- output and report still stop at one place: nothing is decided of the report that is nowhere
+all_none : (o o' : Option (List ℕ)) (text : List ℕ) (u : Option (List ℕ)) → o ≡ Some [] → o' ≡ Some [] → AppendsAll o o' text → AppendsAll u u text
+all_none o o' text u is is' (all, begins, grew) = ([], subst (IsPrefix text) (no_text o o' all is is' grew) begins, Appends-nil u)
+
+stopped_beside : (decided : Option Texts) (o w w' v v' u : Option (List ℕ)) → v ≡ Some [] → v' ≡ Some [] → StopAtOnePlace decided o w w' v v' → StopAtOnePlace decided o w w' u u
+stopped_beside None o w w' v v' u is is' h = tt
+stopped_beside (Some decided) None w w' v v' u is is' h = tt
+stopped_beside (Some decided) (Some bytes) w w' v v' u is is' h = λ front begins. by front (h front begins)
+  where
+    by : (front : List ℕ) → (AppendsAll w w' (decided.output front) × AppendsAll v v' (decided.report front)) ⊎ (AppendsPrefix w w' (decided.output front) × AppendsPrefix v v' (decided.report front))
+        → (AppendsAll w w' (decided.output front) × AppendsAll u u (decided.report front)) ⊎ (AppendsPrefix w w' (decided.output front) × AppendsPrefix u u (decided.report front))
+    by front (inl both) = inl (both.0, all_none v v' (decided.report front) u is is' both.1)
+    by front (inr neither) = inr (neither.0, no_prefix u (decided.report front))
+
 quiet_beside : {S T U V : Type 0} (b a : World S T V) (report : U) (u : Option (List ℕ)) (failed : ℕ) → faults_in a ≡ faults_in b
     → faults_in (with_report a report u failed) ≡ faults_in (with_report b report u failed)
 quiet_beside b a report u failed quiet =
@@ -95,7 +109,8 @@ beside_report m b a report u failed (Err fault) none before after broke = record
   text = broke.text;
   told = between_none b.reported a.reported (m.least.report broke.taken) (m.whole.report broke.taken) u before after broke.told;
   ahead = ahead_beside m.whole (bytes_for m b) b.written a.written b.reported a.reported u broke.ahead;
-  no_counts = λ other. nothing_told m.rejections (bytes_for m b) u u refl;
+  stopped = stopped_beside m.flushed (bytes_for m b) b.written a.written b.reported a.reported u before after broke.stopped;
+  counts_last = inl (nothing_told m.rejections (bytes_for m b) u u refl);
   cause = cause_beside m broke.taken b a report u failed fault none broke.says broke.cause;
   leaves = record { unread = broke.leaves.unread; silent = λ same. refl };
   says = says_beside m broke.taken b a report u failed fault none before after broke.says;
@@ -123,7 +138,14 @@ says_of_none m taken b a input left never failed NotThisForm none says =
     (says.0, subst (λ (o : Option (List ℕ)). IfSome o (λ bytes. m.counts bytes ≡ None)) (none_for m b (with_input b input left never failed) none) says.1, says.2, says.3)
 says_of_none m taken b a input left never failed TooLong none says = says
 says_of_none m taken b a input left never failed NoMemory none says =
-    (says.0, subst (λ (o : Option (List ℕ)). IfSome o (λ bytes. IsSome (m.counts bytes))) (none_for m b (with_input b input left never failed) none) says.1)
+    (says.0, subst (λ (o : Option (List ℕ)). IfSome o (λ bytes. IsSome (m.counts bytes))) (none_for m b (with_input b input left never failed) none) says.1, says.2)
+
+counts_last_of_none : {C R S T U : Type 0} (m : Meaning C) (taken : List ℕ) (b a : World R T U) (input : S) (left : Option (List ℕ)) (never : Bool) (failed : ℕ) (fault : BridgeFault)
+    → m.reads ≡ false → CountsAreLast m taken b a fault → CountsAreLast m taken (with_input b input left never failed) (with_input a input left never failed) fault
+counts_last_of_none m taken b a input left never failed fault none (inl no_counts) =
+    inl (subst (λ (o : Option (List ℕ)). IfSome o (λ bytes. AppendsPrefix b.reported a.reported (m.rejections bytes))) (none_for m b (with_input b input left never failed) none) no_counts)
+counts_last_of_none m taken b a input left never failed fault none (inr last) =
+    inr (last.0, subst IsAtEnd (none_for m a (with_input a input left never failed) none) last.1, last.2)
 
 quiet_of_none : {R S T U : Type 0} (b a : World R T U) (input : S) (left : Option (List ℕ)) (never : Bool) (failed : ℕ) → faults_in a ≡ faults_in b
     → faults_in (with_input a input left never failed) ≡ faults_in (with_input b input left never failed)
@@ -168,8 +190,8 @@ beside_input m b a input left never failed (Err fault) none broke = record {
   text = broke.text;
   told = broke.told;
   ahead = subst (λ (o : Option (List ℕ)). IsAheadOf m.whole o b.written a.written b.reported a.reported) (none_for m b (with_input b input left never failed) none) broke.ahead;
-  no_counts = λ other. subst (λ (o : Option (List ℕ)). IfSome o (λ bytes. AppendsPrefix b.reported a.reported (m.rejections bytes)))
-      (none_for m b (with_input b input left never failed) none) (broke.no_counts other);
+  stopped = subst (λ (o : Option (List ℕ)). StopAtOnePlace m.flushed o b.written a.written b.reported a.reported) (none_for m b (with_input b input left never failed) none) broke.stopped;
+  counts_last = counts_last_of_none m broke.taken b a input left never failed fault none broke.counts_last;
   cause = cause_of_none m broke.taken b a input left never failed fault none broke.says broke.cause;
   leaves = record { unread = λ same. refl; silent = broke.leaves.silent };
   says = says_of_none m broke.taken b a input left never failed fault none broke.says;
