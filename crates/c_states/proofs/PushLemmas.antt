@@ -120,6 +120,7 @@ cut_at it job bytes whole fault answer tells cut = record {
   output = cut.output;
   least_report = cut.least_report;
   report = cut.report;
+  stopped = cut.stopped;
   counts_last = cut.counts_last;
 }
 

@@ -3,11 +3,12 @@ use Rattle.std.proofs.Common.{◌≡◌, ◌≢◌, ◌⊎◌, inl, inr, ℕ, �
 use Rattle.std.specs.Prelude.{Option, None, Some, option_map, IfSome, IsSome, Result, Ok, Err, IfErr, OnErr, OnOk}
 use Rattle.std.specs.Io.KnownBytes.{Appends}
 use Rattle.nav_io.specs.Prefix.{AppendsPrefix, IsPrefix}
+use Rattle.one_run.specs.Runs.{StopAtOnePlace, Texts}
 use Rattle.one_run.specs.declared.fault.BridgeFault.{BridgeFault}
 use Rattle.one_run.specs.declared.fault.BridgeFault.TheVariants.{NoMemory, NotThisForm, ReadFault, ReportFault, TooLong, WriteFault}
 use Rattle.outlets.specs.Targets.{prefix_text, item_text}
 use Rattle.outlets.specs.declared.target.Target.{Target}
-use Rattle.captures.specs.Captures.{Capture as OfLines, capture_of, counts_in, flushed_output, flushed_report, output_of, refusals_text, report_of_capture, target_of}
+use Rattle.captures.specs.Captures.{Capture as OfLines, capture_of, counts_in, flushed_output, flushed_report, flushed_texts, output_of, refusals_text, report_of_capture, target_of}
 use Rattle.captures.specs.Pushed.{CaptureRunState, CutSays, IsCutShort as IsCaptureCut, IsPushed as IsCapturePushed, IsWhole as IsCaptureWhole}
 use Rattle.captures.specs.declared.counts.CaptureCounts.{CaptureCounts}
 use Rattle.streams.specs.Mirrors.{IsStreamFault}
@@ -79,6 +80,18 @@ last_named output report some some' text text' same all (inl none) =
     inl (subst (IsPrefix report) same (subst (λ (l : List ℕ). IsPrefix l some) (sym none.2) none.1))
 last_named output report some some' text text' same all (inr is) = inr (is ∙ all)
 
+-- what bytes of a stream decide
+abbrev decided_of : Target → ℕ → Texts
+decided_of t r = record { output = λ bytes. flushed_text bytes t r; report = λ bytes. flushed_told bytes t r }
+
+-- where output and report stop, as another target and week name the texts
+stopped_named : {W : Type 0} (t t' : Target) (w w' : W) (texts : Target → W → Texts) (whole output report : List ℕ) → t ≡ t' → w ≡ w'
+    → StopAtOnePlace (Some (texts t w)) (Some whole) (Some []) (Some output) (Some []) (Some report)
+    → StopAtOnePlace (Some (texts t' w')) (Some whole) (Some []) (Some output) (Some []) (Some report)
+stopped_named {W} t t' w w' texts whole output report to week stopped =
+    subst (λ (x : Target). StopAtOnePlace (Some (texts x w')) (Some whole) (Some []) (Some output) (Some []) (Some report)) to
+    (subst (λ (x : W). StopAtOnePlace (Some (texts t x)) (Some whole) (Some []) (Some output) (Some []) (Some report)) week stopped)
+
 -- whatever failed
 without : {A P B : Type 0} → A ⊎ (P × B) → A ⊎ B
 without (inl a) = inl a
@@ -140,6 +153,7 @@ cut_capture run job bytes whole output report fault to week cut =
           (subst (λ (l : List ℕ). IsPrefix (flushed_report run.week bytes) l) rep cut.report.no_less);
       report = subst (λ (l : List ℕ). IsPrefix report l) (of_job (λ t w. report_of_capture w whole))
           (subst (λ (l : List ℕ). IsPrefix l (report_of_capture run.week whole)) rep cut.report.within);
+      stopped = stopped_named run.to (target_of job.to) run.week job.week flushed_texts whole output report to week cut.stopped;
       counts_last = last_named output report _ _ _ _ (of_job (λ t w. refusals_text (capture_of w whole))) (of_job (λ t w. output_of t w whole)) (without cut.counts_last);
     }
 
@@ -215,6 +229,7 @@ cut_stream run job size bytes whole output report fault to week kind within cut 
           (subst (λ (l : List ℕ). IsPrefix (flushed_told bytes run.to run.week) l) rep cut.report.no_less);
       report = subst (λ (l : List ℕ). IsPrefix report l) (of_job (whole_told whole))
           (subst (λ (l : List ℕ). IsPrefix l (whole_told whole run.to run.week)) rep cut.report.within);
+      stopped = stopped_named run.to (target_of_stream job.to) run.week job.week decided_of whole output report to week cut.stopped;
       counts_last = last_named output report _ _ _ _ (of_job (whole_lines whole)) (of_job (whole_text whole)) cut.counts_last;
     }
 

@@ -1,7 +1,8 @@
 -- What a run makes of the bytes that a conversion hands to it, whatever its conversion. Private
 -- functions cite these.
-use Rattle.std.specs.Prelude.{◌≡◌, ◌≢◌, ◌⊎◌, ◌≤◌, ℕ, List, ◌++◌, length, None, IfSome, IsSome}
+use Rattle.std.specs.Prelude.{◌≡◌, ◌≢◌, ◌⊎◌, ◌≤◌, ℕ, List, [], ◌++◌, length, None, Some, IfSome, IsSome}
 use Rattle.nav_io.specs.Prefix.{IsPrefix}
+use Rattle.one_run.specs.Runs.{StopAtOnePlace}
 use Rattle.one_run.specs.declared.fault.BridgeFault.{BridgeFault}
 use Rattle.one_run.specs.declared.fault.BridgeFault.TheVariants.{NotThisForm, ReadFault, TooLong}
 use Rattle.bridge_engine.specs.Meanings.{meaning_of}
@@ -28,7 +29,7 @@ KeepsReleased run output output_new report report_new =
 
 -- A run of this conversion was ended early by an error, which is none of a read: what `bytes`
 -- decide was written and reported, and of what the complete input gives no more than a prefix.
--- Counts are reported last.
+-- Both stop at one place, and counts are reported last.
 pub record IsCut (job : Job) (bytes whole written reported : List ℕ) (fault : BridgeFault) : Type 0 where
   pub read : fault ≢ ReadFault
   pub form : fault ≡ NotThisForm → (meaning_of job).counts whole ≡ None
@@ -38,6 +39,7 @@ pub record IsCut (job : Job) (bytes whole written reported : List ℕ) (fault : 
   pub output : IsPrefix written ((meaning_of job).whole.output whole)
   pub least_report : IfSome (meaning_of job).flushed (λ texts. IsPrefix (texts.report bytes) reported)
   pub report : IsPrefix reported ((meaning_of job).whole.report whole)
+  pub stopped : StopAtOnePlace (meaning_of job).flushed (Some whole) (Some []) (Some written) (Some []) (Some reported)
   pub counts_last : IsPrefix reported ((meaning_of job).rejections whole) ⊎ (written ≡ (meaning_of job).whole.output whole)
 
 -- a piece was not taken complete

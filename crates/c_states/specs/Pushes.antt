@@ -1,6 +1,7 @@
 -- A conversion whose input is pushed in pieces: what its steps leave, and what it is to hold one in memory.
 use Rattle.std.specs.Prelude.{◌≡◌, ◌≢◌, ◌⊎◌, ◌↔◌, ◌≤◌, ◌^◌, ◌+◌, ◌-◌, ◌*◌, ℕ, List, [], ◌++◌, length, take, drop, min, All, IsUtf8, None, Some, IfSome, IsSome}
 use Rattle.nav_io.specs.Prefix.{IsPrefix}
+use Rattle.one_run.specs.Runs.{StopAtOnePlace}
 use Rattle.captures.specs.Captures.{target_of}
 use Rattle.captures.specs.Pushed.{IsPushed as IsCapturePushed}
 use Rattle.streams.specs.Pushed.{IsPushed}
@@ -97,6 +98,8 @@ pub record IsCutAt (s : PushState) (job : Job) (bytes whole : List ℕ) (answer 
   pub output : IsPrefix s.output ((meaning_of job).whole.output whole)
   pub least_report : IfSome (meaning_of job).flushed (λ texts. IsPrefix (texts.report bytes) s.report)
   pub report : IsPrefix s.report ((meaning_of job).whole.report whole)
+  -- both stop at one place
+  pub stopped : StopAtOnePlace (meaning_of job).flushed (Some whole) (Some []) (Some s.output) (Some []) (Some s.report)
   -- no counts were reported, or the whole output was written
   pub counts_last : IsPrefix s.report ((meaning_of job).rejections whole) ⊎ (s.output ≡ (meaning_of job).whole.output whole)
 
