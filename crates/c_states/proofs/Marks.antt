@@ -1,11 +1,12 @@
 -- Texts that are written after a number, which no write changes: what a run says of them is what it says without the number.
-use Rattle.std.proofs.Common.{◌≡◌, ℕ, List, [], ◌∷◌, ◌++◌, length, ap}
+use Rattle.std.proofs.Common.{◌≡◌, ◌⊎◌, inl, inr, ℕ, List, [], ◌∷◌, ◌++◌, length, ap}
 use Rattle.std.specs.Prelude.{Option, None, Some}
 use Rattle.std.specs.Io.KnownBytes.{Appends}
 use Rattle.nav_io.specs.Prefix.{AppendsPrefix}
 use Rattle.nav_io.specs.Lines.{Line}
-use Rattle.one_run.specs.Runs.{AppendsBetween}
+use Rattle.one_run.specs.Runs.{AppendsAll, AppendsBetween, StopAtOnePlace, Texts}
 use Rattle.one_run.specs.declared.fault.BridgeFault.{BridgeFault}
+use Rattle.one_run.specs.declared.fault.BridgeFault.TheVariants.{ReportFault}
 use Rattle.outlets.specs.Targets.{prefix_text}
 use Rattle.outlets.specs.declared.target.Target.{Target}
 use Rattle.streams.specs.Pushed.{IsCutShort, IsPushed, IsWhole, StreamRunState}
@@ -37,6 +38,36 @@ between_bare n n' text least whole is = record { prefix = is.prefix; within = is
 
 prefix_bare : (n n' : ℕ) (text whole : List ℕ) → AppendsPrefix (Some (n ∷ [])) (Some (n' ∷ text)) whole → AppendsPrefix (Some []) (Some text) whole
 prefix_bare n n' text whole is = (is.0, is.1, ap rest is.2)
+
+all_bare : (n n' : ℕ) (text least : List ℕ) → AppendsAll (Some (n ∷ [])) (Some (n' ∷ text)) least → AppendsAll (Some []) (Some text) least
+all_bare n n' text least is = (is.0, is.1, ap rest is.2)
+
+-- where output and report stop
+stopped_bare : (n n' m m' : ℕ) (output report : List ℕ) (texts : Texts) (whole : List ℕ)
+    → StopAtOnePlace (Some texts) (Some whole) (Some (n ∷ [])) (Some (n' ∷ output)) (Some (m ∷ [])) (Some (m' ∷ report))
+    → StopAtOnePlace (Some texts) (Some whole) (Some []) (Some output) (Some []) (Some report)
+stopped_bare n n' m m' output report texts whole is = λ front begins. at front (is front begins)
+  where
+    at : (front : List ℕ)
+        → (AppendsAll (Some (n ∷ [])) (Some (n' ∷ output)) (texts.output front) × AppendsAll (Some (m ∷ [])) (Some (m' ∷ report)) (texts.report front))
+        ⊎ (AppendsPrefix (Some (n ∷ [])) (Some (n' ∷ output)) (texts.output front) × AppendsPrefix (Some (m ∷ [])) (Some (m' ∷ report)) (texts.report front))
+        → (AppendsAll (Some []) (Some output) (texts.output front) × AppendsAll (Some []) (Some report) (texts.report front))
+        ⊎ (AppendsPrefix (Some []) (Some output) (texts.output front) × AppendsPrefix (Some []) (Some report) (texts.report front))
+    at front (inl all) = inl (all_bare n n' output _ all.0, all_bare m m' report _ all.1)
+    at front (inr some) = inr (prefix_bare n n' output _ some.0, prefix_bare m m' report _ some.1)
+
+-- counts were reported last, or none were
+last_bare : (n n' m m' : ℕ) (output report rejections text : List ℕ)
+    → AppendsPrefix (Some (m ∷ [])) (Some (m' ∷ report)) rejections ⊎ Appends (Some (n ∷ [])) (Some (n' ∷ output)) text
+    → AppendsPrefix (Some []) (Some report) rejections ⊎ Appends (Some []) (Some output) text
+last_bare n n' m m' output report rejections text (inl none) = inl (prefix_bare m m' report rejections none)
+last_bare n n' m m' output report rejections text (inr all) = inr (ap rest all)
+
+last_of_bare : (P : Type 0) (n n' m m' : ℕ) (output report rejections text : List ℕ)
+    → AppendsPrefix (Some (m ∷ [])) (Some (m' ∷ report)) rejections ⊎ (P × Appends (Some (n ∷ [])) (Some (n' ∷ output)) text)
+    → AppendsPrefix (Some []) (Some report) rejections ⊎ (P × Appends (Some []) (Some output) text)
+last_of_bare P n n' m m' output report rejections text (inl none) = inl (prefix_bare m m' report rejections none)
+last_of_bare P n n' m m' output report rejections text (inr all) = inr (all.0, ap rest all.1)
 
 -- ---- a stream
 
@@ -81,7 +112,12 @@ module _ (run : StreamRunState) (bytes : List ℕ) (n n' m m' : ℕ) (output rep
 
   pub stream_cut_bare : (whole : List ℕ) → IsCutShort run bytes whole (Some (n ∷ [])) (Some (n' ∷ output)) (Some (m ∷ [])) (Some (m' ∷ report))
       → IsCutShort run bytes whole (Some []) (Some output) (Some []) (Some report)
-  stream_cut_bare whole is = record { output = between_bare n n' output _ _ is.output; report = prefix_bare m m' report _ is.report }
+  stream_cut_bare whole is = record {
+    output = between_bare n n' output _ _ is.output;
+    report = between_bare m m' report _ _ is.report;
+    stopped = stopped_bare n n' m m' output report _ whole is.stopped;
+    counts_last = last_bare n n' m m' output report _ _ is.counts_last;
+  }
 
   pub stream_whole_bare : IsWhole run bytes (Some (n ∷ [])) (Some (n' ∷ output)) (Some (m ∷ [])) (Some (m' ∷ report))
       → IsWhole run bytes (Some []) (Some output) (Some []) (Some report)
@@ -197,7 +233,9 @@ module _ (run : CaptureRunState) (bytes : List ℕ) (n n' m m' : ℕ) (output re
       → IsCaptureCut run.to run.week bytes whole (Some []) (Some output) (Some []) (Some report) fault
   capture_cut_bare whole fault is = record {
     output = between_bare n n' output _ _ is.output;
-    report = prefix_bare m m' report _ is.report;
+    report = between_bare m m' report _ _ is.report;
+    stopped = stopped_bare n n' m m' output report _ whole is.stopped;
+    counts_last = last_of_bare (fault ≡ ReportFault) n n' m m' output report _ _ is.counts_last;
     says = is.says;
   }
 
@@ -240,7 +278,7 @@ module _ (o o' r r' : Pending) where
       → IsCaptureCut run.to run.week bytes ((bytes ++ piece) ++ more) (Some []) (Some (all_of o')) (Some []) (Some (all_of r')) fault × Same o o' r r'
   capture_off run piece fault short bytes more is =
       let it = short bytes more (Some (n ∷ [])) (Some (m ∷ [])) (capture_marked run bytes n n m m (all_of o) (all_of r) is) in
-      (capture_cut_bare run bytes n n' m m' (all_of o') (all_of r') ((bytes ++ piece) ++ more) fault it, (ap first it.output.grew, ap first it.report.2))
+      (capture_cut_bare run bytes n n' m m' (all_of o') (all_of r') ((bytes ++ piece) ++ more) fault it, (ap first it.output.grew, ap first it.report.grew))
 
   pub capture_all : (run : CaptureRunState) (counts : CaptureCounts)
       → ((bytes : List ℕ) (start begun : Option (List ℕ)) → IsCapturePushed run bytes start (Some (marked_text o)) begun (Some (marked_text r))
@@ -258,7 +296,7 @@ module _ (o o' r r' : Pending) where
       → IsCaptureCut run.to run.week bytes bytes (Some []) (Some (all_of o')) (Some []) (Some (all_of r')) fault × Same o o' r r'
   capture_short run fault short bytes is =
       let it = short bytes (Some (n ∷ [])) (Some (m ∷ [])) (capture_marked run bytes n n m m (all_of o) (all_of r) is) in
-      (capture_cut_bare run bytes n n' m m' (all_of o') (all_of r') bytes fault it, (ap first it.output.grew, ap first it.report.2))
+      (capture_cut_bare run bytes n n' m m' (all_of o') (all_of r') bytes fault it, (ap first it.output.grew, ap first it.report.grew))
 
   pub capture_keeps : (run : CaptureRunState)
       → ((bytes : List ℕ) → IsCapturePushed run bytes (Some []) (Some (all_of o)) (Some []) (Some (all_of r)) → Same o o' r r')
@@ -282,7 +320,7 @@ module _ (o o' r r' : Pending) where
       → IsCutShort run bytes ((bytes ++ piece) ++ more) (Some []) (Some (all_of o')) (Some []) (Some (all_of r')) × Same o o' r r'
   stream_off run piece short bytes more is =
       let it = short bytes more (Some (n ∷ [])) (Some (m ∷ [])) (stream_marked run bytes n n m m (all_of o) (all_of r) is) in
-      (stream_cut_bare run bytes n n' m m' (all_of o') (all_of r') ((bytes ++ piece) ++ more) it, (ap first it.output.grew, ap first it.report.2))
+      (stream_cut_bare run bytes n n' m m' (all_of o') (all_of r') ((bytes ++ piece) ++ more) it, (ap first it.output.grew, ap first it.report.grew))
 
   pub stream_all : (run : StreamRunState)
       → ((bytes : List ℕ) (start begun : Option (List ℕ)) → IsPushed run bytes start (Some (marked_text o)) begun (Some (marked_text r))
@@ -300,7 +338,7 @@ module _ (o o' r r' : Pending) where
       → IsCutShort run bytes bytes (Some []) (Some (all_of o')) (Some []) (Some (all_of r')) × Same o o' r r'
   stream_short run short bytes is =
       let it = short bytes (Some (n ∷ [])) (Some (m ∷ [])) (stream_marked run bytes n n m m (all_of o) (all_of r) is) in
-      (stream_cut_bare run bytes n n' m m' (all_of o') (all_of r') bytes it, (ap first it.output.grew, ap first it.report.2))
+      (stream_cut_bare run bytes n n' m m' (all_of o') (all_of r') bytes it, (ap first it.output.grew, ap first it.report.grew))
 
   pub stream_keeps : (run : StreamRunState)
       → ((bytes : List ℕ) → IsPushed run bytes (Some []) (Some (all_of o)) (Some []) (Some (all_of r)) → Same o o' r r')

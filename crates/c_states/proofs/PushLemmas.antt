@@ -118,7 +118,10 @@ cut_at it job bytes whole fault answer tells cut = record {
   lack = λ six. cut.lack (tells.lack six).0 (tells.lack six).1;
   least = cut.least;
   output = cut.output;
+  least_report = cut.least_report;
   report = cut.report;
+  stopped = cut.stopped;
+  counts_last = cut.counts_last;
 }
 
 not_too_long : (answer : ℕ) → (answer ≡ 8 → ⊥) → (answer ≡ 5) ⊎ (answer ≡ 6) ⊎ (answer ≡ 8) → (answer ≡ 0) ⊎ (answer ≡ 5) ⊎ (answer ≡ 6)

@@ -1,17 +1,19 @@
 -- What a run says of a piece and of the end, as its job says it.
-use Rattle.std.proofs.Common.{◌≡◌, ◌≢◌, inl, inr, ℕ, ◌+◌, ◌^◌, ◌≤◌, List, [], ◌++◌, length, refl, sym, ap, ◌∙◌, subst, arith, length-append}
+use Rattle.std.proofs.Common.{◌≡◌, ◌≢◌, ◌⊎◌, inl, inr, ℕ, ◌+◌, ◌^◌, ◌≤◌, List, [], ◌++◌, length, refl, sym, ap, ◌∙◌, subst, arith, length-append}
 use Rattle.std.specs.Prelude.{Option, None, Some, option_map, IfSome, IsSome, Result, Ok, Err, IfErr, OnErr, OnOk}
-use Rattle.nav_io.specs.Prefix.{IsPrefix}
+use Rattle.std.specs.Io.KnownBytes.{Appends}
+use Rattle.nav_io.specs.Prefix.{AppendsPrefix, IsPrefix}
+use Rattle.one_run.specs.Runs.{StopAtOnePlace, Texts}
 use Rattle.one_run.specs.declared.fault.BridgeFault.{BridgeFault}
 use Rattle.one_run.specs.declared.fault.BridgeFault.TheVariants.{NoMemory, NotThisForm, ReadFault, ReportFault, TooLong, WriteFault}
 use Rattle.outlets.specs.Targets.{prefix_text, item_text}
 use Rattle.outlets.specs.declared.target.Target.{Target}
-use Rattle.captures.specs.Captures.{Capture as OfLines, capture_of, counts_in, flushed_output, flushed_report, output_of, report_of_capture, target_of}
+use Rattle.captures.specs.Captures.{Capture as OfLines, capture_of, counts_in, flushed_output, flushed_report, flushed_texts, output_of, refusals_text, report_of_capture, target_of}
 use Rattle.captures.specs.Pushed.{CaptureRunState, CutSays, IsCutShort as IsCaptureCut, IsPushed as IsCapturePushed, IsWhole as IsCaptureWhole}
 use Rattle.captures.specs.declared.counts.CaptureCounts.{CaptureCounts}
 use Rattle.streams.specs.Mirrors.{IsStreamFault}
 use Rattle.streams.specs.Pushed.{IsCutShort, IsPushFault, IsPushed, IsWhole, StreamRunState}
-use Rattle.streams.specs.Streams.{flushed_output_by, flushed_readings, readings_report, stream_output_by, stream_report}
+use Rattle.streams.specs.Streams.{flushed_output_by, flushed_readings, readings_report, stream_output_by, stream_readings, stream_report}
 use Rattle.streams.specs.Targets.{target_of_stream}
 use Rattle.bridge_engine.specs.Meanings.{meaning_of}
 use Rattle.bridge_engine.specs.declared.done.Done.{Done}
@@ -68,6 +70,33 @@ whole_text bytes t r = stream_output_by (prefix_text t) (item_text t 0) r bytes
 abbrev whole_told : List ℕ → Target → ℕ → List ℕ
 whole_told bytes t r = stream_report r bytes
 
+abbrev whole_lines : List ℕ → Target → ℕ → List ℕ
+whole_lines bytes t r = readings_report 1 (stream_readings r bytes)
+
+-- no counts were reported, or the whole output was written, as another one names the texts
+last_named : (output report some some' text text' : List ℕ) → some ≡ some' → text ≡ text'
+    → AppendsPrefix (Some []) (Some report) some ⊎ Appends (Some []) (Some output) text → IsPrefix report some' ⊎ (output ≡ text')
+last_named output report some some' text text' same all (inl none) =
+    inl (subst (IsPrefix report) same (subst (λ (l : List ℕ). IsPrefix l some) (sym none.2) none.1))
+last_named output report some some' text text' same all (inr is) = inr (is ∙ all)
+
+-- what bytes of a stream decide
+abbrev decided_of : Target → ℕ → Texts
+decided_of t r = record { output = λ bytes. flushed_text bytes t r; report = λ bytes. flushed_told bytes t r }
+
+-- where output and report stop, as another target and week name the texts
+stopped_named : {W : Type 0} (t t' : Target) (w w' : W) (texts : Target → W → Texts) (whole output report : List ℕ) → t ≡ t' → w ≡ w'
+    → StopAtOnePlace (Some (texts t w)) (Some whole) (Some []) (Some output) (Some []) (Some report)
+    → StopAtOnePlace (Some (texts t' w')) (Some whole) (Some []) (Some output) (Some []) (Some report)
+stopped_named {W} t t' w w' texts whole output report to week stopped =
+    subst (λ (x : Target). StopAtOnePlace (Some (texts x w')) (Some whole) (Some []) (Some output) (Some []) (Some report)) to
+    (subst (λ (x : W). StopAtOnePlace (Some (texts t x)) (Some whole) (Some []) (Some output) (Some []) (Some report)) week stopped)
+
+-- whatever failed
+without : {A P B : Type 0} → A ⊎ (P × B) → A ⊎ B
+without (inl a) = inl a
+without (inr b) = inr b.1
+
 -- what the bytes pushed decide was made
 abbrev pub HasFlushed : Job → List ℕ → List ℕ → List ℕ → Type 0
 HasFlushed job bytes output report = IfSome (meaning_of job).flushed (λ texts. (output ≡ texts.output bytes) × (report ≡ texts.report bytes))
@@ -109,7 +138,7 @@ cut_capture : (run : CaptureRunState) (job : CaptureJob) (bytes whole output rep
 cut_capture run job bytes whole output report fault to week cut =
     let of_job = named run.to (target_of job.to) run.week job.week to week in
     let out : cut.output.prefix ≡ output = sym cut.output.grew in
-    let rep : cut.report.0 ≡ report = sym cut.report.2 in
+    let rep : cut.report.prefix ≡ report = sym cut.report.grew in
     record {
       read = λ e. subst (CutSays run.week whole) e cut.says;
       form = λ e. ap (λ (w : Option ℕ). forgotten (counts_in (capture_of w whole))) (sym week)
@@ -120,8 +149,12 @@ cut_capture run job bytes whole output report fault to week cut =
           (subst (λ (l : List ℕ). IsPrefix (flushed_output run.to run.week bytes) l) out cut.output.no_less);
       output = subst (λ (l : List ℕ). IsPrefix output l) (of_job (λ t w. output_of t w whole))
           (subst (λ (l : List ℕ). IsPrefix l (output_of run.to run.week whole)) out cut.output.within);
+      least_report = subst (λ (l : List ℕ). IsPrefix l report) (of_job (λ t w. flushed_report w bytes))
+          (subst (λ (l : List ℕ). IsPrefix (flushed_report run.week bytes) l) rep cut.report.no_less);
       report = subst (λ (l : List ℕ). IsPrefix report l) (of_job (λ t w. report_of_capture w whole))
-          (subst (λ (l : List ℕ). IsPrefix l (report_of_capture run.week whole)) rep cut.report.1);
+          (subst (λ (l : List ℕ). IsPrefix l (report_of_capture run.week whole)) rep cut.report.within);
+      stopped = stopped_named run.to (target_of job.to) run.week job.week flushed_texts whole output report to week cut.stopped;
+      counts_last = last_named output report _ _ _ _ (of_job (λ t w. refusals_text (capture_of w whole))) (of_job (λ t w. output_of t w whole)) (without cut.counts_last);
     }
 
 pub capture_goes : (run run' : CaptureRunState) (piece output output' report report' : List ℕ) → (run'.to ≡ run.to) × (run'.week ≡ run.week)
@@ -166,23 +199,23 @@ capture_ends_short run output output' report report' fault short job bytes is = 
 -- ---- a stream's run
 
 not_read : (size : ℕ) (fault : BridgeFault) → IsPushFault size fault → fault ≢ ReadFault
-not_read size fault (inl stream) e = subst IsStreamFault e stream
-not_read size fault (inr (is, long)) e = cc
+not_read size fault (inl stream, only) e = subst IsStreamFault e stream
+not_read size fault (inr (is, long), only) e = cc
 
 not_form : (size : ℕ) (fault : BridgeFault) → IsPushFault size fault → fault ≢ NotThisForm
-not_form size fault (inl stream) e = subst IsStreamFault e stream
-not_form size fault (inr (is, long)) e = cc
+not_form size fault (inl stream, only) e = subst IsStreamFault e stream
+not_form size fault (inr (is, long), only) e = cc
 
 how_long : (size : ℕ) (fault : BridgeFault) → IsPushFault size fault → fault ≡ TooLong → 2 ^ 64 ≤ size
-how_long size fault (inl stream) e = absurd (subst IsStreamFault e stream)
-how_long size fault (inr (is, long)) e = long
+how_long size fault (inl stream, only) e = absurd (subst IsStreamFault e stream)
+how_long size fault (inr (is, long), only) e = long
 
 cut_stream : (run : StreamRunState) (job : StreamJob) (size : ℕ) (bytes whole output report : List ℕ) (fault : BridgeFault) → run.to ≡ target_of_stream job.to → run.week ≡ job.week
     → IsPushFault size fault → size ≤ length whole → IsCutShort run bytes whole (Some []) (Some output) (Some []) (Some report) → IsCut (jobs.Stream job) bytes whole output report fault
 cut_stream run job size bytes whole output report fault to week kind within cut =
     let of_job = named run.to (target_of_stream job.to) run.week job.week to week in
     let out : cut.output.prefix ≡ output = sym cut.output.grew in
-    let rep : cut.report.0 ≡ report = sym cut.report.2 in
+    let rep : cut.report.prefix ≡ report = sym cut.report.grew in
     record {
       read = not_read size fault kind;
       form = λ e. absurd (not_form size fault kind e);
@@ -192,8 +225,12 @@ cut_stream run job size bytes whole output report fault to week kind within cut 
           (subst (λ (l : List ℕ). IsPrefix (flushed_text bytes run.to run.week) l) out cut.output.no_less);
       output = subst (λ (l : List ℕ). IsPrefix output l) (of_job (whole_text whole))
           (subst (λ (l : List ℕ). IsPrefix l (whole_text whole run.to run.week)) out cut.output.within);
+      least_report = subst (λ (l : List ℕ). IsPrefix l report) (of_job (flushed_told bytes))
+          (subst (λ (l : List ℕ). IsPrefix (flushed_told bytes run.to run.week) l) rep cut.report.no_less);
       report = subst (λ (l : List ℕ). IsPrefix report l) (of_job (whole_told whole))
-          (subst (λ (l : List ℕ). IsPrefix l (whole_told whole run.to run.week)) rep cut.report.1);
+          (subst (λ (l : List ℕ). IsPrefix l (whole_told whole run.to run.week)) rep cut.report.within);
+      stopped = stopped_named run.to (target_of_stream job.to) run.week job.week decided_of whole output report to week cut.stopped;
+      counts_last = last_named output report _ _ _ _ (of_job (whole_lines whole)) (of_job (whole_text whole)) cut.counts_last;
     }
 
 pub stream_goes : (run run' : StreamRunState) (piece output output' report report' : List ℕ) → (run'.to ≡ run.to) × (run'.week ≡ run.week)
@@ -231,7 +268,7 @@ pub stream_ends_short : (run : StreamRunState) (output output' report report' : 
     → (run.fault ≡ None → IsStreamFault fault)
     → EndsShort (Stream run) output output' report report' fault
 stream_ends_short run output output' report report' fault short kind (jobs.Stream job) bytes is = (
-  cut_stream run job 0 bytes bytes output' report' fault is.2 is.3 (inl (kind is.0)) (omega arith) (short bytes is.4),
+  cut_stream run job 0 bytes bytes output' report' fault is.2 is.3 (inl (kind is.0), λ many. absurd (omega (arith, many))) (omega arith) (short bytes is.4),
   λ e. subst IsStreamFault e (kind is.0),
 )
 stream_ends_short run output output' report report' fault short kind job bytes is = absurd is

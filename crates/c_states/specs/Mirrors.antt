@@ -1,7 +1,8 @@
 -- What a run makes of the bytes that a conversion hands to it, whatever its conversion. Private
 -- functions cite these.
-use Rattle.std.specs.Prelude.{◌≡◌, ◌≢◌, ◌≤◌, ℕ, List, ◌++◌, length, None, IfSome, IsSome}
+use Rattle.std.specs.Prelude.{◌≡◌, ◌≢◌, ◌⊎◌, ◌≤◌, ℕ, List, [], ◌++◌, length, None, Some, IfSome, IsSome}
 use Rattle.nav_io.specs.Prefix.{IsPrefix}
+use Rattle.one_run.specs.Runs.{StopAtOnePlace}
 use Rattle.one_run.specs.declared.fault.BridgeFault.{BridgeFault}
 use Rattle.one_run.specs.declared.fault.BridgeFault.TheVariants.{NotThisForm, ReadFault, TooLong}
 use Rattle.bridge_engine.specs.Meanings.{meaning_of}
@@ -27,8 +28,8 @@ KeepsReleased run output output_new report report_new =
     → IsAsReleased output output_new × IsAsReleased report report_new
 
 -- A run of this conversion was ended early by an error, which is none of a read: what `bytes`
--- decide was written, and of what the complete input gives no more than a prefix was written and
--- reported.
+-- decide was written and reported, and of what the complete input gives no more than a prefix.
+-- Both stop at one place, and counts are reported last.
 pub record IsCut (job : Job) (bytes whole written reported : List ℕ) (fault : BridgeFault) : Type 0 where
   pub read : fault ≢ ReadFault
   pub form : fault ≡ NotThisForm → (meaning_of job).counts whole ≡ None
@@ -36,7 +37,10 @@ pub record IsCut (job : Job) (bytes whole written reported : List ℕ) (fault : 
   pub lack : fault ≢ NotThisForm → fault ≢ TooLong → IsSome ((meaning_of job).counts whole)
   pub least : IfSome (meaning_of job).flushed (λ texts. IsPrefix (texts.output bytes) written)
   pub output : IsPrefix written ((meaning_of job).whole.output whole)
+  pub least_report : IfSome (meaning_of job).flushed (λ texts. IsPrefix (texts.report bytes) reported)
   pub report : IsPrefix reported ((meaning_of job).whole.report whole)
+  pub stopped : StopAtOnePlace (meaning_of job).flushed (Some whole) (Some []) (Some written) (Some []) (Some reported)
+  pub counts_last : IsPrefix reported ((meaning_of job).rejections whole) ⊎ (written ≡ (meaning_of job).whole.output whole)
 
 -- a piece was not taken complete
 abbrev pub BreaksOff : Run → List ℕ → List ℕ → List ℕ → List ℕ → List ℕ → BridgeFault → Type 0

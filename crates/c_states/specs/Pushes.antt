@@ -1,6 +1,7 @@
 -- A conversion whose input is pushed in pieces: what its steps leave, and what it is to hold one in memory.
 use Rattle.std.specs.Prelude.{◌≡◌, ◌≢◌, ◌⊎◌, ◌↔◌, ◌≤◌, ◌^◌, ◌+◌, ◌-◌, ◌*◌, ℕ, List, [], ◌++◌, length, take, drop, min, All, IsUtf8, None, Some, IfSome, IsSome}
 use Rattle.nav_io.specs.Prefix.{IsPrefix}
+use Rattle.one_run.specs.Runs.{StopAtOnePlace}
 use Rattle.captures.specs.Captures.{target_of}
 use Rattle.captures.specs.Pushed.{IsPushed as IsCapturePushed}
 use Rattle.streams.specs.Pushed.{IsPushed}
@@ -86,16 +87,21 @@ pub record HasMade (s : PushState) (job : Job) (bytes : List ℕ) : Type 0 where
   pub output : s.output ≡ (meaning_of job).whole.output bytes
   pub report : s.report ≡ (meaning_of job).whole.report bytes
 
--- The conversion was ended early: what `bytes` decide was written, and of what the complete input
--- gives no more than a prefix was written and reported. With the result 5 the complete input is not
--- of the form that the conversion reads, with 6 it is, and with 8 it is too long.
+-- The conversion was ended early: what `bytes` decide was written and reported, and of what the
+-- complete input gives no more than a prefix. With the result 5 the complete input is not of the
+-- form that the conversion reads, with 6 it is, and with 8 it is too long.
 pub record IsCutAt (s : PushState) (job : Job) (bytes whole : List ℕ) (answer : ℕ) : Type 0 where
   pub form : answer ≡ 5 → (meaning_of job).counts whole ≡ None
   pub long : answer ≡ 8 → too_many job ≤ length whole
   pub lack : answer ≡ 6 → IsSome ((meaning_of job).counts whole)
   pub least : IfSome (meaning_of job).flushed (λ texts. IsPrefix (texts.output bytes) s.output)
   pub output : IsPrefix s.output ((meaning_of job).whole.output whole)
+  pub least_report : IfSome (meaning_of job).flushed (λ texts. IsPrefix (texts.report bytes) s.report)
   pub report : IsPrefix s.report ((meaning_of job).whole.report whole)
+  -- both stop at one place
+  pub stopped : StopAtOnePlace (meaning_of job).flushed (Some whole) (Some []) (Some s.output) (Some []) (Some s.report)
+  -- no counts were reported, or the whole output was written
+  pub counts_last : IsPrefix s.report ((meaning_of job).rejections whole) ⊎ (s.output ≡ (meaning_of job).whole.output whole)
 
 -- what was written and reported stays, and more is after it
 abbrev pub Grows : PushState → PushState → Type 0

@@ -207,6 +207,7 @@ module _ {S T U : Type 0} (left : S → List ℕ) (written : T → List ℕ) (wr
   last_of job i i' o o' r r' fault none silent broke = by broke.counts_last where
     m : Meaning (Unit {0})
     m = meaning_of job
+
     by : IfSome (bytes_by m.reads (left i)) (λ bytes. AppendsPrefix (Some (reported r)) (Some (reported r')) (m.rejections bytes))
         ⊎ ((fault ≡ ReportFault) × IsAtEnd (bytes_by m.reads (left i')) × Appends (Some (written o)) (Some (written o')) (m.whole.output broke.taken))
         → IsPrefix (reported r') (m.rejections (read_by job (left i))) ⊎ (written o' ≡ m.whole.output (read_by job (left i)))
