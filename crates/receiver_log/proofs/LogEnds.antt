@@ -87,7 +87,7 @@ module _ (h : Heading) (said : List ℕ → Said) where
         ap (λ t. x ++ t) last.bytes_are ∙ sym (append_assoc x last.first last.piece) in
         let front : take k (all ++ last.piece) ≡ take k all =
         take-append-le k all last.piece (omega (arith, length-append all last.piece, last.few)) in
-        let more = grows (take k all) (drop k all) in
+        let more = (grows (take k all) (drop k all)).0 in
         let decides : decided_receptions said (decided (format_of h) all) ≡ xs ++ before =
         sym (start_with_more all) ∙ passes.decides on last.first
         ∙ ap (λ t. xs ++ t) (sym last.before_are) in
