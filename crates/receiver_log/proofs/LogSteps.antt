@@ -305,6 +305,11 @@ module _ (h : Heading) (said : List ℕ → Said) where
 
   -- ---- receptions, of which none but the last gave lines
 
+  no_lines : (a b : LogView) (x l l1 : List ℕ) (p : List ℕ → Type 0)
+      (m : Hears h said a b x l l1 p) → l ≡ [] → l1 ≡ [] → lines_from a.state m.heard ≡ []
+  no_lines a b x l l1 p m empty none =
+      sym (m.lines_are ∙ ap (λ t. t ++ lines_from a.state m.heard) empty) ∙ none
+
   -- none gave any
   pub none_last : (a b : LogView) (x l l1 : List ℕ) (p : List ℕ → Type 0)
       (m : Hears h said a b x l l1 p) → l ≡ [] → l1 ≡ [] → OneLast a.state m.heard
@@ -313,7 +318,7 @@ module _ (h : Heading) (said : List ℕ → Said) where
     last = [];
     heard_are = sym (append-nil m.heard);
     few = omega arith;
-    silent = sym (m.lines_are ∙ ap (λ t. t ++ lines_from a.state m.heard) empty) ∙ none;
+    silent = no_lines a b x l l1 p m empty none;
   }
 
   -- and more after some that gave none
@@ -327,7 +332,7 @@ module _ (h : Heading) (said : List ℕ → Said) where
     few = o.few;
     silent = lines_on a.state m.heard o.done
         ∙ ap (λ t. t ++ lines_from (state_after a.state m.heard) o.done)
-        (none_last a b x l l1 p m empty none).silent
+        (no_lines a b x l l1 p m empty none)
         ∙ ap (λ s. lines_from s o.done) (sym m.state_is) ∙ o.silent;
   }
 
@@ -356,7 +361,7 @@ module _ (h : Heading) (said : List ℕ → Said) where
       last = n.0.heard;
       heard_are = refl;
       few = n.1;
-      silent = (none_last a b [] [] l1 p m refl none).silent;
+      silent = no_lines a b [] [] l1 p m refl none;
     },
   )
 
@@ -373,7 +378,7 @@ module _ (h : Heading) (said : List ℕ → Said) where
           last = n.0.heard;
           heard_are = refl;
           few = n.1;
-          silent = (none_last a b [] [] l1 (Appends r r1) m refl none).silent;
+          silent = no_lines a b [] [] l1 (Appends r r1) m refl none;
         },
         subst (AppendsBetween r r2 first)
             (sym (refusals_both a b [] [] l1 (Appends r r1) n.0.heard m))

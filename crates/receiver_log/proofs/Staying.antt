@@ -170,21 +170,22 @@ WithDecided format bytes k =
 with_decided : (format : Format) (bytes : List ℕ) (k : ℕ) → WithDecided format bytes k
 with_decided format [] k = ([], refl)
 with_decided format (x ∷ xs) (suc k) = with_decided format xs k
-with_decided format (x ∷ xs) zero = by_open _ refl where
-  by_size : (some : Bool) → format.is_open (x ∷ xs) ≡ false
+with_decided format (x ∷ xs) zero = by_open (λ k. with_decided format xs k) _ refl where
+  by_size : ((k : ℕ) → WithDecided format xs k) → (some : Bool) → format.is_open (x ∷ xs) ≡ false
       → nat_lt 0 (format.size (x ∷ xs)) ≡ some → WithDecided format (x ∷ xs) zero
-  by_size true closed some =
-      let next = with_decided format xs (format.size (x ∷ xs) - 1) in
+  by_size each true closed some =
+      let next = each (format.size (x ∷ xs) - 1) in
       rw (closed, some) (next.0, ap (λ l. take (format.size (x ∷ xs)) (x ∷ xs) ∷ l) next.1)
-  by_size false closed some = rw (closed, some) (with_decided format xs 0)
+  by_size each false closed some = rw (closed, some) (each 0)
 
-  by_open : (open : Bool) → format.is_open (x ∷ xs) ≡ open → WithDecided format (x ∷ xs) zero
-  by_open true is =
+  by_open : ((k : ℕ) → WithDecided format xs k) → (begun : Bool) → format.is_open (x ∷ xs) ≡ begun
+      → WithDecided format (x ∷ xs) zero
+  by_open each true is =
       let none : messages_past format true (x ∷ xs) zero ≡ [] = rw is refl in (
         messages_past format false (x ∷ xs) zero,
         ap (λ l. l ++ messages_past format false (x ∷ xs) zero) (sym none),
       )
-  by_open false is = by_size _ is refl
+  by_open each false is = by_size each _ is refl
 
 pub grows : (h : Heading) (said : List ℕ → Said) (has_times : Bool)
     → ((message : List ℕ) → SaysTimes has_times (said message))

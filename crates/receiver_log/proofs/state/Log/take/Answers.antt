@@ -1,4 +1,4 @@
-use Rattle.std.proofs.Common.{◌≡◌, ℕ, Bool, true, List, [], length, refl, sym, ap, ◌∙◌, arith}
+use Rattle.std.proofs.Common.{◌≡◌, ◌==◌, ℕ, Bool, true, List, [], length, refl, sym, ap, ◌∙◌, arith}
 use Rattle.std.proofs.lemmas.Bool.{eqb-true}
 use Rattle.std.proofs.lemmas.List.{nil_from_length}
 use Rattle.std.proofs.lemmas.Result.{err_from_is_err_and}
@@ -8,7 +8,7 @@ use Rattle.receiver_log.proofs.state.Log.take.Goals as goal
 
 -- no line waits
 empty_in : {b : Bool} (l : List ℕ) → b ≡ (length l == 0) → b ≡ true → l ≡ []
-empty_in l is yes = nil_from_length l (eqb-true _ _ (sym is ∙ yes))
+empty_in l is none = nil_from_length l (eqb-true _ _ (sym is ∙ none))
 
 pub loop-self-init : goal.loop-self-init
 loop-self-init g c =
