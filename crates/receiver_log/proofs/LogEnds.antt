@@ -393,38 +393,38 @@ module _ (h : Heading) (said : List ℕ → Said) where
       → Says (log_meaning h said) m.bytes b a fault → Broke (log_meaning h said) b a fault
   broke b a fault v lines some told p m put least report least_told grows done last heard few upto
       upto_told cause says = record {
-    taken = m.bytes;
-    consumes = m.consumes;
-    text = between_within b.written a.written (least_capture h said m.bytes) some lines _ least
-        (capture_front v m.bytes lines p m.hears m.bytes _ (received v m.bytes lines p m.hears))
-        put;
-    told = between_within b.reported a.reported (least_report h said m.bytes) told
-        (refusals_from begun m.hears.heard) _ least_told
-        (report_front v m.bytes lines p m.hears m.bytes _ (received v m.bytes lines p m.hears))
-        report;
-    ahead = ahead_by (log_meaning h said).whole b.left a.left b.written a.written
-        b.reported a.reported m.bytes m.consumes (λ rest is. (
-          prefix_within b.written a.written lines _
-              (capture_front v m.bytes lines p m.hears (m.bytes ++ rest) _ (all rest is)) wrote,
-          prefix_within b.reported a.reported (refusals_from begun m.hears.heard) _
-              (report_front v m.bytes lines p m.hears (m.bytes ++ rest) _ (all rest is)) said_so,
-        ));
-    stopped = with_rest b.left a.left m.bytes
-        (λ bytes. StopAtOnePlace (Some decided_texts) (Some bytes) b.written a.written b.reported
-        a.reported) m.consumes (λ rest is.
-        stopped_at grows (m.bytes ++ rest) done last _ b.written a.written b.reported a.reported
-        few (all rest is ∙ ap (λ l. l ++ ahead h said false v.place rest) heard)
-        (subst (AppendsBetween b.written a.written (lines_from begun done))
-        (m.hears.lines_are ∙ ap (lines_from begun) heard) upto)
-        (subst (λ l. AppendsBetween b.reported a.reported (refusals_from begun done)
-        (refusals_from begun l)) heard upto_told));
-    counts_last = inl (with_rest b.left a.left m.bytes _ m.consumes (λ rest is.
-        prefix_within b.reported a.reported (refusals_from begun m.hears.heard) _
-        (refusals_front v m.bytes lines p m.hears (m.bytes ++ rest) _ (all rest is)) said_so));
-    cause = cause;
-    leaves = record { unread = λ e. cc e; silent = λ e. cc e };
-    says = says;
-  }
+        taken = m.bytes;
+        consumes = m.consumes;
+        text = between_within b.written a.written (least_capture h said m.bytes) some lines _ least
+            (capture_front v m.bytes lines p m.hears m.bytes _ (received v m.bytes lines p m.hears))
+            put;
+        told = between_within b.reported a.reported (least_report h said m.bytes) told
+            (refusals_from begun m.hears.heard) _ least_told
+            (report_front v m.bytes lines p m.hears m.bytes _ (received v m.bytes lines p m.hears))
+            report;
+        ahead = ahead_by (log_meaning h said).whole b.left a.left b.written a.written
+            b.reported a.reported m.bytes m.consumes (λ rest is. (
+              prefix_within b.written a.written lines _
+                  (capture_front v m.bytes lines p m.hears (m.bytes ++ rest) _ (all rest is)) wrote,
+              prefix_within b.reported a.reported (refusals_from begun m.hears.heard) _
+                  (report_front v m.bytes lines p m.hears (m.bytes ++ rest) _ (all rest is)) said_so,
+            ));
+        stopped = with_rest b.left a.left m.bytes
+            (λ bytes. StopAtOnePlace (Some decided_texts) (Some bytes) b.written a.written b.reported
+            a.reported) m.consumes (λ rest is.
+            stopped_at grows (m.bytes ++ rest) done last _ b.written a.written b.reported a.reported
+            few (all rest is ∙ ap (λ l. l ++ ahead h said false v.place rest) heard)
+            (subst (AppendsBetween b.written a.written (lines_from begun done))
+            (m.hears.lines_are ∙ ap (lines_from begun) heard) upto)
+            (subst (λ l. AppendsBetween b.reported a.reported (refusals_from begun done)
+            (refusals_from begun l)) heard upto_told));
+        counts_last = inl (with_rest b.left a.left m.bytes _ m.consumes (λ rest is.
+            prefix_within b.reported a.reported (refusals_from begun m.hears.heard) _
+            (refusals_front v m.bytes lines p m.hears (m.bytes ++ rest) _ (all rest is)) said_so));
+        cause = cause;
+        leaves = record { unread = λ e. cc e; silent = λ e. cc e };
+        says = says;
+      }
     where
       wrote : AppendsPrefix b.written a.written lines
       wrote = prefix_of b.written a.written some lines put
