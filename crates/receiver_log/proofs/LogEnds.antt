@@ -1,5 +1,5 @@
 -- The ends of a run over a log.
-use Rattle.std.proofs.Common.{◌≡◌, ℕ, ◌-◌, Bool, true, false, List, [], ◌++◌, length, map}
+use Rattle.std.proofs.Common.{◌≡◌, ℕ, ◌-◌, ◌≤◌, Bool, true, false, List, [], ◌∷◌, ◌++◌, length, map}
 use Rattle.std.proofs.Common.{take, drop}
 use Rattle.std.proofs.Common.{refl, sym, ap, subst, ◌∙◌, append-nil, append_assoc, arith}
 use Rattle.std.proofs.Common.{length-append, ◌⊎◌, inl, inr}
@@ -12,10 +12,13 @@ use Rattle.nav_io.specs.Prefix.{AppendsPrefix, IsPrefix}
 use Rattle.receiver_frames.specs.Headings.{Heading, format_of}
 use Rattle.receiver_frames.specs.Messages.{messages, messages_past, decided}
 use Rattle.one_run.specs.Causes.{HasItsCause}
-use Rattle.one_run.specs.Runs.{Accepts, AppendsBetween, Broke, Done, Says, World, faults_in}
+use Rattle.one_run.specs.Runs.{Accepts, AppendsAll, AppendsBetween, Broke, Done, Says}
+use Rattle.one_run.specs.Runs.{StopAtOnePlace, Texts, World, faults_in}
 use Rattle.one_run.specs.declared.fault.BridgeFault.{BridgeFault}
 use Rattle.one_run.specs.declared.fault.BridgeFault.TheVariants.{ReadFault, WriteFault, ReportFault}
 use Rattle.one_run.specs.declared.fault.BridgeFault.TheVariants.{NotThisForm, TooLong, NoMemory}
+use Rattle.one_run.proofs.Surface.{BeginsWith, all_of, all_stopped, all_whole, all_within}
+use Rattle.one_run.proofs.Surface.{stopped_in, taken_all}
 use Rattle.one_run.proofs.Surface.{ahead_at_end, ahead_by, between_behind, between_whole}
 use Rattle.one_run.proofs.Surface.{between_within, none_failed, prefix_more, prefix_of, prefix_same}
 use Rattle.one_run.proofs.Surface.{prefix_trans, prefix_within, read_failed, report_failed}
@@ -24,6 +27,7 @@ use Rattle.receiver_messages.specs.declared.said.Said.{Said}
 use Rattle.receiver_log.specs.declared.reception.Reception.{Reception}
 use Rattle.receiver_log.specs.declared.state.LogCounts.{LogCounts}
 use Rattle.receiver_log.specs.Capture.{capture_of, counts_after, counts_of, decided_capture}
+use Rattle.receiver_log.specs.Capture.{decided_report}
 use Rattle.receiver_log.specs.Capture.{least_capture, least_report, lines_from, log_meaning}
 use Rattle.receiver_log.specs.Capture.{refusals_from}
 use Rattle.receiver_log.specs.Capture.{report_of, state_after}
@@ -32,7 +36,7 @@ use Rattle.receiver_log.specs.Mirrors.{ahead, behind_time, start_of}
 use Rattle.receiver_log.specs.Receptions.{decided_receptions, received_from, receptions_of}
 use Rattle.receiver_log.specs.Report.{counts_report}
 use Rattle.receiver_log.specs.Steps.{Advances, Breaks, Early, Hears, IsIdle, LastPiece}
-use Rattle.receiver_log.specs.Steps.{LogView, Passes, Reads, Stops, Tells, fresh}
+use Rattle.receiver_log.specs.Steps.{LogView, OneLast, Passes, Reads, Stops, Tells, fresh}
 use Rattle.receiver_log.proofs.Comings.{comes_as_defined}
 use Rattle.receiver_log.proofs.Staying.{Grows}
 use Rattle.receiver_log.proofs.LogSteps.{Joins, appends_none, between_after, both_told}
@@ -87,7 +91,7 @@ module _ (h : Heading) (said : List ℕ → Said) where
         ap (λ t. x ++ t) last.bytes_are ∙ sym (append_assoc x last.first last.piece) in
         let front : take k (all ++ last.piece) ≡ take k all =
         take-append-le k all last.piece (omega (arith, length-append all last.piece, last.few)) in
-        let more = grows (take k all) (drop k all) in
+        let more = (grows (take k all) (drop k all)).0 in
         let decides : decided_receptions said (decided (format_of h) all) ≡ xs ++ before =
         sym (start_with_more all) ∙ passes.decides on last.first
         ∙ ap (λ t. xs ++ t) (sym last.before_are) in
@@ -292,6 +296,87 @@ module _ (h : Heading) (said : List ℕ → Said) where
         ap (refusals_from begun) early.1 ∙ refusals_on begun first early.0,
       )
 
+  -- ---- where it stopped
+
+  -- the decided receptions of the first bytes are the first receptions of all
+  decided_first : Grows h said → (bytes front : List ℕ) → IsPrefix front bytes
+      → BeginsWith (receptions_of said (messages (format_of h) bytes))
+      (decided_receptions said (decided (format_of h) front))
+  decided_first grows bytes front (rest, is) =
+      let all = (grows front rest).1 in
+      (all.0, ap (λ t. receptions_of said (messages (format_of h) t)) is ∙ all.1)
+
+  -- what is written and reported of decided messages
+  abbrev decided_texts : Texts
+  decided_texts = record {
+    output = decided_capture h said;
+    report = decided_report h said;
+  }
+
+  lines_longer : (xs ys : List Reception) → IsPrefix (lines_from begun xs) (lines_from begun (xs ++ ys))
+  lines_longer xs ys = (lines_from (state_after begun xs) ys, lines_on begun xs ys)
+
+  refusals_longer : (xs ys : List Reception)
+      → IsPrefix (refusals_from begun xs) (refusals_from begun (xs ++ ys))
+  refusals_longer xs ys = (refusals_from (state_after begun xs) ys, refusals_on begun xs ys)
+
+  -- all lines and refusals were written and reported
+  all_done : Grows h said → (bytes : List ℕ) (w w1 u u1 : Option (List ℕ))
+      → AppendsAll w w1 (lines_from begun (receptions_of said (messages (format_of h) bytes)))
+      → AppendsAll u u1 (refusals_from begun (receptions_of said (messages (format_of h) bytes)))
+      → StopAtOnePlace (Some decided_texts) (Some bytes) w w1 u u1
+  all_done grows bytes w w1 u u1 wrote told =
+      let all = receptions_of said (messages (format_of h) bytes) in
+      all_stopped decided_texts (Some bytes) w w1 u u1 (λ front begins.
+      let some = decided_receptions said (decided (format_of h) front) in
+      let first = decided_first grows bytes front begins in (
+        all_within w w1 (lines_from begun some) (lines_from begun all)
+            (subst (λ l. IsPrefix (lines_from begun some) (lines_from begun l)) (sym first.1)
+            (lines_longer some first.0)) wrote,
+        all_within u u1 (refusals_from begun some) (refusals_from begun all)
+            (subst (λ l. IsPrefix (refusals_from begun some) (refusals_from begun l)) (sym first.1)
+            (refusals_longer some first.0)) told,
+      ))
+
+  -- it stopped in one reception, or after all of these
+  stopped_at : Grows h said → (bytes : List ℕ) (done last more : List Reception)
+      (w w1 u u1 : Option (List ℕ)) → length last ≤ 1
+      → receptions_of said (messages (format_of h) bytes) ≡ (done ++ last) ++ more
+      → AppendsBetween w w1 (lines_from begun done) (lines_from begun (done ++ last))
+      → AppendsBetween u u1 (refusals_from begun done) (refusals_from begun (done ++ last))
+      → StopAtOnePlace (Some decided_texts) (Some bytes) w w1 u u1
+  stopped_at grows bytes done [] [] w w1 u u1 few all wrote told =
+      let is : receptions_of said (messages (format_of h) bytes) ≡ done =
+      all ∙ append-nil (done ++ []) ∙ append-nil done in
+      all_done grows bytes w w1 u u1
+      (subst (λ l. AppendsAll w w1 (lines_from begun l)) (sym is) (all_of w w1 _ _ wrote))
+      (subst (λ l. AppendsAll u u1 (refusals_from begun l)) (sym is) (all_of u u1 _ _ told))
+  stopped_at grows bytes done [] (x ∷ more) w w1 u u1 few all wrote told =
+      let same = append-nil done in
+      stopped_in decided_texts (λ t. receptions_of said (messages (format_of h) t))
+      (λ t. decided_receptions said (decided (format_of h) t)) (lines_from begun)
+      (refusals_from begun) lines_longer refusals_longer bytes done more x
+      (all ∙ ap (λ l. l ++ x ∷ more) same) (decided_first grows bytes) (λ front begins. refl)
+      (λ front begins. refl) w w1 u u1
+      (between_within w w1 (lines_from begun done) (lines_from begun done)
+      (lines_from begun (done ++ [])) (lines_from begun (done ++ x ∷ []))
+      (prefix_same (lines_from begun done))
+      (subst (λ l. IsPrefix (lines_from begun l) (lines_from begun (done ++ x ∷ []))) (sym same)
+      (lines_longer done (x ∷ []))) wrote)
+      (between_within u u1 (refusals_from begun done) (refusals_from begun done)
+      (refusals_from begun (done ++ [])) (refusals_from begun (done ++ x ∷ []))
+      (prefix_same (refusals_from begun done))
+      (subst (λ l. IsPrefix (refusals_from begun l) (refusals_from begun (done ++ x ∷ [])))
+      (sym same) (refusals_longer done (x ∷ []))) told)
+  stopped_at grows bytes done (x ∷ []) more w w1 u u1 few all wrote told =
+      stopped_in decided_texts (λ t. receptions_of said (messages (format_of h) t))
+      (λ t. decided_receptions said (decided (format_of h) t)) (lines_from begun)
+      (refusals_from begun) lines_longer refusals_longer bytes done more x
+      (all ∙ append_assoc done (x ∷ []) more) (decided_first grows bytes) (λ front begins. refl)
+      (λ front begins. refl) w w1 u u1 wrote told
+  stopped_at grows bytes done (x ∷ y ∷ zs) more w w1 u u1 few all wrote told =
+      absurd (omega (arith, few))
+
   -- a run that ended early
   broke : {S T U : Type 0} (b a : World S T U) (fault : BridgeFault) (v : LogView)
       (lines some told : List ℕ) (p : List ℕ → Type 0)
@@ -299,32 +384,47 @@ module _ (h : Heading) (said : List ℕ → Said) where
       → AppendsBetween b.written a.written some lines → IsPrefix (least_capture h said m.bytes) some
       → AppendsBetween b.reported a.reported told (refusals_from begun m.hears.heard)
       → IsPrefix (least_report h said m.bytes) told
+      → Grows h said → (done last : List Reception) → m.hears.heard ≡ done ++ last
+      → length last ≤ 1
+      → AppendsBetween b.written a.written (lines_from begun done) lines
+      → AppendsBetween b.reported a.reported (refusals_from begun done)
+      (refusals_from begun m.hears.heard)
       → HasItsCause {T = Unit {0}} (faults_in b) (faults_in a) (Err fault)
       → Says (log_meaning h said) m.bytes b a fault → Broke (log_meaning h said) b a fault
-  broke b a fault v lines some told p m put least report least_told cause says = record {
-    taken = m.bytes;
-    consumes = m.consumes;
-    text = between_within b.written a.written (least_capture h said m.bytes) some lines _ least
-        (capture_front v m.bytes lines p m.hears m.bytes _ (received v m.bytes lines p m.hears))
-        put;
-    told = between_within b.reported a.reported (least_report h said m.bytes) told
-        (refusals_from begun m.hears.heard) _ least_told
-        (report_front v m.bytes lines p m.hears m.bytes _ (received v m.bytes lines p m.hears))
-        report;
-    ahead = ahead_by (log_meaning h said).whole b.left a.left b.written a.written
-        b.reported a.reported m.bytes m.consumes (λ rest is. (
-          prefix_within b.written a.written lines _
-              (capture_front v m.bytes lines p m.hears (m.bytes ++ rest) _ (all rest is)) wrote,
-          prefix_within b.reported a.reported (refusals_from begun m.hears.heard) _
-              (report_front v m.bytes lines p m.hears (m.bytes ++ rest) _ (all rest is)) said_so,
-        ));
-    no_counts = λ other. with_rest b.left a.left m.bytes _ m.consumes (λ rest is.
-        prefix_within b.reported a.reported (refusals_from begun m.hears.heard) _
-        (refusals_front v m.bytes lines p m.hears (m.bytes ++ rest) _ (all rest is)) said_so);
-    cause = cause;
-    leaves = record { unread = λ e. cc e; silent = λ e. cc e };
-    says = says;
-  }
+  broke b a fault v lines some told p m put least report least_told grows done last heard few upto
+      upto_told cause says = record {
+        taken = m.bytes;
+        consumes = m.consumes;
+        text = between_within b.written a.written (least_capture h said m.bytes) some lines _ least
+            (capture_front v m.bytes lines p m.hears m.bytes _ (received v m.bytes lines p m.hears))
+            put;
+        told = between_within b.reported a.reported (least_report h said m.bytes) told
+            (refusals_from begun m.hears.heard) _ least_told
+            (report_front v m.bytes lines p m.hears m.bytes _ (received v m.bytes lines p m.hears))
+            report;
+        ahead = ahead_by (log_meaning h said).whole b.left a.left b.written a.written
+            b.reported a.reported m.bytes m.consumes (λ rest is. (
+              prefix_within b.written a.written lines _
+                  (capture_front v m.bytes lines p m.hears (m.bytes ++ rest) _ (all rest is)) wrote,
+              prefix_within b.reported a.reported (refusals_from begun m.hears.heard) _
+                  (report_front v m.bytes lines p m.hears (m.bytes ++ rest) _ (all rest is)) said_so,
+            ));
+        stopped = with_rest b.left a.left m.bytes
+            (λ bytes. StopAtOnePlace (Some decided_texts) (Some bytes) b.written a.written b.reported
+            a.reported) m.consumes (λ rest is.
+            stopped_at grows (m.bytes ++ rest) done last _ b.written a.written b.reported a.reported
+            few (all rest is ∙ ap (λ l. l ++ ahead h said false v.place rest) heard)
+            (subst (AppendsBetween b.written a.written (lines_from begun done))
+            (m.hears.lines_are ∙ ap (lines_from begun) heard) upto)
+            (subst (λ l. AppendsBetween b.reported a.reported (refusals_from begun done)
+            (refusals_from begun l)) heard upto_told));
+        counts_last = inl (with_rest b.left a.left m.bytes _ m.consumes (λ rest is.
+            prefix_within b.reported a.reported (refusals_from begun m.hears.heard) _
+            (refusals_front v m.bytes lines p m.hears (m.bytes ++ rest) _ (all rest is)) said_so));
+        cause = cause;
+        leaves = record { unread = λ e. cc e; silent = λ e. cc e };
+        says = says;
+      }
     where
       wrote : AppendsPrefix b.written a.written lines
       wrote = prefix_of b.written a.written some lines put
@@ -393,6 +493,17 @@ module _ (h : Heading) (said : List ℕ → Said) where
       ∙ ap (λ t. lines_from begun heard ++ t) e.silent ∙ append-nil (lines_from begun heard)
       ∙ sym far.reads.hears.lines_are))
 
+  -- all lines of receptions before the last were written
+  lines_before : (left l1 w w1 r r1 : Option (List ℕ)) (u : LogView)
+      (far : SoFar h said left l1 w w1 r r1 u) (heard : List Reception) (o : OneLast u.state heard)
+      → lines_from begun (far.reads.hears.heard ++ o.done) ≡ far.text
+  lines_before left l1 w w1 r r1 u far heard o =
+      let first = far.reads.hears.heard in
+      lines_on begun first o.done
+      ∙ ap (λ s. lines_from begun first ++ lines_from s o.done) (sym far.reads.hears.state_is)
+      ∙ ap (λ t. lines_from begun first ++ t) o.silent ∙ append-nil (lines_from begun first)
+      ∙ sym far.reads.hears.lines_are
+
   -- no more lines came
   pub stopped : {S T U : Type 0} (b a : World S T U) (fault : BridgeFault)
       (l1 r1 : Option (List ℕ)) (u v : LogView) (old waiting : List ℕ) → Grows h said
@@ -408,6 +519,7 @@ module _ (h : Heading) (said : List ℕ → Said) where
       (told_by fault b.reported r1 a.reported) far none m.reads in
       let heard = far.reads.hears.heard in
       let e = m.early none in
+      let one = m.one none in
       let first = refusals_from begun heard in
       let before = refusals_from u.state e.before in
       let behind = refusals_from u.state m.reads.hears.heard in
@@ -418,6 +530,8 @@ module _ (h : Heading) (said : List ℕ → Said) where
       let report : AppendsBetween b.reported a.reported (first ++ before) (first ++ behind) =
       between_after b.reported r1 a.reported first before behind far.reads.hears.told
       (m.told none) in
+      let some = lines_before b.left l1 b.written a.written b.reported r1 u far
+      m.reads.hears.heard one in
       broke b a fault v (far.text ++ waiting) far.text (refusals_from begun (heard ++ e.before))
       (Tells fault b.reported a.reported) all
       (between_within b.written a.written far.text far.text far.text (far.text ++ waiting)
@@ -432,6 +546,18 @@ module _ (h : Heading) (said : List ℕ → Said) where
       (least_refusals (far.reads.bytes ++ m.reads.bytes) (heard ++ e.before)
       (next_early b.left l1 a.left b.written a.written b.reported r1 u v old waiting
       (Tells fault r1 a.reported) far m.reads e grows))
+      grows (heard ++ one.done) one.last
+      (ap (λ t. heard ++ t) one.heard_are ∙ sym (append_assoc heard one.done one.last)) one.few
+      (subst (λ t. AppendsBetween b.written a.written t (far.text ++ waiting)) (sym some)
+      (between_within b.written a.written far.text far.text far.text (far.text ++ waiting)
+      (prefix_same far.text) (prefix_more far.text waiting)
+      (between_whole b.written a.written far.text far.grew)))
+      (subst (λ t. AppendsBetween b.reported a.reported t
+      (refusals_from begun (heard ++ m.reads.hears.heard))) (sym (on one.done))
+      (subst (AppendsBetween b.reported a.reported (first ++ refusals_from u.state one.done))
+      (sym (on m.reads.hears.heard))
+      (between_after b.reported r1 a.reported first (refusals_from u.state one.done) behind
+      far.reads.hears.told (m.stopped none))))
       (stop_cause b a fault v waiting writes stops)
       (stop_says b a fault v waiting far.text all far.grew stops)
 
@@ -448,6 +574,12 @@ module _ (h : Heading) (said : List ℕ → Said) where
       let all = next b.left l1 a.left b.written w1 b.reported r1 u v old lines
       (Appends r1 a.reported) (Appends b.reported a.reported)
       (both_told b.reported r1 a.reported) far none m.reads in
+      let heard = far.reads.hears.heard in
+      let one = m.one none in
+      let some = lines_before b.left l1 b.written w1 b.reported r1 u far m.reads.hears.heard one in
+      let are : heard ++ m.reads.hears.heard ≡ (heard ++ one.done) ++ one.last =
+      ap (λ t. heard ++ t) one.heard_are ∙ sym (append_assoc heard one.done one.last) in
+      let whole = refusals_from begun all.hears.heard in
       broke b a WriteFault v (far.text ++ lines) far.text (refusals_from begun all.hears.heard)
       (Appends b.reported a.reported) all
       (between_behind b.written w1 a.written far.text lines far.grew
@@ -459,6 +591,15 @@ module _ (h : Heading) (said : List ℕ → Said) where
       (far.reads.hears.heard ++ m.reads.hears.heard)
       (next_all b.left l1 a.left b.written w1 b.reported r1 u v old lines (Appends r1 a.reported)
       far m.reads (m.early none) grows))
+      grows (heard ++ one.done) one.last are one.few
+      (subst (λ t. AppendsBetween b.written a.written t (far.text ++ lines)) (sym some)
+      (between_behind b.written w1 a.written far.text lines far.grew
+      (subst (AppendsPrefix w1 a.written) is put)))
+      (between_within b.reported a.reported (refusals_from begun (heard ++ one.done)) whole whole
+      whole
+      (subst (λ l. IsPrefix (refusals_from begun (heard ++ one.done)) (refusals_from begun l))
+      (sym are) (refusals_longer (heard ++ one.done) one.last))
+      (prefix_same whole) (between_whole b.reported a.reported whole all.hears.told))
       (write_failed b a rose reads reports) (rose, accepts b)
 
   -- all was read and written
@@ -507,10 +648,10 @@ module _ (h : Heading) (said : List ℕ → Said) where
         }
 
     -- the counts were not reported
-    pub unreported : AppendsPrefix r2 a.reported piece
+    pub unreported : Grows h said → AppendsPrefix r2 a.reported piece
         → Rose b.reports_failed a.reports_failed → a.reads_failed ≡ b.reads_failed
         → a.writes_failed ≡ b.writes_failed → Broke (log_meaning h said) b a ReportFault
-    unreported part rose reads writes =
+    unreported grows part rose reads writes =
         let bytes = far.reads.bytes in
         let front = capture_front v bytes far.text _ far.reads.hears bytes _
         (received v bytes far.text _ far.reads.hears) in
@@ -524,6 +665,10 @@ module _ (h : Heading) (said : List ℕ → Said) where
         let least : IsPrefix (least_report h said bytes) refusals =
         subst (λ rs. IsPrefix (least_report h said bytes) (refusals_from begun rs)) (sym is)
         (least_refusals bytes far.reads.hears.heard far.early) in
+        let ends = (far.reads.end over (λ e. cc e)).0 in
+        let capture : Appends b.written a.written (capture_of h said bytes) =
+        subst (Appends b.written a.written)
+        (far.reads.hears.lines_are ∙ ap (lines_from begun) (sym is)) far.grew in
         let report : AppendsBetween b.reported a.reported (least_report h said bytes)
         (report_of h said bytes) =
         between_within b.reported a.reported (least_report h said bytes) refusals
@@ -538,9 +683,16 @@ module _ (h : Heading) (said : List ℕ → Said) where
           told = report;
           ahead = ahead_at_end (log_meaning h said).whole b.left a.left b.written a.written
               b.reported a.reported far.reads.bytes far.reads.consumes
-              (far.reads.end over (λ e. cc e)).0 (prefix_of b.written a.written _ _ wrote)
+              ends (prefix_of b.written a.written _ _ wrote)
               (prefix_of b.reported a.reported _ _ report);
-          no_counts = λ other. absurd (other refl);
+          stopped = taken_all b.left a.left bytes (λ all. StopAtOnePlace (Some decided_texts)
+              (Some all) b.written a.written b.reported a.reported) far.reads.consumes ends
+              (all_done grows bytes b.written a.written b.reported a.reported
+              (all_whole b.written a.written (capture_of h said bytes) capture)
+              (all_of b.reported a.reported refusals _
+              (between_behind b.reported r2 a.reported refusals _ told
+              (subst (AppendsPrefix r2 a.reported) (says ∙ counts_text) part))));
+          counts_last = inr (refl, ends, capture);
           cause = report_failed b a rose reads writes;
           leaves = record { unread = λ e. cc e; silent = λ e. cc e };
           says = (refl, rose, accepts b);

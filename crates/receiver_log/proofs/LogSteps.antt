@@ -20,7 +20,7 @@ use Rattle.receiver_log.specs.declared.state.LogState.{LogState}
 use Rattle.receiver_log.specs.Capture.{counts_after, given, lines_from, refusal_text, refusals_from}
 use Rattle.receiver_log.specs.Capture.{state_after, too_many}
 use Rattle.receiver_log.specs.Mirrors.{Place, ahead, fed_with, to_come}
-use Rattle.receiver_log.specs.Steps.{Advances, Breaks, Early, Hears, IsIdle, IsOver}
+use Rattle.receiver_log.specs.Steps.{Advances, Breaks, BreaksLast, Early, Hears, HearsLast, HearsOne, IsIdle, IsOver, OneLast}
 use Rattle.receiver_log.specs.Steps.{LastPiece, LogView, Passes, Reads, Stops, Tells}
 
 -- ---- known bytes
@@ -195,15 +195,14 @@ module _ (h : Heading) (said : List ℕ → Said) where
     hears = hears_on a b c m.bytes n.bytes l l1 l2 p q r join m.hears n.hears;
   }
 
-  -- messages were taken, where no line waited
+  -- messages were taken
   pub reads_took : (a b c : LogView) (left left1 : Option (List ℕ)) (l l1 l2 : List ℕ)
-      (p q r : List ℕ → Type 0) → Joins p q r → l1 ≡ [] → Reads h said a b left left1 l l1 p
-      → c.taken ≡ b.taken → c.ended ≡ b.ended → Hears h said b c [] [] l2 q
+      (p q r : List ℕ → Type 0) → Joins p q r → Reads h said a b left left1 l l1 p
+      → c.taken ≡ b.taken → c.ended ≡ b.ended → Hears h said b c [] l1 l2 q
       → Reads h said a c left left1 l l2 r
-  reads_took a b c left left1 l l1 l2 p q r join none m taken ended n =
+  reads_took a b c left left1 l l1 l2 p q r join m taken ended n =
       reads_on a b c left left1 left1 l l1 l2 p q r join m
-      (reads_none b c left1 l1 l2 q taken ended
-      (subst (λ t. Hears h said b c [] t l2 q) (sym none) n))
+      (reads_none b c left1 l1 l2 q taken ended n)
 
   -- bytes were read
   pub reads_more : (a b c : LogView) (left left1 left2 : Option (List ℕ)) (l l1 l2 : List ℕ)
@@ -304,6 +303,88 @@ module _ (h : Heading) (said : List ℕ → Said) where
       refusals_on a.state m.heard ys
       ∙ ap (λ s. refusals_from a.state m.heard ++ refusals_from s ys) (sym m.state_is)
 
+  -- ---- receptions, of which none but the last gave lines
+
+  no_lines : (a b : LogView) (x l l1 : List ℕ) (p : List ℕ → Type 0)
+      (m : Hears h said a b x l l1 p) → l ≡ [] → l1 ≡ [] → lines_from a.state m.heard ≡ []
+  no_lines a b x l l1 p m empty none =
+      sym (m.lines_are ∙ ap (λ t. t ++ lines_from a.state m.heard) empty) ∙ none
+
+  -- none gave any
+  pub none_last : (a b : LogView) (x l l1 : List ℕ) (p : List ℕ → Type 0)
+      (m : Hears h said a b x l l1 p) → l ≡ [] → l1 ≡ [] → OneLast a.state m.heard
+  none_last a b x l l1 p m empty none = record {
+    done = m.heard;
+    last = [];
+    heard_are = sym (append-nil m.heard);
+    few = omega arith;
+    silent = no_lines a b x l l1 p m empty none;
+  }
+
+  -- and more after some that gave none
+  unfoldable one_on : (a b : LogView) (x l l1 : List ℕ) (p : List ℕ → Type 0)
+      (m : Hears h said a b x l l1 p) → l ≡ [] → l1 ≡ [] → (ys : List Reception)
+      → OneLast b.state ys → OneLast a.state (m.heard ++ ys)
+  one_on a b x l l1 p m empty none ys o = record {
+    done = m.heard ++ o.done;
+    last = o.last;
+    heard_are = ap (λ t. m.heard ++ t) o.heard_are ∙ sym (append_assoc m.heard o.done o.last);
+    few = o.few;
+    silent = lines_on a.state m.heard o.done
+        ∙ ap (λ t. t ++ lines_from (state_after a.state m.heard) o.done)
+        (no_lines a b x l l1 p m empty none)
+        ∙ ap (λ s. lines_from s o.done) (sym m.state_is) ∙ o.silent;
+  }
+
+  -- all was reported
+  told_whole : (s : LogState) (heard : List Reception) (r r1 : Option (List ℕ)) (o : OneLast s heard)
+      → Appends r r1 (refusals_from s heard)
+      → AppendsBetween r r1 (refusals_from s o.done) (refusals_from s heard)
+  told_whole s heard r r1 o told =
+      let all = refusals_from s heard in
+      let low : IsPrefix (refusals_from s o.done) all = (
+        refusals_from (state_after s o.done) o.last,
+        ap (refusals_from s) o.heard_are ∙ refusals_on s o.done o.last,
+      ) in
+      between_within r r1 (refusals_from s o.done) all all all low (prefix_same all)
+      (between_whole r r1 all told)
+
+  -- one reception was passed, or none, where no line waited
+  pub take_on : (a b c : LogView) (l1 l2 : List ℕ) (p q r : List ℕ → Type 0) → Joins p q r
+      → Hears h said a b [] [] l1 p → l1 ≡ [] → HearsOne h said b c l1 l2 q
+      → HearsLast h said a c [] l2 r
+  unfolding hears_on
+  take_on a b c l1 l2 p q r join m none n = (
+    hears_on a b c [] [] [] l1 l2 p q r join m n.0,
+    record {
+      done = m.heard;
+      last = n.0.heard;
+      heard_are = refl;
+      few = n.1;
+      silent = no_lines a b [] [] l1 p m refl none;
+    },
+  )
+
+  pub take_broken : (a b c : LogView) (l1 l2 : List ℕ) (r r1 r2 : Option (List ℕ))
+      → Hears h said a b [] [] l1 (Appends r r1) → l1 ≡ []
+      → HearsOne h said b c l1 l2 (AppendsPrefix r1 r2) → BreaksLast h said a c [] l2 r r2
+  unfolding hears_on
+  take_broken a b c l1 l2 r r1 r2 m none n =
+      let first = refusals_from a.state m.heard in (
+        hears_on a b c [] [] [] l1 l2 (Appends r r1) (AppendsPrefix r1 r2) (AppendsPrefix r r2)
+            (part_told r r1 r2) m n.0,
+        record {
+          done = m.heard;
+          last = n.0.heard;
+          heard_are = refl;
+          few = n.1;
+          silent = no_lines a b [] [] l1 (Appends r r1) m refl none;
+        },
+        subst (AppendsBetween r r2 first)
+            (sym (refusals_both a b [] [] l1 (Appends r r1) n.0.heard m))
+            (between_behind r r1 r2 first (refusals_from b.state n.0.heard) m.told n.0.told),
+      )
+
   -- nothing was read yet
   pub advances_none : (a : LogView) (left : Option (List ℕ)) (l : List ℕ) (p : List ℕ → Type 0)
       → p [] → Advances h said a a left left l l p
@@ -317,6 +398,7 @@ module _ (h : Heading) (said : List ℕ → Said) where
       silent = refl;
       pieces = inl refl;
     };
+    one = λ none. record { done = []; last = []; heard_are = refl; few = omega arith; silent = refl };
   }
 
   -- receptions more were passed, and no byte was read
@@ -334,23 +416,28 @@ module _ (h : Heading) (said : List ℕ → Said) where
   -- messages were taken, where no line waited
   pub advances_took : (a b c : LogView) (left left1 : Option (List ℕ)) (l l1 l2 : List ℕ)
       (p q r : List ℕ → Type 0) → Joins p q r → l1 ≡ [] → Advances h said a b left left1 l l1 p
-      → c.taken ≡ b.taken → c.ended ≡ b.ended → Hears h said b c [] [] l2 q
+      → c.taken ≡ b.taken → c.ended ≡ b.ended → HearsLast h said b c [] l2 q
       → Advances h said a c left left1 l l2 r
   unfolding reads_took reads_none reads_on hears_on early_more
-  advances_took a b c left left1 l l1 l2 p q r join none m taken ended n = record {
-    reads = reads_took a b c left left1 l l1 l2 p q r join none m.reads taken ended n;
-    early = λ empty. early_more a m.reads.bytes m.reads.hears.heard
-        (subst (λ t. Hears h said b c [] t l2 q) (sym none) n).heard (m.early empty);
-  }
+  advances_took a b c left left1 l l1 l2 p q r join none m taken ended n =
+      let more = subst (λ t. HearsLast h said b c t l2 q) (sym none) n in
+      record {
+        reads = reads_took a b c left left1 l l1 l2 p q r join m.reads taken ended more.0;
+        early = λ empty. early_more a m.reads.bytes m.reads.hears.heard more.0.heard
+            (m.early empty);
+        one = λ empty. one_on a b m.reads.bytes l l1 p m.reads.hears empty none more.0.heard more.1;
+      }
 
   -- a message could not be reported
   pub breaks_took : (a b c : LogView) (left left1 : Option (List ℕ)) (l l1 l2 : List ℕ)
       (r r1 r2 : Option (List ℕ)) → l1 ≡ [] → Advances h said a b left left1 l l1 (Appends r r1)
-      → c.taken ≡ b.taken → c.ended ≡ b.ended → Hears h said b c [] [] l2 (AppendsPrefix r1 r2)
+      → c.taken ≡ b.taken → c.ended ≡ b.ended → BreaksLast h said b c [] l2 r1 r2
       → Breaks h said a c left left1 l l2 ReportFault r r2
-  unfolding reads_took reads_none reads_on hears_on early_more
+  unfolding reads_took reads_none reads_on hears_on early_more one_on
   breaks_took a b c left left1 l l1 l2 r r1 r2 none m taken ended n =
-      let more = subst (λ t. Hears h said b c [] t l2 (AppendsPrefix r1 r2)) (sym none) n in
+      let broken = subst (λ t. BreaksLast h said b c t l2 r1 r2) (sym none) n in
+      let more = broken.0 in
+      let one = broken.1 in
       let first = refusals_from a.state m.reads.hears.heard in
       let all = refusals_from a.state (m.reads.hears.heard ++ more.heard) in
       let between : AppendsBetween r r2 first all =
@@ -360,8 +447,16 @@ module _ (h : Heading) (said : List ℕ → Said) where
       more.told) in
       record {
         reads = reads_took a b c left left1 l l1 l2 (Appends r r1) (AppendsPrefix r1 r2)
-            (Tells ReportFault r r2) (told_by ReportFault r r1 r2) none m.reads taken ended n;
+            (Tells ReportFault r r2) (told_by ReportFault r r1 r2) m.reads taken ended more;
         early = λ empty. early_more a m.reads.bytes m.reads.hears.heard more.heard (m.early empty);
+        one = λ empty. one_on a b m.reads.bytes l l1 (Appends r r1) m.reads.hears empty none
+            more.heard one;
+        stopped = λ empty. subst (λ t. AppendsBetween r r2 t all)
+            (sym (refusals_both a b m.reads.bytes l l1 (Appends r r1) one.done m.reads.hears))
+            (subst (AppendsBetween r r2 (first ++ refusals_from b.state one.done))
+            (sym (refusals_both a b m.reads.bytes l l1 (Appends r r1) more.heard m.reads.hears))
+            (between_after r r1 r2 first (refusals_from b.state one.done)
+            (refusals_from b.state more.heard) m.reads.hears.told broken.2));
         told = λ empty.
             let e = m.early empty in
             let low : IsPrefix (refusals_from a.state e.before) first = (
@@ -396,36 +491,44 @@ module _ (h : Heading) (said : List ℕ → Said) where
 
   pub advances_filled : (a c d : LogView) (left left1 left2 : Option (List ℕ)) (l l1 l2 : List ℕ)
       (p : List ℕ → Type 0) → Advances h said a c left left1 l l1 p
-      → Reads h said c d left1 left2 l1 l2 (λ text. text ≡ []) → l1 ≡ [] → IsIdle h said c
+      → Reads h said c d left1 left2 l1 l2 (λ text. text ≡ []) → l1 ≡ [] → l2 ≡ l1 → IsIdle h said c
       → c.ended ≡ false → d.taken ≤ c.taken + 16384 → Advances h said a d left left2 l l2 p
   unfolding reads_more reads_on hears_on
-  advances_filled a c d left left1 left2 l l1 l2 p m n none idle on few = record {
+  advances_filled a c d left left1 left2 l l1 l2 p m n none same idle on few = record {
     reads = reads_more a c d left left1 left2 l l1 l2 p m.reads n;
     early = λ empty. early_filled a c d left left1 left2 l l1 l2 p (λ text. text ≡ []) m.reads n
         empty none idle on few;
+    one = λ empty. one_on a c m.reads.bytes l l1 p m.reads.hears empty none n.hears.heard
+        (none_last c d n.bytes l1 l2 (λ text. text ≡ []) n.hears none (same ∙ none));
   }
 
   -- none could be read
   pub breaks_filled : (fault : BridgeFault) (a c d : LogView) (left left1 left2 : Option (List ℕ))
       (l l1 l2 : List ℕ) (r r1 : Option (List ℕ)) (never : Bool) (reads reads1 : ℕ)
       → Advances h said a c left left1 l l1 (Appends r r1)
-      → Reads h said c d left1 left2 l1 l2 (λ text. text ≡ []) → l1 ≡ [] → IsIdle h said c
+      → Reads h said c d left1 left2 l1 l2 (λ text. text ≡ []) → l1 ≡ [] → l2 ≡ l1 → IsIdle h said c
       → c.ended ≡ false → d.taken ≤ c.taken + 16384
       → Stops h said d [] never reads reads1 0 0 fault
       → Breaks h said a d left left2 l l2 fault r r1
   unfolding reads_stopped reads_on hears_on early_filled
-  breaks_filled fault a c d left left1 left2 l l1 l2 r r1 never reads reads1 m n none idle on few
+  breaks_filled fault a c d left left1 left2 l l1 l2 r r1 never reads reads1 m n none kept idle on few
       stops =
       let first = m.reads.hears.heard in
       let same : refusals_from a.state (first ++ n.hears.heard) ≡ refusals_from a.state first =
       refusals_both a c m.reads.bytes l l1 (Appends r r1) n.hears.heard m.reads.hears
       ∙ ap (λ t. refusals_from a.state first ++ t) n.hears.told
       ∙ append-nil (refusals_from a.state first) in
+      let one : l ≡ [] → OneLast a.state (first ++ n.hears.heard) =
+      λ empty. one_on a c m.reads.bytes l l1 (Appends r r1) m.reads.hears empty none n.hears.heard
+      (none_last c d n.bytes l1 l2 (λ text. text ≡ []) n.hears none (kept ∙ none)) in
       record {
         reads = reads_stopped fault a c d left left1 left2 l l1 l2 r r1 never reads reads1 m.reads n
             stops;
         early = λ empty. early_filled a c d left left1 left2 l l1 l2 (Appends r r1)
             (λ text. text ≡ []) m.reads n empty none idle on few;
+        one = one;
+        stopped = λ empty. told_whole a.state (first ++ n.hears.heard) r r1 (one empty)
+            (subst (Appends r r1) (sym same) m.reads.hears.told);
         told = λ empty. subst (AppendsBetween r r1 (refusals_from a.state first)) (sym same)
             (between_whole r r1 (refusals_from a.state first) m.reads.hears.told);
       }

@@ -106,12 +106,39 @@ pub record Early (h : Heading) (said : List ℕ → Said) (a : LogView) (bytes :
   pub silent : lines_from a.state before ≡ []
   pub pieces : (bytes ≡ []) ⊎ LastPiece h said a bytes before
 
+-- receptions, of which none but the last one gave lines
+pub record OneLast (s : LogState) (heard : List Reception) : Type 0 where
+  pub done : List Reception
+  pub last : List Reception
+  pub heard_are : heard ≡ done ++ last
+  pub few : length last ≤ 1
+  pub silent : lines_from s done ≡ []
+
+-- one reception was passed, or none
+abbrev pub HearsOne : Heading → (List ℕ → Said) → LogView → LogView → List ℕ → List ℕ → (List ℕ → Type 0) → Type 0
+HearsOne h said a b lines lines_new tells =
+    (m : Hears h said a b [] lines lines_new tells) × (length m.heard ≤ 1)
+
+-- receptions were passed up to the first that gave lines
+abbrev pub HearsLast : Heading → (List ℕ → Said) → LogView → LogView → List ℕ → List ℕ → (List ℕ → Type 0) → Type 0
+HearsLast h said a b lines lines_new tells =
+    (m : Hears h said a b [] lines lines_new tells) × OneLast a.state m.heard
+
+-- the same up to one whose rejection could not be reported
+abbrev pub BreaksLast : Heading → (List ℕ → Said) → LogView → LogView → List ℕ → List ℕ
+    → Option (List ℕ) → Option (List ℕ) → Type 0
+BreaksLast h said a b lines lines_new reported reported_new =
+    (m : Hears h said a b [] lines lines_new (AppendsPrefix reported reported_new))
+    × (o : OneLast a.state m.heard)
+    × AppendsBetween reported reported_new (refusals_from a.state o.done) (refusals_from a.state m.heard)
+
 -- bytes were read, from where no lines wait
 pub record Advances (h : Heading) (said : List ℕ → Said) (a b : LogView)
     (left left_new : Option (List ℕ)) (lines lines_new : List ℕ) (tells : List ℕ → Type 0) :
     Type 0 where
   pub reads : Reads h said a b left left_new lines lines_new tells
   pub early : lines ≡ [] → Early h said a reads.bytes reads.hears.heard
+  pub one : lines ≡ [] → OneLast a.state reads.hears.heard
 
 -- the same up to an error, with no less reported than what was decided before the last piece
 pub record Breaks (h : Heading) (said : List ℕ → Said) (a b : LogView)
@@ -119,6 +146,9 @@ pub record Breaks (h : Heading) (said : List ℕ → Said) (a b : LogView)
     (reported reported_new : Option (List ℕ)) : Type 0 where
   pub reads : Reads h said a b left left_new lines lines_new (Tells fault reported reported_new)
   pub early : lines ≡ [] → Early h said a reads.bytes reads.hears.heard
+  pub one : lines ≡ [] → OneLast a.state reads.hears.heard
+  pub stopped : (none : lines ≡ []) → AppendsBetween reported reported_new
+      (refusals_from a.state (one none).done) (refusals_from a.state reads.hears.heard)
   pub told : (none : lines ≡ []) → AppendsBetween reported reported_new
       (refusals_from a.state (early none).before) (refusals_from a.state reads.hears.heard)
 

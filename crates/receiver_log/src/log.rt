@@ -12,7 +12,8 @@ ghost use Rattle.receiver_log.specs.Capture.{refusal_line};
 ghost use Rattle.receiver_messages.specs.declared.said.Said.{Said as SaidNow};
 ghost use Rattle.receiver_log.specs.Log.{counted};
 ghost use Rattle.receiver_log.specs.Mirrors.{to_come, work_left};
-ghost use Rattle.receiver_log.specs.Steps.{Advances, Breaks, Hears, IsIdle, Reads, Stops, fresh};
+ghost use Rattle.receiver_log.specs.Steps.{Advances, Breaks, BreaksLast, HearsLast, HearsOne};
+ghost use Rattle.receiver_log.specs.Steps.{IsIdle, Reads, Stops, fresh};
 ghost use Rattle.receiver_log.specs.Steps.{steps_left, view_of, waiting_of};
 
 use crate::hearing::hear;
@@ -25,9 +26,6 @@ use nav_io::{Failed, Source};
 use one_run::{BridgeFault, read_piece};
 use receiver_frames::Deframer;
 use receiver_messages::{Reason, Said};
-
-// While at most this many bytes of lines wait, the lines of one more message have room.
-const ROOM: usize = 8_192;
 
 // The most bytes of one read.
 const PIECE: usize = 16_384;
@@ -98,19 +96,18 @@ impl<J: Receiver> Log<J> {
         Ok(true)
     }
 
-    // Takes messages, until there are many lines or none is decided.
+    // Takes messages, until one gives lines or none is decided.
     fn take<R: Refused>(&mut self, refused: &mut R) -> Result<(), Failed>
-        ensures hears { OnOk result (Hears J.heading J.said (view_of self.old) (view_of self.new) []
+        ensures hears { OnOk result (HearsLast J.heading J.said (view_of self.old) (view_of self.new)
             [] self.new.lines.items (Appends (R.reported refused.old) (R.reported refused.new))) }
-        ensures stopped { OnErr result (Hears J.heading J.said
-            (view_of self.old) (view_of self.new) []
-            [] self.new.lines.items
-            (AppendsPrefix (R.reported refused.old) (R.reported refused.new))) }
+        ensures stopped { OnErr result (BreaksLast J.heading J.said
+            (view_of self.old) (view_of self.new) [] self.new.lines.items
+            (R.reported refused.old) (R.reported refused.new)) }
         ensures cause { HasCause (R.faults refused.old) (R.faults refused.new) result }
         ensures given { self.new.given ≡ 0 }
         ensures taken { self.new.taken ≡ self.old.taken }
         ensures finished { self.new.deframer.finished ≡ self.old.deframer.finished }
-        ensures idle { OnOk result (length self.new.lines.items ≤ 8192
+        ensures idle { OnOk result (length self.new.lines.items ≡ 0
             → IsIdle J.heading J.said (view_of self.new)) }
         ensures steady { OnOk result
             (steps_left (view_of self.new) ≤ steps_left (view_of self.old)) }
@@ -118,7 +115,7 @@ impl<J: Receiver> Log<J> {
             → steps_left (view_of self.new) < steps_left (view_of self.old)) }
     {
         self.clear();
-        while self.lines.len() <= ROOM {
+        while self.lines.is_empty() {
             if !self.step(refused)? {
                 return Ok(());
             }
@@ -131,11 +128,11 @@ impl<J: Receiver> Log<J> {
     fn step<R: Refused>(&mut self, refused: &mut R) -> Result<bool, Failed>
         requires room { length self.old.lines.items ≤ 8192 }
         requires given { self.old.given ≡ 0 }
-        ensures hears { OnOk result (Hears J.heading J.said (view_of self.old) (view_of self.new) []
+        ensures hears { OnOk result (HearsOne J.heading J.said (view_of self.old) (view_of self.new)
             self.old.lines.items self.new.lines.items
             (Appends (R.reported refused.old) (R.reported refused.new))) }
-        ensures stopped { OnErr result (Hears J.heading J.said
-            (view_of self.old) (view_of self.new) []
+        ensures stopped { OnErr result (HearsOne J.heading J.said
+            (view_of self.old) (view_of self.new)
             self.old.lines.items self.new.lines.items
             (AppendsPrefix (R.reported refused.old) (R.reported refused.new))) }
         ensures cause { HasCause (R.faults refused.old) (R.faults refused.new) result }

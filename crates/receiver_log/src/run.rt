@@ -21,7 +21,7 @@ use receiver_frames::decided_messages_stay_decided;
 ///   the report rose, or is at its maximum. After a failed read exactly the lines and the
 ///   rejections of all that the bytes read decide were written and reported. After any error a
 ///   prefix of the capture and of the report of the bytes read was, at least what all but the last
-///   16,384 of them decide.
+///   16,384 of them decide. Both stop in one message, and the counts are reported last.
 /// - `TooLong` only if 18,446,744,073,709,551,615 bytes were read.
 pub fn run_log<J: Receiver, S: Source, T: Sink, U: Sink>(
     input: &mut S,

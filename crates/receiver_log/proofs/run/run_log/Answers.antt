@@ -81,6 +81,9 @@ returns g c =
     (c.decided_messages_stay_decided.ensures g.J.Judge.heading g.met.J.Judge.is_heading))
     so_far.far so_far.none next.reads (sym end.0) (appends_none _)) _
     (c.as_slice.ensures.value ∙ c.counts_text.ensures) end.1 end.2 c.counts-counts.ensures.log
-    c.counts-counts.ensures.capture c.in-Err-write.ensures.bytes
+    c.counts-counts.ensures.capture
+    (grows g.J.Judge.heading g.J.Receiver.said g.J.Receiver.has_times g.met.J.Receiver.says_times
+    (c.decided_messages_stay_decided.ensures g.J.Judge.heading g.met.J.Judge.is_heading))
+    c.in-Err-write.ensures.bytes
     (rw (next.faults.1 ∙ so_far.told) at c.in-Err-write.ensures.cause.failed)
     (next.faults.0 ∙ so_far.read) so_far.write

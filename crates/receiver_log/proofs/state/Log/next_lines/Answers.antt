@@ -66,7 +66,7 @@ loop-self-preserved-in-Continue-1 g c =
       reads = advances_filled g.J.Judge.heading g.J.Receiver.said _ _ _ _ _ _ _ _ _ _
           (advances_took g.J.Judge.heading g.J.Receiver.said _ _ _ _ _ _ _ _ _ _ _
           (both_told _ _ _) none so_far.reads took.taken took.finished took.hears)
-          filled.reads (nil_from_length _ empty) (took.idle (omega (arith, empty)))
+          filled.reads (nil_from_length _ empty) filled.lines.0 (took.idle empty)
           (c.may_feed.ensures.0 c.if-not-may_feed.false).0 filled.few;
       source = filled.faults ∙ so_far.source;
       refused = took.cause.stays ∙ so_far.refused;
@@ -85,13 +85,12 @@ returns-in_err-fill-clause-stopped g c =
     drop_all s.given s.lines.items (omega (arith, c.loop-self-test.true, c.len.ensures.value)) in
     let empty : length c.take.new.self.lines.items ≡ 0 =
     eqb-true _ _ (sym c.is_empty.ensures ∙ c.if-is_empty.true) in
-    let few : length c.take.new.self.lines.items ≤ 8192 = omega (arith, empty) in
     rw (p.1, p.2, filled.lines.1, took.given) (breaks_filled g.J.Judge.heading
     g.J.Receiver.said _ _ _ _ _ _ _ _ _ _ _ _ _ _ _
     (advances_took g.J.Judge.heading g.J.Receiver.said _ _ _ _ _ _ _ _ _ _ _
     (both_told _ _ _) none c.loop-self.invariant.reads took.taken took.finished took.hears)
-    filled.reads (nil_from_length _ empty) (took.idle few)
-    (c.may_feed.ensures.0 c.if-not-may_feed.false).0 filled.few (filled.why [] 0 refl (took.idle few)))
+    filled.reads (nil_from_length _ empty) filled.lines.0 (took.idle empty)
+    (c.may_feed.ensures.0 c.if-not-may_feed.false).0 filled.few (filled.why [] 0 refl (took.idle empty)))
 
 pub returns-in_err-fill-clause-why : goal.returns-in_err-fill-clause-why
 returns-in_err-fill-clause-why g c =
@@ -101,10 +100,9 @@ returns-in_err-fill-clause-why g c =
     let p = err_from_is_err_and c.from_residual.result c.from_residual.ensures.1 in
     let empty : length c.take.new.self.lines.items ≡ 0 =
     eqb-true _ _ (sym c.is_empty.ensures ∙ c.if-is_empty.true) in
-    let few : length c.take.new.self.lines.items ≤ 8192 = omega (arith, empty) in
     let waits : drop c.fill.new.self.given c.fill.new.self.lines.items ≡ [] =
     drop_all c.fill.new.self.given c.fill.new.self.lines.items
     (omega (arith, empty, ap length filled.lines.0)) in
     rw (p.1, p.2) (stops_from g.J.Judge.heading g.J.Receiver.said _ _ _ _ _ _ _ _ _ _ _
     so_far.source (took.cause.stays ∙ so_far.refused) so_far.never
-    (filled.why _ _ waits (took.idle few)))
+    (filled.why _ _ waits (took.idle empty)))
