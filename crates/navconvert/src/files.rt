@@ -138,14 +138,26 @@ fn convert<'a>(
     inputs: Inputs<'a>,
     known: &mut Known,
 ) -> u8 {
-    let ahead = [read_ahead(settings, inputs.names)];
-    let inputs = match &ahead {
-        [None] => inputs,
-        ahead => Inputs {
-            staged: ahead,
-            ..inputs
-        },
-    };
+    match read_ahead(settings, inputs.names) {
+        None => convert_headed(settings, first, inputs, known),
+        ahead => {
+            let ahead = [ahead];
+            let inputs = Inputs {
+                names: inputs.names,
+                staged: &ahead,
+            };
+            convert_headed(settings, first, inputs, known)
+        }
+    }
+}
+
+// Makes the output of files with the leap seconds of their headers; the status.
+fn convert_headed<'a>(
+    settings: &Settings<'a>,
+    first: &'a str,
+    inputs: Inputs<'a>,
+    known: &mut Known,
+) -> u8 {
     let settings = &Settings {
         wanted: headed(settings, inputs),
         ..*settings

@@ -9,7 +9,6 @@ use file_conversion::{Target, leap_of};
 use nav_io::{LineKind, Lines};
 use rinex_write::HeaderWords;
 use std::io::Read;
-use std::slice::from_ref;
 use whole_file::Kind;
 
 // So many bytes of standard input are read ahead.
@@ -85,19 +84,17 @@ fn leap_of_files(settings: &Settings, inputs: Inputs) -> Option<u8> {
 // The leap seconds of the first header of a file that can be read again, or of the first bytes of
 // standard input.
 fn leap_of_file(settings: &Settings, file: &str, staged: &[Staged]) -> Option<u8> {
-    let inputs = match (file, staged) {
-        ("-", [Some(_), ..]) => Inputs {
-            names: &["first bytes"],
-            staged,
-        },
-        ("-", _) => return None,
-        _ if is_read_once(settings.rt, file) => return None,
-        _ => Inputs {
-            names: from_ref(&file),
-            staged: &[],
-        },
-    };
-    match opened(settings.rt, inputs) {
+    match (file, staged) {
+        ("-", [Some(_), ..]) => leap_in(settings.rt, &["first bytes"], staged),
+        ("-", _) => None,
+        _ if is_read_once(settings.rt, file) => None,
+        _ => leap_in(settings.rt, &[file], &[]),
+    }
+}
+
+// The leap seconds of the first header of inputs.
+fn leap_in<'a>(rt: &'a HostRuntime, names: &'a [&'a str], staged: &'a [Staged]) -> Option<u8> {
+    match opened(rt, Inputs { names, staged }) {
         Ok(input) => leap_of_header(input),
         Err(_) => None,
     }
