@@ -15,10 +15,10 @@ use Rattle.message_parts.specs.Orders.{bits_in}
 unfoldable pub ubx_by : Option PartRule → List ℕ → Found
 ubx_by None payload = Nothing
 ubx_by (Some rule) payload =
-    if has rule.signals.now (slice_index payload 2)
+    if has rule.signals (slice_index payload 2)
     then if nat_le rule.least (slice_index payload 4) && nat_le (slice_index payload 4) rule.most
     && length payload == 8 + 4 * slice_index payload 4
-    then found_in rule.satellites.now (slice_index payload 1)
+    then found_in rule.satellites (slice_index payload 1)
     (bits_in rule.order (slice_index payload 3) payload 8)
     else Refused Length
     else Nothing
@@ -41,8 +41,8 @@ unfoldable pub sbf_by : Option PartRule → List ℕ → Found
 sbf_by None block = Nothing
 sbf_by (Some rule) block =
     if nat_lt (length block) (20 + 4 * rule.least) then Refused Length
-    else if has rule.signals.now (slice_index block 17 % 32) && nat_le 1 (slice_index block 15)
-    then found_in rule.satellites.now (slice_index block 14)
+    else if has rule.signals (slice_index block 17 % 32) && nat_le 1 (slice_index block 15)
+    then found_in rule.satellites (slice_index block 14)
     (bits_in rule.order (slice_index block 18 - 1) block 20)
     else Nothing
 

@@ -45,7 +45,7 @@ joined_words words =
 -- a GLONASS string of 85 bits, eleven bits 0, the numbers of superframe and frame, and the frequency number plus 7 in 8 bits
 abbrev pub string_bits : ℕ → ℕ → List ℕ → ℕ → List ℕ
 string_bits numbers frequency bytes at =
-    two_words bytes at ∷ word bytes (at + 8) / 2 ^ 11 * 2 ^ 43 + numbers ∷ frequency * 2 ^ 56 ∷ 0 ∷ 0 ∷ []
+    two_words bytes at ∷ (word bytes (at + 8) / 2 ^ 11 * 2 ^ 43 + numbers) ∷ frequency * 2 ^ 56 ∷ 0 ∷ 0 ∷ []
 
 -- the bits in an order; where a message does not number superframe and frame, both are 0
 abbrev pub bits_in : WordOrder → ℕ → List ℕ → ℕ → List ℕ

@@ -1,11 +1,12 @@
 //! The bits of a part in the words of a message.
 
 ghost use Rattle.std.specs.Prelude.{◌≡◌, ◌+◌, ◌-◌, ◌*◌, ◌/◌, ◌%◌, ◌^◌, ◌<◌, ◌≤◌, length};
+ghost use Rattle.nav_bits.specs.Bits.{number_at};
 ghost use Rattle.message_parts.specs.Orders.{bits_in, first_bits, joined_words, right_words};
 ghost use Rattle.message_parts.specs.Orders.{string_bits, top_bits, two_words, word};
 
 use crate::rule::WordOrder;
-use nav_bits::U;
+use nav_bits::{Bits, U};
 use receiver_messages::{read_words, subframe_bits};
 
 // The word at a byte offset; 0 past the end of the message.
@@ -85,6 +86,14 @@ fn right_words(bytes: &[u8], at: usize) -> [U<30>; 10]
     ]
 }
 
+// The last 44 of 300 bits, then 20 bits 0.
+fn last_bits(bits: &Bits<38>) -> u64
+    ensures { result ≡ number_at bits.now 256 44 * 2 ^ 20 }
+{
+    let low = bits.get(256, 44);
+    low * 1_048_576
+}
+
 // Ten words one after the other.
 fn joined_words(words: &[U<30>; 10]) -> [u64; 5]
     ensures { result ≡ joined_words words.now }
@@ -95,7 +104,7 @@ fn joined_words(words: &[U<30>; 10]) -> [u64; 5]
         bits.get(64, 64),
         bits.get(128, 64),
         bits.get(192, 64),
-        bits.get(256, 44) << 20,
+        last_bits(&bits),
     ]
 }
 

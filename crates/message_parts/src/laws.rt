@@ -5,6 +5,7 @@ ghost use Rattle.receiver_messages.specs.Sbf.{sbf_said};
 ghost use Rattle.receiver_messages.specs.Ubx.{ubx_said};
 ghost use Rattle.receiver_messages.specs.declared.said.Said.TheVariants.{Other};
 ghost use Rattle.message_parts.specs.Messages.{sbf_part, ubx_part};
+ghost use Rattle.message_parts.specs.declared.tables.TheConstants.{SBF_PARTS, UBX_PARTS};
 ghost use Rattle.message_parts.specs.declared.part.Found.TheVariants.{Nothing};
 
 /// A UBX message with a time, a GPS subframe or a Galileo I/NAV page, or one rejected as such, has

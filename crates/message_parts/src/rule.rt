@@ -41,10 +41,10 @@ pub struct Satellites {
 pub struct PartRule {
     /// The gnssId of RXM-SFRBX, or the number of the block.
     pub source: u32,
-    /// The numbers of the signals.
-    pub signals: &'static [u8],
-    /// The satellites.
-    pub satellites: &'static [Satellites],
+    /// The numbers of the signals, some of them again and again.
+    pub signals: [u8; 6],
+    /// The satellites; none of them where the least number is above the greatest.
+    pub satellites: [Satellites; 4],
     /// How many words there are at least.
     pub least: u8,
     /// How many at most.
@@ -81,7 +81,7 @@ pub(crate) fn has(numbers: &[u8], number: u8) -> bool
 
 /// The part with these bits of the satellite that the receiver gives this number.
 pub(crate) fn found_of(satellites: &[Satellites], number: u8, bits: [u64; 5]) -> Found
-    ensures { result ≡ found_in satellites.now number bits.entry }
+    ensures { result ≡ found_in satellites.now number bits }
 {
     match satellites.split_first() {
         None => Found::Refused(Reason::Satellite),

@@ -41,12 +41,12 @@ fn part_by(rule: &Option<PartRule>, block: &[u8]) -> Found
     if block.len() < 20 + 4 * rule.least as usize {
         return Found::Refused(Reason::Length);
     }
-    if !has(rule.signals, block[17] % 32) || block[15] == 0 {
+    if !has(&rule.signals, block[17] % 32) || block[15] == 0 {
         return Found::Nothing;
     }
     let frequency = block[18].saturating_sub(1);
     found_of(
-        rule.satellites,
+        &rule.satellites,
         block[14],
         bits_of(rule.order, frequency, block, 20),
     )

@@ -238,11 +238,19 @@ fn part_of(row: &MessageRow) -> Part {
 fn parts_of_messages(rt: HostRuntime) {
     for row in &UBX_ROWS {
         let (bytes, count) = bytes_of(row.message);
-        assert!(rt; ubx_part(&bytes[..count]) == Found::Part(part_of(row)), "{}", row.name);
+        assert!(rt;
+            ubx_part(&bytes[..count]) == Found::Part(part_of(row)),
+            "{}",
+            row.name
+        );
     }
     for row in &SBF_ROWS {
         let (bytes, count) = bytes_of(row.message);
-        assert!(rt; sbf_part(&bytes[..count]) == Found::Part(part_of(row)), "{}", row.name);
+        assert!(rt;
+            sbf_part(&bytes[..count]) == Found::Part(part_of(row)),
+            "{}",
+            row.name
+        );
     }
 }
 

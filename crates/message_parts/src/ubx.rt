@@ -43,7 +43,7 @@ fn part_by(rule: &Option<PartRule>, payload: &[u8]) -> Found
     let Some(rule) = rule else {
         return Found::Nothing;
     };
-    if !has(rule.signals, payload[2]) {
+    if !has(&rule.signals, payload[2]) {
         return Found::Nothing;
     }
     let words = payload[4];
@@ -51,7 +51,7 @@ fn part_by(rule: &Option<PartRule>, payload: &[u8]) -> Found
         return Found::Refused(Reason::Length);
     }
     found_of(
-        rule.satellites,
+        &rule.satellites,
         payload[1],
         bits_of(rule.order, payload[3], payload, 8),
     )
