@@ -1,6 +1,6 @@
 -- A message with a time, a subframe or a page has no part of a further kind.
 use Rattle.std.proofs.Common.{◌≡◌, ℕ, ◌%◌, ◌⊎◌, inl, inr, nat_eq, nat_le, nat_lt, Bool, true, false}
-use Rattle.std.proofs.Common.{List, length, refl, sym, ⊥}
+use Rattle.std.proofs.Common.{◌∙◌, List, length, refl, sym}
 use Rattle.std.specs.Prelude.{slice_index}
 use Rattle.std.proofs.lemmas.Bool.{cases_Bool, cases_eq, le-leb, lt-leb, ltb-false, ltb-true, ne_eqb}
 use Rattle.receiver_messages.specs.Numbers.{two_at}

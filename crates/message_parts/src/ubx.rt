@@ -18,8 +18,12 @@ pub fn ubx_part(message: &[u8]) -> Found
     if message.len() < 8 {
         return Found::Nothing;
     }
-    let end = message.len() - 2;
-    payload_part(&UBX_PARTS, message[2], message[3], &message[6..end])
+    payload_part(
+        &UBX_PARTS,
+        message[2],
+        message[3],
+        &message[6..message.len() - 2],
+    )
 }
 
 // The part in a payload of this class and ID.
