@@ -1,17 +1,19 @@
--- A subframe is of a GPS satellite, a page of a Galileo satellite; messages of a log with times of their own have no time
+-- A subframe is of a GPS satellite, a page of a Galileo satellite, a part of a kind with a letter; messages of a log with times of their own have no time
 -- messages between them.
-use Rattle.std.specs.Prelude.{◌≡◌, Bool, true, false}
+use Rattle.std.specs.Prelude.{◌≡◌, ◌≤◌, Bool, true, false}
 use Rattle.nav_eph.specs.declared.sat.System.TheVariants.{Gps, Gal}
 use Rattle.receiver_messages.specs.declared.said.Content.{Content}
-use Rattle.receiver_messages.specs.declared.said.Content.TheVariants.{Refused, Subframe, Page}
+use Rattle.receiver_messages.specs.declared.said.Content.TheVariants.{Refused, Subframe, Page, Part}
 use Rattle.receiver_messages.specs.declared.said.Said.{Said}
 use Rattle.receiver_messages.specs.declared.said.Said.TheVariants.{Other, Time, Heard, Dated}
 
--- the satellite of a subframe is of GPS, that of a page of Galileo
+-- the satellite of a subframe is of GPS, that of a page of Galileo; a part has a capital letter and a satellite from 1 to 99
 abbrev pub IsOfSystem : Content → Type 0
 IsOfSystem (Refused reason) = Unit {0}
 IsOfSystem (Subframe sat words) = sat.system ≡ Gps
 IsOfSystem (Page sat signal even odd) = sat.system ≡ Gal
+IsOfSystem (Part kind satellite bits) =
+    ((65 ≤ kind) × (kind ≤ 90)) × ((1 ≤ satellite) × (satellite ≤ 99))
 
 -- the same of the content of a message
 abbrev pub SaysOfSystem : Said → Type 0

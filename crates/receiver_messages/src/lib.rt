@@ -27,5 +27,6 @@ mod words;
 pub use crate::laws::{one_reading_is_good, sent_words_are_read};
 pub use crate::said::{Content, Reason, Said};
 pub use crate::sbf::sbf_said;
+pub use crate::times::time_in;
 pub use crate::ubx::ubx_said;
 pub use crate::words::{ReadWords, read_words, subframe_bits};
