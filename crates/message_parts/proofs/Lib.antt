@@ -1,1 +1,2 @@
 mod OneReader
+mod Named

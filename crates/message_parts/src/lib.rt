@@ -5,7 +5,8 @@
 //! satellites, how many words it has, and in which order the bits lie in them. So a further kind
 //! takes no function.
 //!
-//! - [`ubx_part`] and [`sbf_part`], the part that a message has ([`Found`]).
+//! - [`ubx_part`] and [`sbf_part`], the part that a message has ([`Found`]);
+//! - [`ubx_all_said`] and [`sbf_all_said`], the content of a message with parts of further kinds.
 //!
 //! ```rust
 //! match ubx_part(message) {
@@ -16,6 +17,7 @@
 //! ```
 #![tactic(auto)]
 
+mod all;
 mod bits;
 mod laws;
 mod part;
@@ -26,6 +28,7 @@ mod tables;
 mod tests;
 mod ubx;
 
+pub use crate::all::{sbf_all_said, ubx_all_said};
 pub use crate::laws::{sbf_messages_have_one_reader, ubx_messages_have_one_reader};
 pub use crate::part::{Found, Part};
 pub use crate::rule::{PartRule, Satellites, WordOrder};

@@ -2,6 +2,7 @@
 
 ghost use Rattle.std.specs.Prelude.{◌≡◌, ◌≤◌, ◌+◌, ◌%◌, length};
 ghost use Rattle.receiver_messages.specs.Numbers.{two_at};
+ghost use Rattle.message_parts.specs.Named.{IsNamed};
 ghost use Rattle.message_parts.specs.Messages.{sbf_by, sbf_part};
 
 use crate::bits::bits_of;
@@ -22,7 +23,8 @@ fn number_of(block: &[u8]) -> u32
 /// receiver's own check held, or the reason why it gives none.
 #[tactic(auto, unfolding(crate::specs::Messages::sbf_part))]
 pub fn sbf_part(block: &[u8]) -> Found
-    ensures { result ≡ sbf_part SBF_PARTS block.now }
+    ensures value { result ≡ sbf_part SBF_PARTS block.now }
+    ensures named { IsNamed result }
 {
     if block.len() < 8 {
         return Found::Nothing;

@@ -1,6 +1,7 @@
 //! Parts in UBX messages.
 
 ghost use Rattle.std.specs.Prelude.{◌≡◌, ◌≤◌, length};
+ghost use Rattle.message_parts.specs.Named.{IsNamed};
 ghost use Rattle.message_parts.specs.Messages.{payload_part, ubx_by, ubx_part};
 
 use crate::bits::bits_of;
@@ -13,7 +14,8 @@ use receiver_messages::Reason;
 /// a signal in [`UBX_PARTS`], or the reason why it gives none.
 #[tactic(auto, unfolding(crate::specs::Messages::ubx_part))]
 pub fn ubx_part(message: &[u8]) -> Found
-    ensures { result ≡ ubx_part UBX_PARTS message.now }
+    ensures value { result ≡ ubx_part UBX_PARTS message.now }
+    ensures named { IsNamed result }
 {
     if message.len() < 8 {
         return Found::Nothing;

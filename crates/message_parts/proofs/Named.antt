@@ -1,0 +1,91 @@
+-- What tables give has a letter and a satellite from 1 to 99.
+use Rattle.std.proofs.Common.{◌≡◌, ℕ, ◌+◌, ◌*◌, ◌%◌, ◌≤◌, ◌&&◌, ◌||◌, nat_le, nat_lt, Bool, true, false}
+use Rattle.std.proofs.Common.{List, [], ◌∷◌, length, inl, inr, ◌⊎◌, refl, arith}
+use Rattle.std.specs.Prelude.{Option, Some, None, if◌then◌else◌, slice_index}
+use Rattle.std.proofs.lemmas.Bool.{and_parts, leb-true, ltb-true, or_cases}
+use Rattle.receiver_messages.specs.Numbers.{two_at}
+use Rattle.receiver_messages.specs.Ubx.{payload_of}
+use Rattle.message_parts.specs.Messages.{payload_part, sbf_by, sbf_part, ubx_by, ubx_part}
+use Rattle.message_parts.specs.Named.{IsNamed, are_named, are_rules, is_named}
+use Rattle.message_parts.specs.Rules.{found_in, rule_in}
+use Rattle.message_parts.specs.declared.part.Found.{Found}
+use Rattle.message_parts.specs.declared.part.Found.TheVariants.{Nothing, Refused, Part}
+use Rattle.message_parts.specs.declared.rule.PartRule.{PartRule}
+use Rattle.message_parts.specs.declared.rule.Satellites.{Satellites}
+
+if_named : (b : Bool) (x y : Found) → (b ≡ true → IsNamed x) → IsNamed y
+    → IsNamed (if b then x else y)
+if_named true x y p q = p refl
+if_named false x y p q = q
+
+here : (s : Satellites) (number : ℕ) (bits : List ℕ) → is_named s ≡ true → s.first ≤ number
+    → number ≤ s.last
+    → IsNamed (Part (record { kind = s.kind; satellite = number - s.less; bits = bits }))
+here s number bits ok from to = by (or_cases (nat_lt s.last s.first) _ ok)
+  where
+    by : (nat_lt s.last s.first ≡ true)
+        ⊎ (((nat_le 65 s.kind && nat_le s.kind 90)
+        && (nat_lt s.less s.first && nat_le s.last (s.less + 99))) ≡ true)
+        → IsNamed (Part (record { kind = s.kind; satellite = number - s.less; bits = bits }))
+    by (inl none) = absurd (omega (arith, ltb-true _ _ none, from, to))
+    by (inr some) =
+        let h = and_parts (nat_le 65 s.kind && nat_le s.kind 90) _ some in
+        let kind = and_parts (nat_le 65 s.kind) _ h.0 in
+        let place = and_parts (nat_lt s.less s.first) _ h.1 in
+        let low = ltb-true _ _ place.0 in
+        let high = leb-true _ _ place.1 in (
+          (leb-true _ _ kind.0, leb-true _ _ kind.1),
+          (omega (arith, low, from), omega (arith, high, to, low, from)),
+        )
+
+found_named : (ss : List Satellites) (number : ℕ) (bits : List ℕ) → are_named ss ≡ true
+    → IsNamed (found_in ss number bits)
+found_named [] number bits ok = tt
+found_named (s ∷ ss) number bits ok =
+    let h = and_parts (is_named s) (are_named ss) ok in
+    if_named (nat_le s.first number && nat_le number s.last) _ _
+    (λ e. let is = and_parts (nat_le s.first number) (nat_le number s.last) e in
+    here s number bits h.0 (leb-true _ _ is.0) (leb-true _ _ is.1))
+    (found_named ss number bits h.1)
+
+-- a rule, if any, is named
+abbrev IsRule : Option PartRule → Type 0
+IsRule None = Unit {0}
+IsRule (Some r) = are_named r.satellites ≡ true
+
+if_rule : (b : Bool) (x y : Option PartRule) → IsRule x → IsRule y → IsRule (if b then x else y)
+if_rule true x y p q = p
+if_rule false x y p q = q
+
+rule_named : (rules : List PartRule) (source : ℕ) → are_rules rules ≡ true
+    → IsRule (rule_in rules source)
+rule_named [] source ok = tt
+rule_named (r ∷ rs) source ok =
+    let h = and_parts (are_named r.satellites) (are_rules rs) ok in
+    if_rule _ _ _ h.0 (rule_named rs source h.1)
+
+ubx_by_named : (rule : Option PartRule) (payload : List ℕ) → IsRule rule
+    → IsNamed (ubx_by rule payload)
+unfolding ubx_by
+ubx_by_named None payload is = tt
+ubx_by_named (Some rule) payload is =
+    if_named _ _ _ (λ _. if_named _ _ _ (λ _. found_named rule.satellites _ _ is) tt) tt
+
+pub ubx_named : (rules : List PartRule) (message : List ℕ) → are_rules rules ≡ true
+    → IsNamed (ubx_part rules message)
+unfolding ubx_part payload_part
+ubx_named rules message ok =
+    if_named _ _ _ (λ _. tt) (if_named _ _ _ (λ _. ubx_by_named _ _ (rule_named rules _ ok)) tt)
+
+sbf_by_named : (rule : Option PartRule) (block : List ℕ) → IsRule rule
+    → IsNamed (sbf_by rule block)
+unfolding sbf_by
+sbf_by_named None block is = tt
+sbf_by_named (Some rule) block is =
+    if_named _ _ _ (λ _. tt) (if_named _ _ _ (λ _. found_named rule.satellites _ _ is) tt)
+
+pub sbf_named : (rules : List PartRule) (block : List ℕ) → are_rules rules ≡ true
+    → IsNamed (sbf_part rules block)
+unfolding sbf_part
+sbf_named rules block ok =
+    if_named _ _ _ (λ _. tt) (sbf_by_named _ _ (rule_named rules _ ok))
