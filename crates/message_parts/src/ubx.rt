@@ -12,16 +12,23 @@ use receiver_messages::Reason;
 
 /// The part of a further kind in a complete UBX message, from sync bytes to checksum: RXM-SFRBX of
 /// a signal in [`UBX_PARTS`], or the reason why it gives none.
-#[tactic(auto, unfolding(crate::specs::Messages::ubx_part))]
 pub fn ubx_part(message: &[u8]) -> Found
     ensures value { result ≡ ubx_part UBX_PARTS message.now }
     ensures named { IsNamed result }
+{
+    message_part(&UBX_PARTS, message)
+}
+
+// The part in a message by a table.
+#[tactic(auto, unfolding(crate::specs::Messages::ubx_part))]
+fn message_part(rules: &[PartRule], message: &[u8]) -> Found
+    ensures { result ≡ ubx_part rules.now message.now }
 {
     if message.len() < 8 {
         return Found::Nothing;
     }
     payload_part(
-        &UBX_PARTS,
+        rules,
         message[2],
         message[3],
         &message[6..message.len() - 2],
