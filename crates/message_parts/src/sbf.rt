@@ -21,15 +21,22 @@ fn number_of(block: &[u8]) -> u32
 
 /// The part of a further kind in a complete SBF block: one of [`SBF_PARTS`] for which the
 /// receiver's own check held, or the reason why it gives none.
-#[tactic(auto, unfolding(crate::specs::Messages::sbf_part))]
 pub fn sbf_part(block: &[u8]) -> Found
     ensures value { result ≡ sbf_part SBF_PARTS block.now }
     ensures named { IsNamed result }
 {
+    block_part(&SBF_PARTS, block)
+}
+
+// The part in a block by a table.
+#[tactic(auto, unfolding(crate::specs::Messages::sbf_part))]
+fn block_part(rules: &[PartRule], block: &[u8]) -> Found
+    ensures { result ≡ sbf_part rules.now block.now }
+{
     if block.len() < 8 {
         return Found::Nothing;
     }
-    part_by(&rule_of(&SBF_PARTS, number_of(block)), block)
+    part_by(&rule_of(rules, number_of(block)), block)
 }
 
 // The part in a block by a rule.

@@ -10,7 +10,7 @@
 use nav_io::{ReadSource, WriteSink};
 use one_run::Status;
 use receiver_frames::{SbfJudge, UbxJudge};
-use receiver_log::{Receiver, run_log};
+use receiver_log::{AllKinds, Receiver, run_log};
 use std::env;
 use std::io::ErrorKind;
 use std::process::ExitCode;

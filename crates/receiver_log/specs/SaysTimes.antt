@@ -1,11 +1,17 @@
 -- In each format the messages have times of their own, or else time messages come between them.
 use Rattle.std.specs.Prelude.{◌==◌, ◌&&◌, ◌%◌, ℕ, Bool, true, false, refl, if◌then◌else◌}
-use Rattle.std.specs.Prelude.{nat_lt, nat_le, List, length, slice_index}
+use Rattle.std.specs.Prelude.{nat_lt, nat_le, List, length, slice_index, Option}
 use Rattle.receiver_messages.specs.Numbers.{two_at}
 use Rattle.receiver_messages.specs.Sbf.{block_said, pages_said, sbf_said, subframe_said}
 use Rattle.receiver_messages.specs.Systems.{SaysTimes}
 use Rattle.receiver_messages.specs.Ubx.{payload_of, payload_said, ubx_said, words_said}
 use Rattle.receiver_messages.specs.declared.said.Said.{Said}
+use Rattle.receiver_messages.specs.declared.said.Said.TheVariants.{Other, Time, Heard, Dated}
+use Rattle.message_parts.specs.All.{dated_in, heard_in, instead, sbf_all, time_of, ubx_all}
+use Rattle.message_parts.specs.Messages.{sbf_part, ubx_part}
+use Rattle.message_parts.specs.declared.part.Found.{Found}
+use Rattle.message_parts.specs.declared.part.Found.TheVariants.{Nothing, Refused, Part}
+use Rattle.message_parts.specs.declared.tables.TheConstants.{SBF_PARTS, UBX_PARTS}
 
 says_if : (has_times b : Bool) (x y : Said) → SaysTimes has_times x → SaysTimes has_times y
     → SaysTimes has_times (if b then x else y)
@@ -56,3 +62,29 @@ pub sbf_says_times : (block : List ℕ) → SaysTimes true (sbf_said block)
 unfolding sbf_said
 sbf_says_times block =
     says_if true (nat_lt (length block) 8) _ _ tt (block_says_times (two_at block 4 % 8192) block)
+
+instead_says : (has_times : Bool) (x y : Said) → SaysTimes has_times x → SaysTimes has_times y
+    → SaysTimes has_times (instead x y)
+instead_says has_times Other y p q = q
+instead_says has_times (Time time) y p q = p
+instead_says has_times (Heard content) y p q = p
+instead_says has_times (Dated time content) y p q = p
+
+heard_says : (found : Found) → SaysTimes false (heard_in found)
+heard_says Nothing = tt
+heard_says (Refused reason) = refl
+heard_says (Part p) = refl
+
+dated_says : (time : Option ℕ) (found : Found) → SaysTimes true (dated_in time found)
+dated_says time Nothing = tt
+dated_says time (Refused reason) = refl
+dated_says time (Part p) = refl
+
+pub ubx_all_says_times : (message : List ℕ) → SaysTimes false (ubx_all message)
+ubx_all_says_times message =
+    instead_says false _ _ (ubx_says_times message) (heard_says (ubx_part UBX_PARTS message))
+
+pub sbf_all_says_times : (block : List ℕ) → SaysTimes true (sbf_all block)
+sbf_all_says_times block =
+    instead_says true _ _ (sbf_says_times block)
+    (dated_says (time_of block) (sbf_part SBF_PARTS block))

@@ -4,8 +4,9 @@
 //! subframes and Galileo I/NAV pages become lines of a capture, each with its second as time tag,
 //! counted from the start of the week in the first line.
 //!
-//! - [`Receiver`], a format of messages and their content: `UbxJudge` and `SbfJudge`;
-//! - [`hear`], the lines of one subframe or page;
+//! - [`Receiver`], a format of messages and their content: `UbxJudge` and `SbfJudge`, and with
+//!   parts of further kinds, as lines of a capture of version 3, [`AllKinds`] of these;
+//! - [`hear`], the lines of one subframe, page or part;
 //! - [`run_log`], which writes the capture of a log, and reports rejected messages and counts;
 //! - [`LogSource`], over a source of the log's bytes, which gives the same capture however reads
 //!   split it, so that a conversion of captures can read a log; [`Refused`], who is notified of its
@@ -19,6 +20,7 @@
 //! ```
 #![tactic(auto)]
 
+mod all;
 mod hearing;
 mod lines;
 mod log;
@@ -30,6 +32,7 @@ mod run;
 mod source;
 mod state;
 
+pub use crate::all::AllKinds;
 pub use crate::hearing::hear;
 pub use crate::lines::LineBuffer;
 pub use crate::receiver::Receiver;

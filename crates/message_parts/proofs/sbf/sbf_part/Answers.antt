@@ -6,4 +6,4 @@ use Rattle.message_parts.proofs.sbf.sbf_part.Goals as goal
 
 pub returns-clause-named : goal.returns-clause-named
 returns-clause-named c =
-    subst IsNamed (sym c.part_by.ensures) (sbf_named SBF_PARTS c.args.block.now refl)
+    subst IsNamed (sym c.block_part.ensures) (sbf_named SBF_PARTS c.args.block.now refl)
