@@ -1,7 +1,7 @@
 -- What tables give has a letter and a satellite from 1 to 99.
-use Rattle.std.proofs.Common.{◌≡◌, ℕ, ◌+◌, ◌*◌, ◌%◌, ◌≤◌, ◌&&◌, ◌||◌, nat_le, nat_lt, Bool, true, false}
+use Rattle.std.proofs.Common.{◌≡◌, ℕ, ◌+◌, ◌-◌, ◌*◌, ◌%◌, ◌≤◌, ◌&&◌, ◌||◌, nat_le, nat_lt, Bool, true, false}
 use Rattle.std.proofs.Common.{List, [], ◌∷◌, length, inl, inr, ◌⊎◌, refl, arith}
-use Rattle.std.specs.Prelude.{Option, Some, None, if◌then◌else◌, slice_index}
+use Rattle.std.specs.Prelude.{◌==◌, Option, Some, None, if◌then◌else◌, slice_index}
 use Rattle.std.proofs.lemmas.Bool.{and_parts, leb-true, ltb-true, or_cases}
 use Rattle.receiver_messages.specs.Numbers.{two_at}
 use Rattle.receiver_messages.specs.Ubx.{payload_of}
@@ -62,7 +62,7 @@ rule_named : (rules : List PartRule) (source : ℕ) → are_rules rules ≡ true
 rule_named [] source ok = tt
 rule_named (r ∷ rs) source ok =
     let h = and_parts (are_named r.satellites) (are_rules rs) ok in
-    if_rule _ _ _ h.0 (rule_named rs source h.1)
+    if_rule (r.source == source) (Some r) (rule_in rs source) h.0 (rule_named rs source h.1)
 
 ubx_by_named : (rule : Option PartRule) (payload : List ℕ) → IsRule rule
     → IsNamed (ubx_by rule payload)

@@ -50,15 +50,15 @@ IsEarly h said bytes heard =
     (rest : List Reception) × (heard ≡ early_receptions h said bytes ++ rest)
 
 -- the log was read so far, and the lines that came were written
-pub record SoFar (h : Heading) (said : List ℕ → Said)
+pub record SoFar (h : Heading) (said : List ℕ → Said) (version : ℕ)
     (left left_new written written_new reported reported_new : Option (List ℕ)) (a : LogView) :
     Type 0 where
   pub text : List ℕ
-  pub reads : Reads h said fresh a left left_new [] text (Appends reported reported_new)
+  pub reads : Reads h said (fresh version) a left left_new [] text (Appends reported reported_new)
   pub grew : Appends written written_new text
   pub early : IsEarly h said reads.bytes reads.hears.heard
 
-module _ (h : Heading) (said : List ℕ → Said) where
+module _ (h : Heading) (said : List ℕ → Said) (version : ℕ) where
   -- ---- what was passed before the last piece
 
   -- the decided receptions to come from the start are those of the definition
@@ -69,7 +69,7 @@ module _ (h : Heading) (said : List ℕ → Said) where
 
   -- those that all but the last 16,384 bytes decide are among those before the last piece
   early_on : (a : LogView) (x y : List ℕ) (xs before : List Reception) → Grows h said
-      → Passes h said fresh a x xs → IsEarly h said x xs → (a.ended ≡ true → y ≡ [])
+      → Passes h said (fresh version) a x xs → IsEarly h said x xs → (a.ended ≡ true → y ≡ [])
       → (y ≡ []) ⊎ LastPiece h said a y before → IsEarly h said (x ++ y) (xs ++ before)
   early_on a x y xs before grows passes early stays pieces = by_end a.ended refl pieces where
     none : y ≡ [] → IsEarly h said (x ++ y) (xs ++ before)
@@ -107,12 +107,13 @@ module _ (h : Heading) (said : List ℕ → Said) where
     by_end true over (inr last) = none (stays over)
 
   -- nothing was read yet
-  pub start : (left w r : Option (List ℕ)) (a : LogView) → a ≡ fresh → SoFar h said left left w w r r a
+  pub start : (left w r : Option (List ℕ)) (a : LogView) → a ≡ fresh version
+      → SoFar h said version left left w w r r a
   unfolding reads_none hears_nothing
   start left w r a is = rw is (record {
     text = [];
-    reads = reads_none h said fresh fresh left [] [] (Appends r r) refl refl
-        (hears_nothing h said fresh [] (Appends r r) (appends_none r));
+    reads = reads_none h said (fresh version) (fresh version) left [] [] (Appends r r) refl refl
+        (hears_nothing h said (fresh version) [] (Appends r r) (appends_none r));
     grew = appends_none w;
     early = ([], refl);
   })
@@ -138,15 +139,15 @@ module _ (h : Heading) (said : List ℕ → Said) where
 
   next : (left l1 l2 w w1 r r1 : Option (List ℕ)) (a b : LogView) (old lines : List ℕ)
       (p q : List ℕ → Type 0) → Joins (Appends r r1) p q
-      → (far : SoFar h said left l1 w w1 r r1 a) → old ≡ [] → Reads h said a b l1 l2 old lines p
-      → Reads h said fresh b left l2 [] (far.text ++ lines) q
+      → (far : SoFar h said version left l1 w w1 r r1 a) → old ≡ [] → Reads h said a b l1 l2 old lines p
+      → Reads h said (fresh version) b left l2 [] (far.text ++ lines) q
   next left l1 l2 w w1 r r1 a b old lines p q join far none m =
-      reads_on h said fresh a b left l1 l2 [] far.text (far.text ++ lines) (Appends r r1) p q join
+      reads_on h said (fresh version) a b left l1 l2 [] far.text (far.text ++ lines) (Appends r r1) p q join
       far.reads (behind a b l1 l2 old lines far.text p none m)
 
   -- what was passed before the last piece begins as it must
   next_early : (left l1 l2 w w1 r r1 : Option (List ℕ)) (a b : LogView) (old lines : List ℕ)
-      (p : List ℕ → Type 0) (far : SoFar h said left l1 w w1 r r1 a)
+      (p : List ℕ → Type 0) (far : SoFar h said version left l1 w w1 r r1 a)
       (m : Reads h said a b l1 l2 old lines p) (e : Early h said a m.bytes m.hears.heard)
       → Grows h said
       → IsEarly h said (far.reads.bytes ++ m.bytes) (far.reads.hears.heard ++ e.before)
@@ -156,7 +157,7 @@ module _ (h : Heading) (said : List ℕ → Said) where
 
   -- and so does all that was passed
   next_all : (left l1 l2 w w1 r r1 : Option (List ℕ)) (a b : LogView) (old lines : List ℕ)
-      (p : List ℕ → Type 0) (far : SoFar h said left l1 w w1 r r1 a)
+      (p : List ℕ → Type 0) (far : SoFar h said version left l1 w w1 r r1 a)
       (m : Reads h said a b l1 l2 old lines p) (e : Early h said a m.bytes m.hears.heard)
       → Grows h said
       → IsEarly h said (far.reads.bytes ++ m.bytes) (far.reads.hears.heard ++ m.hears.heard)
@@ -172,9 +173,9 @@ module _ (h : Heading) (said : List ℕ → Said) where
   -- lines came, and were written
   pub further : (left l1 l2 w w1 w2 r r1 r2 : Option (List ℕ)) (a b : LogView)
       (old lines piece : List ℕ) → Grows h said
-      → SoFar h said left l1 w w1 r r1 a → old ≡ []
+      → SoFar h said version left l1 w w1 r r1 a → old ≡ []
       → Advances h said a b l1 l2 old lines (Appends r1 r2) → piece ≡ lines → Appends w1 w2 piece
-      → SoFar h said left l2 w w2 r r2 b
+      → SoFar h said version left l2 w w2 r r2 b
   unfolding next behind reads_on hears_on
   further left l1 l2 w w1 w2 r r1 r2 a b old lines piece grows far none m is put = record {
     text = far.text ++ lines;
@@ -203,7 +204,7 @@ module _ (h : Heading) (said : List ℕ → Said) where
       sym (comes_as_defined false [] (map said (messages_past (format_of h) false bytes 0)))
 
   module _ (a : LogView) (bytes lines : List ℕ) (p : List ℕ → Type 0)
-      (m : Hears h said fresh a bytes [] lines p) where
+      (m : Hears h said (fresh version) a bytes [] lines p) where
     received : receptions_of said (messages (format_of h) bytes)
         ≡ m.heard ++ ahead h said false a.place []
     received = sym (start_ahead false bytes) ∙ m.passes.stream [] (λ over. refl)
@@ -221,7 +222,7 @@ module _ (h : Heading) (said : List ℕ → Said) where
 
     counted : a.ended ≡ true → IsIdle h said a → (counts : LogCounts)
         → counts.log ≡ a.place.counts → counts.capture ≡ a.state.counts
-        → counts ≡ counts_of said (messages (format_of h) bytes)
+        → counts ≡ counts_of said version (messages (format_of h) bytes)
     counted over idle counts log capture =
         let all = messages (format_of h) bytes in
         let log_is : counts_after said none_counted all ≡ a.place.counts =
@@ -232,7 +233,7 @@ module _ (h : Heading) (said : List ℕ → Said) where
         ap (λ t. record { log = t; capture = counts.capture }) (log ∙ sym log_is)
         ∙ ap (λ t. record { log = counts_after said none_counted all; capture = t })
         (capture ∙ ap (λ t. t.counts) (m.state_is
-        ∙ ap (state_after begun) (sym (all_received over idle))))
+        ∙ ap (state_after (begun version)) (sym (all_received over idle))))
 
     -- all bytes are received so
     abbrev Begins : List ℕ → List Reception → Type 0
@@ -244,82 +245,82 @@ module _ (h : Heading) (said : List ℕ → Said) where
 
     -- the lines that came begin the capture, and the refusals the report
     capture_front : (all : List ℕ) (more : List Reception) → Begins all more
-        → IsPrefix lines (capture_of h said all)
+        → IsPrefix lines (capture_of h said version all)
     capture_front all more is =
-        subst (λ rs. IsPrefix lines (lines_from begun rs)) (sym is) (
-          lines_from (state_after begun m.heard) more,
-          lines_on begun m.heard more
-              ∙ ap (λ t. t ++ lines_from (state_after begun m.heard) more) (sym m.lines_are),
+        subst (λ rs. IsPrefix lines (lines_from (begun version) rs)) (sym is) (
+          lines_from (state_after (begun version) m.heard) more,
+          lines_on (begun version) m.heard more
+              ∙ ap (λ t. t ++ lines_from (state_after (begun version) m.heard) more) (sym m.lines_are),
         )
 
     refusals_front : (all : List ℕ) (more : List Reception) → Begins all more
-        → IsPrefix (refusals_from begun m.heard)
-        (refusals_from begun (receptions_of said (messages (format_of h) all)))
+        → IsPrefix (refusals_from (begun version) m.heard)
+        (refusals_from (begun version) (receptions_of said (messages (format_of h) all)))
     refusals_front all more is =
-        subst (λ rs. IsPrefix (refusals_from begun m.heard) (refusals_from begun rs)) (sym is)
-        (refusals_from (state_after begun m.heard) more, refusals_on begun m.heard more)
+        subst (λ rs. IsPrefix (refusals_from (begun version) m.heard) (refusals_from (begun version) rs)) (sym is)
+        (refusals_from (state_after (begun version) m.heard) more, refusals_on (begun version) m.heard more)
 
     report_front : (all : List ℕ) (more : List Reception) → Begins all more
-        → IsPrefix (refusals_from begun m.heard) (report_of h said all)
+        → IsPrefix (refusals_from (begun version) m.heard) (report_of h said version all)
     report_front all more is =
-        let refusals = refusals_from begun (receptions_of said (messages (format_of h) all)) in
-        prefix_trans (refusals_from begun m.heard) refusals (report_of h said all)
+        let refusals = refusals_from (begun version) (receptions_of said (messages (format_of h) all)) in
+        prefix_trans (refusals_from (begun version) m.heard) refusals (report_of h said version all)
         (refusals_front all more is) (prefix_more refusals _)
 
   -- ---- in the words of the contract
 
-  accepts : {S T U : Type 0} (b : World S T U) → Accepts (log_meaning h said) b
+  accepts : {S T U : Type 0} (b : World S T U) → Accepts (log_meaning h said version) b
   accepts b = each b.left where
     each : (o : Option (List ℕ))
-        → IfSome o (λ bytes. IsSome ((log_meaning h said).counts bytes))
+        → IfSome o (λ bytes. IsSome ((log_meaning h said version).counts bytes))
     each None = tt
     each (Some bytes) = refl
 
   -- the receptions that all but the last 16,384 bytes decide give the least
   least_lines : (bytes : List ℕ) (xs : List Reception) (text : List ℕ) → IsEarly h said bytes xs
-      → text ≡ lines_from begun xs → IsPrefix (least_capture h said bytes) text
+      → text ≡ lines_from (begun version) xs → IsPrefix (least_capture h said version bytes) text
   least_lines bytes xs text early is =
       let first = early_receptions h said bytes in (
-        lines_from (state_after begun first) early.0,
-        is ∙ ap (lines_from begun) early.1 ∙ lines_on begun first early.0,
+        lines_from (state_after (begun version) first) early.0,
+        is ∙ ap (lines_from (begun version)) early.1 ∙ lines_on (begun version) first early.0,
       )
 
   least_refusals : (bytes : List ℕ) (xs : List Reception) → IsEarly h said bytes xs
-      → IsPrefix (least_report h said bytes) (refusals_from begun xs)
+      → IsPrefix (least_report h said version bytes) (refusals_from (begun version) xs)
   least_refusals bytes xs early =
       let first = early_receptions h said bytes in (
-        refusals_from (state_after begun first) early.0,
-        ap (refusals_from begun) early.1 ∙ refusals_on begun first early.0,
+        refusals_from (state_after (begun version) first) early.0,
+        ap (refusals_from (begun version)) early.1 ∙ refusals_on (begun version) first early.0,
       )
 
   -- a run that ended early
   broke : {S T U : Type 0} (b a : World S T U) (fault : BridgeFault) (v : LogView)
       (lines some told : List ℕ) (p : List ℕ → Type 0)
-      (m : Reads h said fresh v b.left a.left [] lines p)
-      → AppendsBetween b.written a.written some lines → IsPrefix (least_capture h said m.bytes) some
-      → AppendsBetween b.reported a.reported told (refusals_from begun m.hears.heard)
-      → IsPrefix (least_report h said m.bytes) told
+      (m : Reads h said (fresh version) v b.left a.left [] lines p)
+      → AppendsBetween b.written a.written some lines → IsPrefix (least_capture h said version m.bytes) some
+      → AppendsBetween b.reported a.reported told (refusals_from (begun version) m.hears.heard)
+      → IsPrefix (least_report h said version m.bytes) told
       → HasItsCause {T = Unit {0}} (faults_in b) (faults_in a) (Err fault)
-      → Says (log_meaning h said) m.bytes b a fault → Broke (log_meaning h said) b a fault
+      → Says (log_meaning h said version) m.bytes b a fault → Broke (log_meaning h said version) b a fault
   broke b a fault v lines some told p m put least report least_told cause says = record {
     taken = m.bytes;
     consumes = m.consumes;
-    text = between_within b.written a.written (least_capture h said m.bytes) some lines _ least
+    text = between_within b.written a.written (least_capture h said version m.bytes) some lines _ least
         (capture_front v m.bytes lines p m.hears m.bytes _ (received v m.bytes lines p m.hears))
         put;
-    told = between_within b.reported a.reported (least_report h said m.bytes) told
-        (refusals_from begun m.hears.heard) _ least_told
+    told = between_within b.reported a.reported (least_report h said version m.bytes) told
+        (refusals_from (begun version) m.hears.heard) _ least_told
         (report_front v m.bytes lines p m.hears m.bytes _ (received v m.bytes lines p m.hears))
         report;
-    ahead = ahead_by (log_meaning h said).whole b.left a.left b.written a.written
+    ahead = ahead_by (log_meaning h said version).whole b.left a.left b.written a.written
         b.reported a.reported m.bytes m.consumes (λ rest is. (
           prefix_within b.written a.written lines _
               (capture_front v m.bytes lines p m.hears (m.bytes ++ rest) _ (all rest is)) wrote,
-          prefix_within b.reported a.reported (refusals_from begun m.hears.heard) _
+          prefix_within b.reported a.reported (refusals_from (begun version) m.hears.heard) _
               (report_front v m.bytes lines p m.hears (m.bytes ++ rest) _ (all rest is)) said_so,
         ));
     no_counts = λ other. with_rest b.left a.left m.bytes _ m.consumes (λ rest is.
-        prefix_within b.reported a.reported (refusals_from begun m.hears.heard) _
+        prefix_within b.reported a.reported (refusals_from (begun version) m.hears.heard) _
         (refusals_front v m.bytes lines p m.hears (m.bytes ++ rest) _ (all rest is)) said_so);
     cause = cause;
     leaves = record { unread = λ e. cc e; silent = λ e. cc e };
@@ -329,8 +330,8 @@ module _ (h : Heading) (said : List ℕ → Said) where
       wrote : AppendsPrefix b.written a.written lines
       wrote = prefix_of b.written a.written some lines put
 
-      said_so : AppendsPrefix b.reported a.reported (refusals_from begun m.hears.heard)
-      said_so = prefix_of b.reported a.reported told (refusals_from begun m.hears.heard) report
+      said_so : AppendsPrefix b.reported a.reported (refusals_from (begun version) m.hears.heard)
+      said_so = prefix_of b.reported a.reported told (refusals_from (begun version) m.hears.heard) report
 
       all : (rest : List ℕ) → a.left ≡ Some rest
           → Begins v m.bytes lines p m.hears (m.bytes ++ rest) (ahead h said false v.place rest)
@@ -339,23 +340,23 @@ module _ (h : Heading) (said : List ℕ → Said) where
 
   stop_says : {S T U : Type 0} (b a : World S T U) (fault : BridgeFault) (v : LogView)
       (waiting text : List ℕ)
-      (m : Reads h said fresh v b.left a.left [] (text ++ waiting)
+      (m : Reads h said (fresh version) v b.left a.left [] (text ++ waiting)
       (Tells fault b.reported a.reported))
       → Appends b.written a.written text
       → Stops h said v waiting b.never_fails b.reads_failed a.reads_failed b.reports_failed
       a.reports_failed fault
-      → Says (log_meaning h said) m.bytes b a fault
+      → Says (log_meaning h said version) m.bytes b a fault
   stop_says b a ReadFault v waiting text m put (rose, later, never, none, on, idle, silent) =
       let is = all_decided v m.bytes (text ++ waiting) _ m.hears on idle in
-      let lines : text ≡ decided_capture h said m.bytes =
+      let lines : text ≡ decided_capture h said version m.bytes =
       sym (append-nil text) ∙ ap (λ t. text ++ t) (sym none) ∙ m.hears.lines_are
-      ∙ ap (lines_from begun) (sym is) in (
+      ∙ ap (lines_from (begun version)) (sym is) in (
         refl,
         rose,
         never,
         (
           subst (Appends b.written a.written) lines put,
-          subst (λ rs. Appends b.reported a.reported (refusals_from begun rs)) (sym is)
+          subst (λ rs. Appends b.reported a.reported (refusals_from (begun version) rs)) (sym is)
               m.hears.told,
         ),
       )
@@ -381,26 +382,26 @@ module _ (h : Heading) (said : List ℕ → Said) where
 
   -- what was written before the last piece is no less than the least
   least_written : (left l1 l2 w w1 r r1 : Option (List ℕ)) (u v : LogView) (old lines : List ℕ)
-      (p : List ℕ → Type 0) (far : SoFar h said left l1 w w1 r r1 u)
+      (p : List ℕ → Type 0) (far : SoFar h said version left l1 w w1 r r1 u)
       (m : Reads h said u v l1 l2 old lines p) (e : Early h said u m.bytes m.hears.heard)
-      → Grows h said → IsPrefix (least_capture h said (far.reads.bytes ++ m.bytes)) far.text
+      → Grows h said → IsPrefix (least_capture h said version (far.reads.bytes ++ m.bytes)) far.text
   least_written left l1 l2 w w1 r r1 u v old lines p far m e grows =
       let heard = far.reads.hears.heard in
       least_lines (far.reads.bytes ++ m.bytes) (heard ++ e.before) far.text
       (next_early left l1 l2 w w1 r r1 u v old lines p far m e grows)
-      (sym (lines_on begun heard e.before
-      ∙ ap (λ s. lines_from begun heard ++ lines_from s e.before) (sym far.reads.hears.state_is)
-      ∙ ap (λ t. lines_from begun heard ++ t) e.silent ∙ append-nil (lines_from begun heard)
+      (sym (lines_on (begun version) heard e.before
+      ∙ ap (λ s. lines_from (begun version) heard ++ lines_from s e.before) (sym far.reads.hears.state_is)
+      ∙ ap (λ t. lines_from (begun version) heard ++ t) e.silent ∙ append-nil (lines_from (begun version) heard)
       ∙ sym far.reads.hears.lines_are))
 
   -- no more lines came
   pub stopped : {S T U : Type 0} (b a : World S T U) (fault : BridgeFault)
       (l1 r1 : Option (List ℕ)) (u v : LogView) (old waiting : List ℕ) → Grows h said
-      → SoFar h said b.left l1 b.written a.written b.reported r1 u → old ≡ []
+      → SoFar h said version b.left l1 b.written a.written b.reported r1 u → old ≡ []
       → Breaks h said u v l1 a.left old waiting fault r1 a.reported
       → Stops h said v waiting b.never_fails b.reads_failed a.reads_failed b.reports_failed
       a.reports_failed fault → a.writes_failed ≡ b.writes_failed
-      → Broke (log_meaning h said) b a fault
+      → Broke (log_meaning h said version) b a fault
   unfolding next behind reads_on hears_on
   stopped b a fault l1 r1 u v old waiting grows far none m stops writes =
       let all = next b.left l1 a.left b.written a.written b.reported r1 u v old waiting
@@ -408,17 +409,17 @@ module _ (h : Heading) (said : List ℕ → Said) where
       (told_by fault b.reported r1 a.reported) far none m.reads in
       let heard = far.reads.hears.heard in
       let e = m.early none in
-      let first = refusals_from begun heard in
+      let first = refusals_from (begun version) heard in
       let before = refusals_from u.state e.before in
       let behind = refusals_from u.state m.reads.hears.heard in
       let on : (xs : List Reception)
-      → refusals_from begun (heard ++ xs) ≡ first ++ refusals_from u.state xs =
-      λ xs. refusals_on begun heard xs
+      → refusals_from (begun version) (heard ++ xs) ≡ first ++ refusals_from u.state xs =
+      λ xs. refusals_on (begun version) heard xs
       ∙ ap (λ s. first ++ refusals_from s xs) (sym far.reads.hears.state_is) in
       let report : AppendsBetween b.reported a.reported (first ++ before) (first ++ behind) =
       between_after b.reported r1 a.reported first before behind far.reads.hears.told
       (m.told none) in
-      broke b a fault v (far.text ++ waiting) far.text (refusals_from begun (heard ++ e.before))
+      broke b a fault v (far.text ++ waiting) far.text (refusals_from (begun version) (heard ++ e.before))
       (Tells fault b.reported a.reported) all
       (between_within b.written a.written far.text far.text far.text (far.text ++ waiting)
       (prefix_same far.text) (prefix_more far.text waiting)
@@ -426,7 +427,7 @@ module _ (h : Heading) (said : List ℕ → Said) where
       (least_written b.left l1 a.left b.written a.written b.reported r1 u v old waiting
       (Tells fault r1 a.reported) far m.reads e grows)
       (subst (λ t. AppendsBetween b.reported a.reported t
-      (refusals_from begun (heard ++ m.reads.hears.heard))) (sym (on e.before))
+      (refusals_from (begun version) (heard ++ m.reads.hears.heard))) (sym (on e.before))
       (subst (AppendsBetween b.reported a.reported (first ++ before))
       (sym (on m.reads.hears.heard)) report))
       (least_refusals (far.reads.bytes ++ m.reads.bytes) (heard ++ e.before)
@@ -438,23 +439,23 @@ module _ (h : Heading) (said : List ℕ → Said) where
   -- the lines were not written
   pub unwritten : {S T U : Type 0} (b a : World S T U) (l1 w1 r1 : Option (List ℕ))
       (u v : LogView) (old lines piece : List ℕ) → Grows h said
-      → SoFar h said b.left l1 b.written w1 b.reported r1 u → old ≡ []
+      → SoFar h said version b.left l1 b.written w1 b.reported r1 u → old ≡ []
       → Advances h said u v l1 a.left old lines (Appends r1 a.reported)
       → piece ≡ lines → AppendsPrefix w1 a.written piece → Rose b.writes_failed a.writes_failed
       → a.reads_failed ≡ b.reads_failed → a.reports_failed ≡ b.reports_failed
-      → Broke (log_meaning h said) b a WriteFault
+      → Broke (log_meaning h said version) b a WriteFault
   unfolding next behind reads_on hears_on
   unwritten b a l1 w1 r1 u v old lines piece grows far none m is put rose reads reports =
       let all = next b.left l1 a.left b.written w1 b.reported r1 u v old lines
       (Appends r1 a.reported) (Appends b.reported a.reported)
       (both_told b.reported r1 a.reported) far none m.reads in
-      broke b a WriteFault v (far.text ++ lines) far.text (refusals_from begun all.hears.heard)
+      broke b a WriteFault v (far.text ++ lines) far.text (refusals_from (begun version) all.hears.heard)
       (Appends b.reported a.reported) all
       (between_behind b.written w1 a.written far.text lines far.grew
       (subst (AppendsPrefix w1 a.written) is put))
       (least_written b.left l1 a.left b.written w1 b.reported r1 u v old lines
       (Appends r1 a.reported) far m.reads (m.early none) grows)
-      (between_whole b.reported a.reported (refusals_from begun all.hears.heard) all.hears.told)
+      (between_whole b.reported a.reported (refusals_from (begun version) all.hears.heard) all.hears.told)
       (least_refusals (far.reads.bytes ++ m.reads.bytes)
       (far.reads.hears.heard ++ m.reads.hears.heard)
       (next_all b.left l1 a.left b.written w1 b.reported r1 u v old lines (Appends r1 a.reported)
@@ -463,7 +464,7 @@ module _ (h : Heading) (said : List ℕ → Said) where
 
   -- all was read and written
   module _ {S T U : Type 0} (b a : World S T U) (r2 : Option (List ℕ)) (v : LogView)
-      (counts : LogCounts) (far : SoFar h said b.left a.left b.written a.written b.reported r2 v)
+      (counts : LogCounts) (far : SoFar h said version b.left a.left b.written a.written b.reported r2 v)
       (piece : List ℕ) (says : piece ≡ counts_report counts v.taken) (over : v.ended ≡ true) (idle : IsIdle h said v) (log : counts.log ≡ v.place.counts)
       (capture : counts.capture ≡ v.state.counts) where
     size : v.taken ≡ length far.reads.bytes
@@ -472,22 +473,22 @@ module _ (h : Heading) (said : List ℕ → Said) where
     is : receptions_of said (messages (format_of h) far.reads.bytes) ≡ far.reads.hears.heard
     is = all_received v far.reads.bytes far.text _ far.reads.hears over idle
 
-    counts_are : counts ≡ counts_of said (messages (format_of h) far.reads.bytes)
+    counts_are : counts ≡ counts_of said version (messages (format_of h) far.reads.bytes)
     counts_are = counted v far.reads.bytes far.text _ far.reads.hears over idle counts log capture
 
     counts_text : counts_report counts v.taken
-        ≡ counts_report (counts_of said (messages (format_of h) far.reads.bytes)) (length far.reads.bytes)
+        ≡ counts_report (counts_of said version (messages (format_of h) far.reads.bytes)) (length far.reads.bytes)
     counts_text = ap (λ c. counts_report c v.taken) counts_are
         ∙ ap (counts_report _) size
 
     told : Appends b.reported r2
-        (refusals_from begun (receptions_of said (messages (format_of h) far.reads.bytes)))
-    told = subst (λ rs. Appends b.reported r2 (refusals_from begun rs)) (sym is)
+        (refusals_from (begun version) (receptions_of said (messages (format_of h) far.reads.bytes)))
+    told = subst (λ rs. Appends b.reported r2 (refusals_from (begun version) rs)) (sym is)
         far.reads.hears.told
 
     pub done : Appends r2 a.reported piece
         → a.reads_failed ≡ b.reads_failed → a.writes_failed ≡ b.writes_failed
-        → a.reports_failed ≡ b.reports_failed → Done (log_meaning h said) b a counts
+        → a.reports_failed ≡ b.reports_failed → Done (log_meaning h said version) b a counts
     done last reads writes reports =
         let ends = far.reads.end over (λ e. cc e) in
         record {
@@ -497,7 +498,7 @@ module _ (h : Heading) (said : List ℕ → Said) where
           fits = omega (arith, size, ends.1);
           counted = ap Some (sym counts_are);
           text = subst (Appends b.written a.written)
-              (far.reads.hears.lines_are ∙ ap (lines_from begun) (sym is)) far.grew;
+              (far.reads.hears.lines_are ∙ ap (lines_from (begun version)) (sym is)) far.grew;
           told = Appends-trans b.reported r2 a.reported _ _ told
               (subst (Appends r2 a.reported) (says ∙ counts_text) last);
           leaves = record { unread = λ e. cc e; silent = λ e. cc e };
@@ -509,26 +510,26 @@ module _ (h : Heading) (said : List ℕ → Said) where
     -- the counts were not reported
     pub unreported : AppendsPrefix r2 a.reported piece
         → Rose b.reports_failed a.reports_failed → a.reads_failed ≡ b.reads_failed
-        → a.writes_failed ≡ b.writes_failed → Broke (log_meaning h said) b a ReportFault
+        → a.writes_failed ≡ b.writes_failed → Broke (log_meaning h said version) b a ReportFault
     unreported part rose reads writes =
         let bytes = far.reads.bytes in
         let front = capture_front v bytes far.text _ far.reads.hears bytes _
         (received v bytes far.text _ far.reads.hears) in
-        let wrote : AppendsBetween b.written a.written (least_capture h said bytes)
-        (capture_of h said bytes) =
-        between_within b.written a.written (least_capture h said bytes) far.text far.text
-        (capture_of h said bytes)
+        let wrote : AppendsBetween b.written a.written (least_capture h said version bytes)
+        (capture_of h said version bytes) =
+        between_within b.written a.written (least_capture h said version bytes) far.text far.text
+        (capture_of h said version bytes)
         (least_lines bytes far.reads.hears.heard far.text far.early far.reads.hears.lines_are) front
         (between_whole b.written a.written far.text far.grew) in
-        let refusals = refusals_from begun (receptions_of said (messages (format_of h) bytes)) in
-        let least : IsPrefix (least_report h said bytes) refusals =
-        subst (λ rs. IsPrefix (least_report h said bytes) (refusals_from begun rs)) (sym is)
+        let refusals = refusals_from (begun version) (receptions_of said (messages (format_of h) bytes)) in
+        let least : IsPrefix (least_report h said version bytes) refusals =
+        subst (λ rs. IsPrefix (least_report h said version bytes) (refusals_from (begun version) rs)) (sym is)
         (least_refusals bytes far.reads.hears.heard far.early) in
-        let report : AppendsBetween b.reported a.reported (least_report h said bytes)
-        (report_of h said bytes) =
-        between_within b.reported a.reported (least_report h said bytes) refusals
-        (report_of h said bytes) (report_of h said bytes) least
-        (prefix_same (report_of h said bytes))
+        let report : AppendsBetween b.reported a.reported (least_report h said version bytes)
+        (report_of h said version bytes) =
+        between_within b.reported a.reported (least_report h said version bytes) refusals
+        (report_of h said version bytes) (report_of h said version bytes) least
+        (prefix_same (report_of h said version bytes))
         (between_behind b.reported r2 a.reported refusals _ told
         (subst (AppendsPrefix r2 a.reported) (says ∙ counts_text) part)) in
         record {
@@ -536,7 +537,7 @@ module _ (h : Heading) (said : List ℕ → Said) where
           consumes = far.reads.consumes;
           text = wrote;
           told = report;
-          ahead = ahead_at_end (log_meaning h said).whole b.left a.left b.written a.written
+          ahead = ahead_at_end (log_meaning h said version).whole b.left a.left b.written a.written
               b.reported a.reported far.reads.bytes far.reads.consumes
               (far.reads.end over (λ e. cc e)).0 (prefix_of b.written a.written _ _ wrote)
               (prefix_of b.reported a.reported _ _ report);
