@@ -5,9 +5,11 @@ use Rattle.std.specs.Prelude.{◌==◌, Option, Some, None, if◌then◌else◌,
 use Rattle.std.proofs.lemmas.Bool.{and_parts, leb-true, ltb-true, or_cases}
 use Rattle.receiver_messages.specs.Numbers.{two_at}
 use Rattle.receiver_messages.specs.Ubx.{payload_of}
+use Rattle.receiver_messages.specs.declared.said.Reason.TheVariants.{Length}
 use Rattle.message_parts.specs.Messages.{payload_part, sbf_by, sbf_part, ubx_by, ubx_part}
 use Rattle.message_parts.specs.Named.{IsNamed, are_named, are_rules, is_named}
-use Rattle.message_parts.specs.Rules.{found_in, rule_in}
+use Rattle.message_parts.specs.Orders.{bits_in}
+use Rattle.message_parts.specs.Rules.{found_in, has, rule_in}
 use Rattle.message_parts.specs.declared.part.Found.{Found}
 use Rattle.message_parts.specs.declared.part.Found.TheVariants.{Nothing, Refused, Part}
 use Rattle.message_parts.specs.declared.rule.PartRule.{PartRule}
@@ -43,7 +45,9 @@ found_named : (ss : List Satellites) (number : ℕ) (bits : List ℕ) → are_na
 found_named [] number bits ok = tt
 found_named (s ∷ ss) number bits ok =
     let h = and_parts (is_named s) (are_named ss) ok in
-    if_named (nat_le s.first number && nat_le number s.last) _ _
+    if_named (nat_le s.first number && nat_le number s.last)
+    (Part (record { kind = s.kind; satellite = number - s.less; bits = bits }))
+    (found_in ss number bits)
     (λ e. let is = and_parts (nat_le s.first number) (nat_le number s.last) e in
     here s number bits h.0 (leb-true _ _ is.0) (leb-true _ _ is.1))
     (found_named ss number bits h.1)
@@ -69,23 +73,51 @@ ubx_by_named : (rule : Option PartRule) (payload : List ℕ) → IsRule rule
 unfolding ubx_by
 ubx_by_named None payload is = tt
 ubx_by_named (Some rule) payload is =
-    if_named _ _ _ (λ _. if_named _ _ _ (λ _. found_named rule.satellites _ _ is) tt) tt
+    let bits = bits_in rule.order (slice_index payload 3) payload 8 in
+    let found = found_in rule.satellites (slice_index payload 1) bits in
+    let right = nat_le rule.least (slice_index payload 4) && nat_le (slice_index payload 4) rule.most
+    && length payload == 8 + 4 * slice_index payload 4 in
+    if_named (has rule.signals (slice_index payload 2)) (if right then found else Refused Length)
+    Nothing
+    (λ e. if_named right found (Refused Length)
+    (λ e. found_named rule.satellites (slice_index payload 1) bits is) tt)
+    tt
+
+payload_named : (rules : List PartRule) (class number : ℕ) (payload : List ℕ)
+    → are_rules rules ≡ true → IsNamed (payload_part rules class number payload)
+unfolding payload_part
+payload_named rules class number payload ok =
+    let rule = rule_in rules (slice_index payload 0) in
+    if_named (class == 2 && number == 0x13 && nat_le 8 (length payload)) (ubx_by rule payload)
+    Nothing (λ e. ubx_by_named rule payload (rule_named rules (slice_index payload 0) ok)) tt
 
 pub ubx_named : (rules : List PartRule) (message : List ℕ) → are_rules rules ≡ true
     → IsNamed (ubx_part rules message)
-unfolding ubx_part payload_part
+unfolding ubx_part
 ubx_named rules message ok =
-    if_named _ _ _ (λ _. tt) (if_named _ _ _ (λ _. ubx_by_named _ _ (rule_named rules _ ok)) tt)
+    let class = slice_index message 2 in
+    let number = slice_index message 3 in
+    if_named (nat_lt (length message) 8) Nothing
+    (payload_part rules class number (payload_of message)) (λ e. tt)
+    (payload_named rules class number (payload_of message) ok)
 
 sbf_by_named : (rule : Option PartRule) (block : List ℕ) → IsRule rule
     → IsNamed (sbf_by rule block)
 unfolding sbf_by
 sbf_by_named None block is = tt
 sbf_by_named (Some rule) block is =
-    if_named _ _ _ (λ _. tt) (if_named _ _ _ (λ _. found_named rule.satellites _ _ is) tt)
+    let bits = bits_in rule.order (slice_index block 18 - 1) block 20 in
+    let found = found_in rule.satellites (slice_index block 14) bits in
+    let right = has rule.signals (slice_index block 17 % 32) && nat_le 1 (slice_index block 15) in
+    if_named (nat_lt (length block) (20 + 4 * rule.least)) (Refused Length)
+    (if right then found else Nothing) (λ e. tt)
+    (if_named right found Nothing
+    (λ e. found_named rule.satellites (slice_index block 14) bits is) tt)
 
 pub sbf_named : (rules : List PartRule) (block : List ℕ) → are_rules rules ≡ true
     → IsNamed (sbf_part rules block)
 unfolding sbf_part
 sbf_named rules block ok =
-    if_named _ _ _ (λ _. tt) (sbf_by_named _ _ (rule_named rules _ ok))
+    let rule = rule_in rules (two_at block 4 % 8192) in
+    if_named (nat_lt (length block) 8) Nothing (sbf_by rule block) (λ e. tt)
+    (sbf_by_named rule block (rule_named rules (two_at block 4 % 8192) ok))
