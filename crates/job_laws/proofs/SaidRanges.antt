@@ -24,7 +24,7 @@ use Rattle.receiver_messages.specs.Ubx.{galileo_words, gps_words, page_with, pay
 use Rattle.receiver_messages.specs.Ubx.{payload_said, satellite_of, subframe_with, ubx_said}
 use Rattle.receiver_messages.specs.Ubx.{words_said}
 use Rattle.receiver_messages.specs.declared.said.Content.{Content}
-use Rattle.receiver_messages.specs.declared.said.Content.TheVariants.{Refused, Subframe, Page}
+use Rattle.receiver_messages.specs.declared.said.Content.TheVariants.{Refused, Subframe, Page, Part}
 use Rattle.receiver_messages.specs.declared.said.Reason.TheVariants.{Length}
 use Rattle.receiver_messages.specs.declared.said.Said.{Said}
 use Rattle.receiver_messages.specs.declared.said.Said.TheVariants.{Other, Time, Heard, Dated}
@@ -38,11 +38,13 @@ IsTime (Some time) = (604800 * 1025 ≤ time) × (time ≤ 604800 * 8192)
 abbrev pub IsHalf : List ℕ → Type 0
 IsHalf bits = IsBytes bits × (length bits ≡ 15)
 
+-- what is read has no parts of further kinds
 abbrev pub IsContent : Content → Type 0
 IsContent (Refused reason) = Unit {0}
 IsContent (Subframe sat words) = (sat.system ≡ Gps) × IsSat sat.system sat.number
 IsContent (Page sat signal even odd) =
     (sat.system ≡ Gal) × (IsSat sat.system sat.number × (IsHalf even × IsHalf odd))
+IsContent (Part kind satellite bits) = ⊥
 
 abbrev pub IsSaid : Said → Type 0
 IsSaid Other = Unit {0}

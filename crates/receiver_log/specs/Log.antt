@@ -98,20 +98,20 @@ page_in s time sat signal even odd None = record {
 }
 
 -- the bytes of five numbers
-abbrev pub bytes_of : List ℕ → List ℕ
+unfoldable pub bytes_of : List ℕ → List ℕ
 bytes_of bits =
     (((bytes_high_first 8 (slice_index bits 0) ++ bytes_high_first 8 (slice_index bits 1))
     ++ bytes_high_first 8 (slice_index bits 2)) ++ bytes_high_first 8 (slice_index bits 3))
     ++ bytes_high_first 8 (slice_index bits 4)
 
 -- the bytes of a part that its line has: all that have bits of it
-abbrev pub byte_count : ℕ → ℕ
+unfoldable pub byte_count : ℕ → ℕ
 byte_count kind =
     if kind == 82 then 17 else if kind == 69 then 31 else if kind == 83 then 32
     else if kind == 73 then 37 else 38
 
 -- the line of a part
-abbrev pub part_at : ℕ → ℕ → ℕ → List ℕ → PartLine
+unfoldable pub part_at : ℕ → ℕ → ℕ → List ℕ → PartLine
 part_at stamp kind satellite bits = record {
   stamp = stamp;
   kind = kind;

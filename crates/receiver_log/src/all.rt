@@ -1,5 +1,6 @@
 //! Formats of receivers, with parts of further kinds.
 
+ghost use Rattle.std.specs.Prelude.{true, false};
 ghost use Rattle.receiver_log.specs.SaysTimes.{sbf_all_says_times, ubx_all_says_times};
 ghost use Rattle.message_parts.specs.All.{sbf_all, ubx_all};
 

@@ -72,6 +72,7 @@ pub fn append_half(lines: &mut LineBuffer, stamp: u32, sat: Sat, signal: Signal,
 }
 
 // The bytes of five numbers.
+#[tactic(auto, unfolding(crate::specs::Log::bytes_of))]
 fn bytes_of(bits: &[u64; 5]) -> ArrayVec<u8, 40>
     ensures { result.items ≡ bytes_of bits.now }
 {
@@ -96,6 +97,7 @@ fn append_number(bytes: &mut ArrayVec<u8, 40>, number: u64)
 }
 
 // How many bytes have bits of a part of this kind.
+#[tactic(auto, unfolding(crate::specs::Log::byte_count))]
 fn byte_count(kind: u8) -> usize
     ensures value { result ≡ byte_count kind }
     ensures few { (5 ≤ result) × (result ≤ 40) }
@@ -110,6 +112,7 @@ fn byte_count(kind: u8) -> usize
 }
 
 // The line of a part.
+#[tactic(auto, unfolding(crate::specs::Log::part_at))]
 fn part_at(stamp: u32, kind: u8, satellite: u8, bits: &[u64; 5]) -> PartLine
     requires { IsOfSystem (Part kind satellite bits.now) }
     ensures value { result ≡ part_at stamp kind satellite bits.now }
