@@ -74,7 +74,8 @@ pub fn append_half(lines: &mut LineBuffer, stamp: u32, sat: Sat, signal: Signal,
 // The bytes of five numbers.
 #[tactic(auto, unfolding(crate::specs::Log::bytes_of))]
 fn bytes_of(bits: &[u64; 5]) -> ArrayVec<u8, 40>
-    ensures { result.items ≡ bytes_of bits.now }
+    ensures items { result.items ≡ bytes_of bits.now }
+    ensures len { array_vec_len result ≡ 40 }
 {
     let mut bytes = ArrayVec::new();
     append_number(&mut bytes, bits[0]);
