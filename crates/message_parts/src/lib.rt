@@ -24,8 +24,6 @@ mod part;
 mod rule;
 mod sbf;
 mod tables;
-#[cfg(test)]
-mod tests;
 mod ubx;
 
 pub use crate::all::{sbf_all_said, ubx_all_said};

@@ -9,7 +9,7 @@ use message_parts::{sbf_all_said, ubx_all_said};
 use receiver_frames::{Judge, SbfJudge, UbxJudge};
 use receiver_messages::Said;
 
-/// A format whose parts of further kinds are heard too: their capture is of version 3.
+/// A format of which parts of further kinds are written too, in a capture of version 3.
 #[derive(Drop)]
 pub struct AllKinds<J: Judge> {
     judge: J,

@@ -1,7 +1,9 @@
+//! Parts of further kinds in messages.
+
 ghost use Rattle.std.specs.Prelude.{◌≤◌};
 
-use crate::{Found, Part, sbf_part, ubx_part};
 use hex::decode_to_slice;
+use message_parts::{Found, Part, sbf_part, ubx_part};
 use receiver_messages::Reason;
 
 // A message in hexadecimal digits, and what it has, as an independent program reads it.
