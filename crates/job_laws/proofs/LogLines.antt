@@ -118,7 +118,6 @@ spelt_at laws week (Some time) (Page sat signal even odd) is =
             tt,
           ),
         )
-
 spelt_at laws week (Some time) (Part kind satellite bits) is = absurd is
 
 -- what is received is in its ranges

@@ -81,7 +81,6 @@ goes_at s week (Some time) (Subframe sat words) e no =
 goes_at s week (Some time) (Page sat signal even odd) e no =
     page_goes s week time sat signal even odd _ e
     (ap (λ w. reason_in (week_of w (time - 1)) (time - 1) time) (sym e))
-
 goes_at s week None (Part kind satellite bits) e no = absurd no
 goes_at s week (Some time) (Part kind satellite bits) e no = absurd no
 
