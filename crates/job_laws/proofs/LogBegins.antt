@@ -45,11 +45,11 @@ First (Some first) time content s g =
 
 first_at : (s : LogState) (time : Option ℕ) (content : Content) → s.week ≡ None → IsTime time
     → NoPart content → First (first_second time content) time content s (given_at s time content)
-first_at s None (Refused reason) e is no = (refl, e, (λ _. refl), refl)
-first_at s None (Subframe sat words) e is no = (refl, e, (λ _. refl), refl)
-first_at s None (Page sat signal even odd) e is no = (refl, e, (λ _. refl), refl)
-first_at s (Some time) (Refused reason) e is no = (refl, e, (λ _. refl), refl)
-first_at s (Some time) (Subframe sat words) e is no =
+first_at s None (Refused reason) e is partless = (refl, e, (λ _. refl), refl)
+first_at s None (Subframe sat words) e is partless = (refl, e, (λ _. refl), refl)
+first_at s None (Page sat signal even odd) e is partless = (refl, e, (λ _. refl), refl)
+first_at s (Some time) (Refused reason) e is partless = (refl, e, (λ _. refl), refl)
+first_at s (Some time) (Subframe sat words) e is partless =
     let none = no_reason time time (omega arith) (omega arith) in
     let here : reason_in (week_of s.week time) time time ≡ None =
     ap (λ w. reason_in (week_of w time) time time) e ∙ none in (
@@ -57,7 +57,7 @@ first_at s (Some time) (Subframe sat words) e is no =
       rw (here, e) refl,
       in_range time (omega (arith, is.0)) is.1,
     )
-first_at s (Some time) (Page sat signal even odd) e is no =
+first_at s (Some time) (Page sat signal even odd) e is partless =
     let half_at : ℕ → List ℕ → List ℕ =
     λ second bits. half_text (second - 604800 * week_at (time - 1)) sat signal bits in
     let none = no_reason (time - 1) time (omega arith) (omega arith) in
@@ -71,8 +71,8 @@ first_at s (Some time) (Page sat signal even odd) e is no =
       rw (here, e) refl,
       in_range (time - 1) (omega (arith, is.0)) (omega (arith, is.1)),
     )
-first_at s None (Part kind satellite bits) e is no = absurd no
-first_at s (Some time) (Part kind satellite bits) e is no = absurd no
+first_at s None (Part kind satellite bits) e is partless = absurd partless
+first_at s (Some time) (Part kind satellite bits) e is partless = absurd partless
 
 -- the text of a log
 abbrev pub IsText : Option ℕ → List Reception → List ℕ → Type 0
@@ -99,12 +99,12 @@ by_first : (s : LogState) (r : Reception) (rs : List Reception) (g : LinesGiven)
     → s.version ≡ 2 → NoParts rs → First first r.time r.content s g → Behind rs
     → IsText (week_before first (week_of_log rs)) (r ∷ rs) (g.text ++ lines_from g.state rs)
 unfolding log_texts
-by_first s r rs g None two no is behind =
+by_first s r rs g None two partless is behind =
     rw is.0 (passed (week_of_log rs) r rs (lines_from g.state rs) is.2
     (behind g.state is.1 (is.3 ∙ two)))
-by_first s r rs g (Some first) two no is behind =
+by_first s r rs g (Some first) two partless is behind =
     let week = week_at first in (
-      ap (λ t. g.text ++ t) (lines_behind g.state week rs is.1 no)
+      ap (λ t. g.text ++ t) (lines_behind g.state week rs is.1 partless)
           ∙ ap (λ t. t ++ log_texts week rs)
           (is.0 ∙ ap (λ v. head_line v week ++ text_of_items (items_at week r.time r.content)) two)
           ∙ append_assoc (head_line 2 week) (text_of_items (items_at week r.time r.content))
@@ -115,7 +115,7 @@ by_first s r rs g (Some first) two no is behind =
     )
 
 pub lines_are_text : (rs : List Reception) → AreTimes rs → NoParts rs → Behind rs
-lines_are_text [] times no s e two = refl
-lines_are_text (r ∷ rs) times no s e two =
-    by_first s r rs (given s r) (first_second r.time r.content) two no.1
-    (first_at s r.time r.content e times.0 no.0) (lines_are_text rs times.1 no.1)
+lines_are_text [] times partless s e two = refl
+lines_are_text (r ∷ rs) times partless s e two =
+    by_first s r rs (given s r) (first_second r.time r.content) two partless.1
+    (first_at s r.time r.content e times.0 partless.0) (lines_are_text rs times.1 partless.1)

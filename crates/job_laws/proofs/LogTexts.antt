@@ -70,27 +70,27 @@ NoParts (x ∷ xs) = NoPart x.content × NoParts xs
 
 goes_at : (s : LogState) (week : ℕ) (time : Option ℕ) (content : Content) → s.week ≡ Some week
     → NoPart content → Goes s week time content (given_at s time content)
-goes_at s week None (Refused reason) e no = record { text_is = refl; week_is = e }
-goes_at s week None (Subframe sat words) e no = record { text_is = refl; week_is = e }
-goes_at s week None (Page sat signal even odd) e no =
+goes_at s week None (Refused reason) e partless = record { text_is = refl; week_is = e }
+goes_at s week None (Subframe sat words) e partless = record { text_is = refl; week_is = e }
+goes_at s week None (Page sat signal even odd) e partless =
     record { text_is = refl; week_is = e }
-goes_at s week (Some time) (Refused reason) e no =
+goes_at s week (Some time) (Refused reason) e partless =
     record { text_is = refl; week_is = e }
-goes_at s week (Some time) (Subframe sat words) e no =
+goes_at s week (Some time) (Subframe sat words) e partless =
     subframe_goes s week time sat words _ e (ap (λ w. reason_in (week_of w time) time time) (sym e))
-goes_at s week (Some time) (Page sat signal even odd) e no =
+goes_at s week (Some time) (Page sat signal even odd) e partless =
     page_goes s week time sat signal even odd _ e
     (ap (λ w. reason_in (week_of w (time - 1)) (time - 1) time) (sym e))
-goes_at s week None (Part kind satellite bits) e no = absurd no
-goes_at s week (Some time) (Part kind satellite bits) e no = absurd no
+goes_at s week None (Part kind satellite bits) e partless = absurd partless
+goes_at s week (Some time) (Part kind satellite bits) e partless = absurd partless
 
 -- the lines of receptions, where the first line was written
 pub lines_behind : (s : LogState) (week : ℕ) (rs : List Reception) → s.week ≡ Some week
     → NoParts rs → lines_from s rs ≡ log_texts week rs
 unfolding log_texts
-lines_behind s week [] e no = refl
-lines_behind s week (r ∷ rs) e no =
-    let g = goes_at s week r.time r.content e no.0 in
-    ap (λ t. (given s r).text ++ t) (lines_behind (given s r).state week rs g.week_is no.1)
+lines_behind s week [] e partless = refl
+lines_behind s week (r ∷ rs) e partless =
+    let g = goes_at s week r.time r.content e partless.0 in
+    ap (λ t. (given s r).text ++ t) (lines_behind (given s r).state week rs g.week_is partless.1)
     ∙ ap (λ t. t ++ log_texts week rs) g.text_is
     ∙ sym (texts_append (items_at week r.time r.content) (items_of_log week rs))
