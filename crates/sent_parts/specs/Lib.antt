@@ -1,0 +1,5 @@
+pub mod Runs
+pub mod Sources
+pub mod Checks
+pub mod Times
+pub mod Frames
