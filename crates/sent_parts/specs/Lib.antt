@@ -3,3 +3,4 @@ pub mod Sources
 pub mod Checks
 pub mod Times
 pub mod Frames
+pub mod Sbas

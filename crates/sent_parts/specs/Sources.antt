@@ -1,20 +1,27 @@
 -- Messages made of the bits of a frame.
 use Rattle.std.specs.Prelude.{ℕ, ◌+◌, ◌*◌, ◌%◌, ◌^◌, ◌&&◌, Bool, true, List, [], ◌∷◌, length}
-use Rattle.std.specs.Prelude.{slice_index, nat_eq, nat_le, nat_lt}
+use Rattle.std.specs.Prelude.{slice_index, nat_eq, nat_le, nat_lt, if◌then◌else◌}
 use Rattle.nav_bits.specs.Bits.{number_at}
 use Rattle.nav_bits.specs.Fields.{Field, unsigned}
 use Rattle.nav_bits.specs.Packed.{packed}
 use Rattle.sent_parts.specs.declared.source.Source.{Source}
-use Rattle.sent_parts.specs.declared.source.Source.TheVariants.{Sent, Given, Fixed}
+use Rattle.sent_parts.specs.declared.source.Source.TheVariants.{Sent, Within, Given, Fixed}
 
 abbrev pub width_of : Source → ℕ
 width_of (Sent from width) = width
+width_of (Within from width most other) = width
 width_of (Given place width) = width
 width_of (Fixed number width) = width
+
+-- a number, or another if it is greater than the greatest
+abbrev pub within : ℕ → ℕ → ℕ → ℕ
+within number most other = if nat_le number most then number else other
 
 -- the value of the bits of a source
 abbrev pub value_of : List ℕ → List ℕ → Source → ℕ
 value_of frame given (Sent from width) = number_at frame from width
+value_of frame given (Within from width most other) =
+    within (number_at frame from width) most other
 value_of frame given (Given place width) = slice_index given place % 2 ^ width
 value_of frame given (Fixed number width) = number
 
@@ -33,6 +40,8 @@ message_of frame given sources = packed 64 (rows_of frame given sources)
 -- a source has at most 63 bits, which are there
 abbrev pub is_source : ℕ → Source → Bool
 is_source bits (Sent from width) = nat_le (from + width) bits && nat_le width 63
+is_source bits (Within from width most other) =
+    nat_le (from + width) bits && nat_lt other (2 ^ width) && nat_le width 63
 is_source bits (Given place width) = nat_lt place 4 && nat_le width 63
 is_source bits (Fixed number width) = nat_lt number (2 ^ width) && nat_le width 63
 

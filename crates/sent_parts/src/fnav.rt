@@ -101,13 +101,22 @@ const FNAV_CHECKS: [Check; 8] = [
     alike!(number!(0 12 10), 0, 1024, number!(3 6 10)),
 ];
 
+// The SISA index; the spare ones, 126 to 254, tell no accuracy, as 255 does (Galileo OS SIS ICD,
+// section 5.1.11).
+const SISA: Source = Source::Within {
+    from: 94,
+    width: 8,
+    most: 125,
+    other: 255,
+};
+
 // The fields of message 1045.
 const FNAV: [Source; 30] = [
     fixed!(1045, 12), // number
     given!(0, 6), // satellite
     given!(2, 12), // week
     sent!(0, 12, 10), // iodnav
-    sent!(0, 94, 8), // sisa
+    SISA, // sisa
     sent!(1, 168, 14), // idot
     sent!(0, 22, 14), // toc
     sent!(0, 88, 6), // af2

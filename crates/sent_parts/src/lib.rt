@@ -23,6 +23,7 @@ mod kinds;
 mod navic;
 mod qzss;
 mod run;
+mod sbas;
 mod source;
 #[cfg(test)]
 mod tests;
@@ -36,6 +37,7 @@ pub use crate::glonass::frame_fdma;
 pub use crate::kinds::frame_kind_of;
 pub use crate::navic::frame_navic;
 pub use crate::qzss::frame_qzss;
-pub use crate::run::{NONE, Number, Run};
+pub use crate::run::{NONE, Number, Run, number_in};
+pub use crate::sbas::{Place, SBAS_PLACES, row_of_sbas};
 pub use crate::source::Source;
 pub use crate::times::{Sending, SentTimes};

@@ -43,7 +43,7 @@ fn joined(high: u64, high_width: u32, low: u64, low_width: u32) -> u64
 }
 
 /// The number in a frame.
-pub(crate) fn number_in(number: &Number, frame: &[u8]) -> u64
+pub fn number_in(number: &Number, frame: &[u8]) -> u64
     requires { IsTrue (is_number (8 * length frame.now) number.now) }
     ensures same { result ≡ number_in frame.now number.now }
     ensures fits { result < 2 ^ width_of number.now }

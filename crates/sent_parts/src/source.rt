@@ -4,7 +4,7 @@ ghost use Rattle.std.specs.Prelude.{◌≡◌, ◌+◌, ◌*◌, ◌%◌, ◌^�
 ghost use Rattle.std.specs.Prelude.{slice_index};
 ghost use Rattle.nav_bits.specs.Packed.{packed};
 ghost use Rattle.sent_parts.specs.Sources.{are_sources, is_message, is_source, pair_of, pairs_of};
-ghost use Rattle.sent_parts.specs.Sources.{rows_of};
+ghost use Rattle.sent_parts.specs.Sources.{rows_of, within};
 
 use arrayvec::ArrayVec;
 use nav_bits::{number_in_bytes, put_numbers};
@@ -18,6 +18,17 @@ pub enum Source {
         from: usize,
         /// How many they are.
         width: u32,
+    },
+    /// Bits of the frame; another number if theirs is greater than the greatest.
+    Within {
+        /// The bit offset of the first.
+        from: usize,
+        /// How many they are.
+        width: u32,
+        /// The greatest.
+        most: u64,
+        /// The other number.
+        other: u64,
     },
     /// The low bits of a number that the frame does not have: the satellite, its frequency number
     /// plus 7, or the week number of toe.
@@ -36,6 +47,13 @@ pub enum Source {
     },
 }
 
+// A number, or another if it is greater than the greatest.
+fn within(number: u64, most: u64, other: u64) -> u64
+    ensures { result ≡ within number most other }
+{
+    if number <= most { number } else { other }
+}
+
 // The width of a source and the value of its bits.
 fn pair_of(source: &Source, frame: &[u8], given: &[u64]) -> (u32, u64)
     requires source { IsTrue (is_source (8 * length frame.now) source.now) }
@@ -44,6 +62,15 @@ fn pair_of(source: &Source, frame: &[u8], given: &[u64]) -> (u32, u64)
 {
     match *source {
         Source::Sent { from, width } => (width, number_in_bytes(frame, from, width as usize)),
+        Source::Within {
+            from,
+            width,
+            most,
+            other,
+        } => (
+            width,
+            within(number_in_bytes(frame, from, width as usize), most, other),
+        ),
         Source::Given { place, width } => (width, given[place] % (1 << width)),
         Source::Fixed { number, width } => (width, number),
     }

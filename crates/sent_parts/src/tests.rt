@@ -59,7 +59,7 @@ const FRAMES: [FrameRow; 6] = [
     },
     FrameRow {
         name: "C63 D2",
-        kind: b'C',
+        kind: b'D',
         satellite: 63,
         frequency: 0,
         near: 1388895960,
