@@ -1,6 +1,6 @@
 -- The fields of sources, and the bytes in which they stand.
 use Rattle.std.proofs.Common.{◌≡◌, ℕ, ◌+◌, ◌*◌, ◌%◌, ◌^◌, ◌<◌, ◌≤◌, ◌&&◌, Bool, true, List, []}
-use Rattle.std.proofs.Common.{◌∷◌, length, refl, sym, ap, ◌∙◌, arith}
+use Rattle.std.proofs.Common.{◌∷◌, length, refl, sym, ap, ◌∙◌, arith, false, if◌then◌else◌}
 use Rattle.std.specs.Prelude.{nat_eq, nat_le, nat_lt, slice_index}
 use Rattle.std.proofs.lemmas.Nat.{mod_below, pow_pos}
 use Rattle.std.proofs.lemmas.Bool.{leb-true, ltb-true}
@@ -12,9 +12,14 @@ use Rattle.nav_bits.specs.Packed.{AllFit, AreBytes, ZerosFrom, packed}
 use Rattle.nav_bits.proofs.Surface.{only_packed}
 use Rattle.nav_tables.proofs.Surface.{both}
 use Rattle.sent_parts.specs.declared.source.Source.{Source}
-use Rattle.sent_parts.specs.declared.source.Source.TheVariants.{Sent, Given, Fixed}
+use Rattle.sent_parts.specs.declared.source.Source.TheVariants.{Sent, Within, Given, Fixed}
 use Rattle.sent_parts.specs.Sources.{are_sources, is_message, is_source, pairs_of, rows_of}
 use Rattle.sent_parts.specs.Sources.{total_width_of, value_of, width_of}
+
+-- one of two numbers that fit
+one_fits : (b : Bool) (n other m : ℕ) → n < m → other < m → (if b then n else other) < m
+one_fits true n other m small fits = small
+one_fits false n other m small fits = fits
 
 -- the value of a source has its bits
 pub source_fits : (bits : ℕ) (frame given : List ℕ) (s : Source) → is_source bits s ≡ true
@@ -22,6 +27,14 @@ pub source_fits : (bits : ℕ) (frame given : List ℕ) (s : Source) → is_sour
 source_fits bits frame given (Sent from width) e =
     let h = both (nat_le (from + width) bits) (nat_le width 63) e in
     (omega (arith, leb-true width 63 h.1), number_at-lt frame from width)
+source_fits bits frame given (Within from width most other) e =
+    let h = both (nat_le (from + width) bits && nat_lt other (2 ^ width)) (nat_le width 63) e in
+    let g = both (nat_le (from + width) bits) (nat_lt other (2 ^ width)) h.0 in
+    let n = number_at frame from width in (
+      omega (arith, leb-true width 63 h.1),
+      one_fits (nat_le n most) n other (2 ^ width) (number_at-lt frame from width)
+      (ltb-true other (2 ^ width) g.1),
+    )
 source_fits bits frame given (Given place width) e =
     let h = both (nat_lt place 4) (nat_le width 63) e in (
       omega (arith, leb-true width 63 h.1),

@@ -43,31 +43,46 @@ pub record IsFrameKind (k : FrameKind) : Type 0 where
   pub sending : IsTrue (has_sending (8 * k.bytes) k.sending)
   pub sources : IsTrue (is_message (8 * k.bytes) k.sources.now)
 
+-- a received frame: its satellite, the frequency number plus 7, about when it was received, its bytes
+pub record Received : Type 0 where
+  pub satellite : ℕ
+  pub frequency : ℕ
+  pub near : ℕ
+  pub frame : List ℕ
+
+abbrev pub heard_of : Heard → Received
+heard_of h = record {
+  satellite = h.satellite;
+  frequency = h.frequency;
+  near = h.near;
+  frame = h.frame.now;
+}
+
 -- the parts have the bytes of the kind
-abbrev pub HasBytes : FrameKind → Heard → Type 0
-HasBytes k h = length h.frame.now ≡ k.bytes
+abbrev pub HasBytes : FrameKind → Received → Type 0
+HasBytes k h = length h.frame ≡ k.bytes
 
 -- ---- rows
 
 -- the message of a frame, with a week number of toe
-abbrev pub message : FrameKind → Heard → ℕ → List ℕ
+abbrev pub message : FrameKind → Received → ℕ → List ℕ
 message k h week =
-    message_of h.frame.now (h.satellite ∷ h.frequency ∷ week ∷ 0 ∷ []) k.sources.now
+    message_of h.frame (h.satellite ∷ h.frequency ∷ week ∷ 0 ∷ []) k.sources.now
 
 abbrev pub faulted : Result RowValue RowFault → Result RowValue FrameFault
 faulted (Ok row) = Ok row
 faulted (Err fault) = Err (Row fault)
 
 -- the row of that message near reference week r
-unfoldable pub row_near : FrameKind → Heard → ℕ → ℕ → Result RowValue FrameFault
+unfoldable pub row_near : FrameKind → Received → ℕ → ℕ → Result RowValue FrameFault
 row_near k h week r = faulted (row_in k.kind (message k h week) r)
 
-abbrev pub untimed_by : FrameKind → Heard → Option ℕ → Result RowValue FrameFault
+abbrev pub untimed_by : FrameKind → Received → Option ℕ → Result RowValue FrameFault
 untimed_by k h None = Err Week
 untimed_by k h (Some r) = row_near k h 0 r
 
 -- the row of a frame whose message has its times
-unfoldable pub row_untimed : FrameKind → Heard → Result RowValue FrameFault
+unfoldable pub row_untimed : FrameKind → Received → Result RowValue FrameFault
 row_untimed k h = untimed_by k h (reference_in (h.near / 604800))
 
 -- the time sent, from the start of the week of toe on
@@ -90,34 +105,34 @@ abbrev pub sent_by : FrameKind → SentTimes → Result RowValue FrameFault → 
 sent_by k t (Ok row) = Ok (with_time k.kind row (sent_of t))
 sent_by k t (Err fault) = Err fault
 
-abbrev pub sent_near : FrameKind → Heard → WeekRule → SentTimes → Option ℕ
+abbrev pub sent_near : FrameKind → Received → WeekRule → SentTimes → Option ℕ
     → Result RowValue FrameFault
 sent_near k h rule t None = Err Week
 sent_near k h rule t (Some r) = sent_by k t (row_near k h (number_of_week rule t.week) r)
 
 -- the row of a frame with these times
-unfoldable pub row_sent : FrameKind → Heard → WeekRule → SentTimes → Result RowValue FrameFault
+unfoldable pub row_sent : FrameKind → Received → WeekRule → SentTimes → Result RowValue FrameFault
 row_sent k h rule t = sent_near k h rule t (reference_in t.week)
 
-abbrev pub timed_by : FrameKind → Heard → WeekRule → Option SentTimes → Result RowValue FrameFault
+abbrev pub timed_by : FrameKind → Received → WeekRule → Option SentTimes → Result RowValue FrameFault
 timed_by k h rule None = Err Week
 timed_by k h rule (Some t) = row_sent k h rule t
 
 -- the row of a frame that tells when it was sent
-unfoldable pub row_timed : FrameKind → Heard → Sending → Result RowValue FrameFault
-row_timed k h s = timed_by k h s.rule (times_in h.frame.now s h.near)
+unfoldable pub row_timed : FrameKind → Received → Sending → Result RowValue FrameFault
+row_timed k h s = timed_by k h s.rule (times_in h.frame s h.near)
 
-abbrev pub row_by : FrameKind → Heard → Option Sending → Result RowValue FrameFault
+abbrev pub row_by : FrameKind → Received → Option Sending → Result RowValue FrameFault
 row_by k h None = row_untimed k h
 row_by k h (Some s) = row_timed k h s
 
-abbrev pub judged : FrameKind → Heard → Option FrameFault → Result RowValue FrameFault
+abbrev pub judged : FrameKind → Received → Option FrameFault → Result RowValue FrameFault
 judged k h (Some fault) = Err fault
 judged k h None = row_by k h k.sending
 
 -- the row of a frame, or the first fault
-unfoldable pub row_of : FrameKind → Heard → Result RowValue FrameFault
+unfoldable pub row_of : FrameKind → Received → Result RowValue FrameFault
 row_of k h =
     if nat_le h.satellite k.most && nat_le h.frequency 20
-    then judged k h (first_fault h.frame.now h.satellite k.checks.now)
+    then judged k h (first_fault h.frame h.satellite k.checks.now)
     else Err OutOfRange

@@ -9,7 +9,7 @@ use Rattle.nav_rows.specs.Reading.{are_in_columns}
 use Rattle.nav_rows.specs.Rows.{RowValue}
 use Rattle.sent_parts.specs.declared.frame.FrameFault.{FrameFault}
 use Rattle.sent_parts.specs.declared.frame.FrameFault.TheVariants.{OutOfRange}
-use Rattle.sent_parts.specs.declared.frame.Heard.{Heard}
+use Rattle.sent_parts.specs.Frames.{Received}
 use Rattle.sent_parts.specs.declared.sbas.Place.{Place}
 use Rattle.sent_parts.specs.declared.sbas.Place.TheVariants.{Number, Signed, Sent, Health}
 use Rattle.sent_parts.specs.declared.TheConstants.{SBAS_PLACES}
@@ -50,23 +50,23 @@ abbrev pub judged_row : Kind → RowValue → Result RowValue FrameFault
 judged_row k row =
     if are_in_columns k.layout.columns.now row.columns then Ok row else Err OutOfRange
 
-abbrev pub row_at : Kind → Heard → Option ℕ → Result RowValue FrameFault
+abbrev pub row_at : Kind → Received → Option ℕ → Result RowValue FrameFault
 row_at k h None = Err OutOfRange
 row_at k h (Some epoch) = judged_row k (record {
   number = h.satellite;
   moment = epoch;
-  columns = columns_of h.frame.now (sent_in h.near epoch) SBAS_PLACES;
+  columns = columns_of h.frame (sent_in h.near epoch) SBAS_PLACES;
 })
 
 -- the message is one of type 9, of a satellite from 20 to 58
-abbrev pub is_of_type_9 : Heard → Bool
+abbrev pub is_of_type_9 : Received → Bool
 is_of_type_9 h =
-    nat_eq (number_at h.frame.now 8 6) 9 && (nat_le 20 h.satellite && nat_le h.satellite 58)
+    nat_eq (number_at h.frame 8 6) 9 && (nat_le 20 h.satellite && nat_le h.satellite 58)
 
 -- the row of a message sent at a time
-unfoldable pub sbas_row : Kind → Heard → Result RowValue FrameFault
+unfoldable pub sbas_row : Kind → Received → Result RowValue FrameFault
 sbas_row k h =
-    if is_of_type_9 h then row_at k h (epoch_of h.frame.now h.near) else Err OutOfRange
+    if is_of_type_9 h then row_at k h (epoch_of h.frame h.near) else Err OutOfRange
 
 -- ---- which places make sense
 

@@ -7,7 +7,7 @@ ghost use Rattle.rinex_write.specs.declared.columns.Rule.TheVariants.{Sent};
 ghost use Rattle.nav_rows.specs.Rows.{value};
 ghost use Rattle.nav_days.specs.Weeks.{is_week_rule};
 ghost use Rattle.sent_parts.specs.Times.{IsSent, is_sending};
-ghost use Rattle.sent_parts.specs.Frames.{HasBytes, IsFrameKind, is_sent_at, is_sent_rule};
+ghost use Rattle.sent_parts.specs.Frames.{HasBytes, IsFrameKind, heard_of, is_sent_at, is_sent_rule};
 ghost use Rattle.sent_parts.specs.Frames.{row_near, row_of, row_sent, row_timed, row_untimed};
 ghost use Rattle.sent_parts.specs.Frames.{sent_of, with_sent, with_time};
 
@@ -139,11 +139,11 @@ fn row_near(
     reference: RefWeek,
 ) -> Result<Row, FrameFault>
     requires kind { IsFrameKind kind.now }
-    requires bytes { HasBytes kind.now heard.now }
-    ensures ok { IfOk result (λ row. row_near kind.now heard.now week reference ≡ Ok (value row)) }
+    requires bytes { HasBytes kind.now (heard_of heard.now) }
+    ensures ok { IfOk result (λ row. row_near kind.now (heard_of heard.now) week reference ≡ Ok (value row)) }
     ensures fields { IfOk result
         (λ row. AreFields kind.now.kind.layout.columns.now row.columns.items) }
-    ensures err { IfErr result (λ fault. row_near kind.now heard.now week reference ≡ Err fault) }
+    ensures err { IfErr result (λ fault. row_near kind.now (heard_of heard.now) week reference ≡ Err fault) }
 {
     let given = [
         u64::from(heard.satellite),
@@ -162,11 +162,11 @@ fn row_near(
 #[tactic(auto, unfolding(crate::specs::Frames::row_untimed))]
 fn row_untimed(kind: &FrameKind, heard: &Heard<'_>) -> Result<Row, FrameFault>
     requires kind { IsFrameKind kind.now }
-    requires bytes { HasBytes kind.now heard.now }
-    ensures ok { IfOk result (λ row. row_untimed kind.now heard.now ≡ Ok (value row)) }
+    requires bytes { HasBytes kind.now (heard_of heard.now) }
+    ensures ok { IfOk result (λ row. row_untimed kind.now (heard_of heard.now) ≡ Ok (value row)) }
     ensures fields { IfOk result
         (λ row. AreFields kind.now.kind.layout.columns.now row.columns.items) }
-    ensures err { IfErr result (λ fault. row_untimed kind.now heard.now ≡ Err fault) }
+    ensures err { IfErr result (λ fault. row_untimed kind.now (heard_of heard.now) ≡ Err fault) }
 {
     match reference_of(heard.near.week()) {
         None => Err(FrameFault::Week),
@@ -183,14 +183,14 @@ fn row_sent(
     times: SentTimes,
 ) -> Result<Row, FrameFault>
     requires kind { IsFrameKind kind.now }
-    requires bytes { HasBytes kind.now heard.now }
+    requires bytes { HasBytes kind.now (heard_of heard.now) }
     requires rule { IsTrue (is_week_rule rule.now) }
     requires sent { IsSent times }
     ensures ok { IfOk result
-        (λ row. row_sent kind.now heard.now rule.now times ≡ Ok (value row)) }
+        (λ row. row_sent kind.now (heard_of heard.now) rule.now times ≡ Ok (value row)) }
     ensures fields { IfOk result
         (λ row. AreFields kind.now.kind.layout.columns.now row.columns.items) }
-    ensures err { IfErr result (λ fault. row_sent kind.now heard.now rule.now times ≡ Err fault) }
+    ensures err { IfErr result (λ fault. row_sent kind.now (heard_of heard.now) rule.now times ≡ Err fault) }
 {
     let Some(reference) = reference_of(times.week) else {
         return Err(FrameFault::Week);
@@ -206,14 +206,14 @@ fn row_sent(
 #[tactic(auto, unfolding(crate::specs::Frames::row_timed))]
 fn row_timed(kind: &FrameKind, heard: &Heard<'_>, sending: &Sending) -> Result<Row, FrameFault>
     requires kind { IsFrameKind kind.now }
-    requires bytes { HasBytes kind.now heard.now }
+    requires bytes { HasBytes kind.now (heard_of heard.now) }
     requires sending { IsTrue (is_sending (8 * kind.now.bytes) sending.now) }
     ensures ok { IfOk result
-        (λ row. row_timed kind.now heard.now sending.now ≡ Ok (value row)) }
+        (λ row. row_timed kind.now (heard_of heard.now) sending.now ≡ Ok (value row)) }
     ensures fields { IfOk result
         (λ row. AreFields kind.now.kind.layout.columns.now row.columns.items) }
     ensures err { IfErr result
-        (λ fault. row_timed kind.now heard.now sending.now ≡ Err fault) }
+        (λ fault. row_timed kind.now (heard_of heard.now) sending.now ≡ Err fault) }
 {
     match times_in(sending, heard.frame, heard.near) {
         None => Err(FrameFault::Week),
@@ -231,11 +231,11 @@ fn row_timed(kind: &FrameKind, heard: &Heard<'_>, sending: &Sending) -> Result<R
 #[tactic(auto, unfolding(crate::specs::Frames::row_of))]
 pub fn row_of_frame(kind: &FrameKind, heard: &Heard<'_>) -> Result<Row, FrameFault>
     requires kind { IsFrameKind kind.now }
-    requires bytes { HasBytes kind.now heard.now }
-    ensures ok { IfOk result (λ row. row_of kind.now heard.now ≡ Ok (value row)) }
+    requires bytes { HasBytes kind.now (heard_of heard.now) }
+    ensures ok { IfOk result (λ row. row_of kind.now (heard_of heard.now) ≡ Ok (value row)) }
     ensures fields { IfOk result
         (λ row. AreFields kind.now.kind.layout.columns.now row.columns.items) }
-    ensures err { IfErr result (λ fault. row_of kind.now heard.now ≡ Err fault) }
+    ensures err { IfErr result (λ fault. row_of kind.now (heard_of heard.now) ≡ Err fault) }
 {
     if heard.satellite > kind.most || heard.frequency > 20 {
         return Err(FrameFault::OutOfRange);

@@ -5,6 +5,7 @@ ghost use Rattle.std.specs.Prelude.{IfErr, IfOk, Ok, Err};
 ghost use Rattle.rinex_write.specs.Columns.{AreFields};
 ghost use Rattle.nav_rows.specs.Kinds.{IsKind};
 ghost use Rattle.nav_rows.specs.Rows.{value};
+ghost use Rattle.sent_parts.specs.Frames.{heard_of};
 ghost use Rattle.sent_parts.specs.Sbas.{are_places, columns_of, day_moment, epoch_of, is_place};
 ghost use Rattle.sent_parts.specs.Sbas.{column_of, sbas_row, sent_in};
 
@@ -143,9 +144,9 @@ fn sent_in(near: Moment, epoch: Moment) -> i64
 #[tactic(auto, unfolding(crate::specs::Sbas::sbas_row))]
 pub fn row_of_sbas(kind: &Kind, heard: &Heard<'_>) -> Result<Row, FrameFault>
     requires bytes { 32 ≤ length heard.now.frame.now }
-    ensures ok { IfOk result (λ row. sbas_row kind.now heard.now ≡ Ok (value row)) }
+    ensures ok { IfOk result (λ row. sbas_row kind.now (heard_of heard.now) ≡ Ok (value row)) }
     ensures fields { IfOk result (λ row. AreFields kind.now.layout.columns.now row.columns.items) }
-    ensures err { IfErr result (λ fault. sbas_row kind.now heard.now ≡ Err fault) }
+    ensures err { IfErr result (λ fault. sbas_row kind.now (heard_of heard.now) ≡ Err fault) }
 {
     let message = heard.frame;
     if number_in_bytes(message, 8, 6) != 9 || heard.satellite < 20 || heard.satellite > 58 {

@@ -1,7 +1,8 @@
 //! What a part of each kind looks like: how it is checked, and where its number and its count are.
 
-ghost use Rattle.std.specs.Prelude.{◌≡◌, IfSome};
-ghost use Rattle.system_logs.specs.Forms.{IsForm};
+ghost use Rattle.std.specs.Prelude.{◌≡◌, IfSome, IsTrue};
+ghost use Rattle.system_logs.specs.Forms.{are_forms, are_places, form_in, is_count, is_form};
+ghost use Rattle.system_logs.specs.Forms.{place_in};
 
 use nav_frames::{KIND_D1, KIND_D2, KIND_FDMA, KIND_FNAV, KIND_NAVIC, KIND_QZSS, KIND_SBAS};
 use sent_parts::{NONE, Number, Run};
@@ -49,6 +50,8 @@ pub struct PartPlace {
 /// What a part of a kind looks like.
 #[derive(Clone, Copy)]
 pub struct PartForm {
+    /// The kind.
+    pub kind: u8,
     /// How it is checked.
     pub check: PartCheck,
     /// The bits that count, in five numbers.
@@ -96,13 +99,17 @@ macro_rules! place {
     };
 }
 
-// The first 21, 30, 44, 46 and 58 bits of a number, and all.
+// The first 8, 21, 30, 44, 46 and 58 bits of a number, and all.
+const FIRST_8: u64 = 0xFF00_0000_0000_0000;
 const FIRST_21: u64 = 0xFFFF_F800_0000_0000;
 const FIRST_30: u64 = 0xFFFF_FFFC_0000_0000;
 const FIRST_44: u64 = 0xFFFF_FFFF_FFF0_0000;
 const FIRST_46: u64 = 0xFFFF_FFFF_FFFC_0000;
 const FIRST_58: u64 = 0xFFFF_FFFF_FFFF_FFC0;
 const ALL: u64 = 0xFFFF_FFFF_FFFF_FFFF;
+
+// Ten words of 30 bits.
+const WORDS: [u64; 5] = [ALL, ALL, ALL, ALL, FIRST_44];
 
 // Strings 1 to 5; the frequency number plus 7 counts, too.
 const STRINGS: [PartPlace; 5] = [
@@ -152,53 +159,62 @@ const FNAV_PLACES: [PartPlace; 4] = [
 
 const SBAS_MESSAGES: [PartPlace; 1] = [place!(9, 9, Count::Received)];
 
-/// The form of a part of a kind.
-pub fn form_of(kind: u8) -> Option<PartForm>
-    ensures { IfSome result IsForm }
+macro_rules! form {
+    ($kind:ident, $check:ident, $masks:expr, $number:expr, $places:ident) => {
+        PartForm {
+            kind: $kind,
+            check: PartCheck::$check,
+            masks: $masks,
+            number: $number,
+            places: &$places,
+        }
+    };
+}
+
+/// The forms of the kinds. The numbers are in the bits of each part that are named first; of D2 the
+/// subframe and the page.
+pub const FORMS: [PartForm; 7] = [
+    form!(KIND_FDMA, Hamming, [ALL, FIRST_21, FIRST_8, 0, 0], number!(1 4), STRINGS),
+    form!(KIND_D1, Bch, WORDS, number!(15 3), D1_PLACES),
+    form!(KIND_D2, Bch, WORDS, number!(15 3, 42 4), D2_PLACES),
+    form!(KIND_QZSS, Parity, WORDS, number!(49 3), QZSS_PLACES),
+    form!(KIND_NAVIC, Crc262, [ALL, ALL, ALL, ALL, FIRST_30], number!(27 2), NAVIC_PLACES),
+    form!(KIND_FNAV, Crc214, [ALL, ALL, ALL, FIRST_46, 0], number!(0 6), FNAV_PLACES),
+    form!(KIND_SBAS, Crc226, [ALL, ALL, ALL, FIRST_58, 0], number!(8 6), SBAS_MESSAGES),
+];
+
+/// The form of a kind: the first that names it.
+pub fn form_in(forms: &[PartForm], kind: u8) -> Option<PartForm>
+    requires { IsTrue (are_forms forms.now) }
+    ensures same { result ≡ form_in forms.now kind }
+    ensures form { IfSome result (λ f. IsTrue (is_form f)) }
 {
-    match kind {
-        KIND_FDMA => Some(PartForm {
-            check: PartCheck::Hamming,
-            masks: [ALL, FIRST_21, 0xFF00_0000_0000_0000, 0, 0],
-            number: number!(1 4),
-            places: &STRINGS,
-        }),
-        KIND_D1 => Some(PartForm {
-            check: PartCheck::Bch,
-            masks: [ALL, ALL, ALL, ALL, FIRST_44],
-            number: number!(15 3),
-            places: &D1_PLACES,
-        }),
-        KIND_D2 => Some(PartForm {
-            check: PartCheck::Bch,
-            masks: [ALL, ALL, ALL, ALL, FIRST_44],
-            number: number!(15 3, 42 4),
-            places: &D2_PLACES,
-        }),
-        KIND_QZSS => Some(PartForm {
-            check: PartCheck::Parity,
-            masks: [ALL, ALL, ALL, ALL, FIRST_44],
-            number: number!(49 3),
-            places: &QZSS_PLACES,
-        }),
-        KIND_NAVIC => Some(PartForm {
-            check: PartCheck::Crc262,
-            masks: [ALL, ALL, ALL, ALL, FIRST_30],
-            number: number!(27 2),
-            places: &NAVIC_PLACES,
-        }),
-        KIND_FNAV => Some(PartForm {
-            check: PartCheck::Crc214,
-            masks: [ALL, ALL, ALL, FIRST_46, 0],
-            number: number!(0 6),
-            places: &FNAV_PLACES,
-        }),
-        KIND_SBAS => Some(PartForm {
-            check: PartCheck::Crc226,
-            masks: [ALL, ALL, ALL, FIRST_58, 0],
-            number: number!(8 6),
-            places: &SBAS_MESSAGES,
-        }),
-        _ => None,
+    match forms.split_first() {
+        None => None,
+        Some((first, rest)) => {
+            if first.kind == kind {
+                Some(*first)
+            } else {
+                form_in(rest, kind)
+            }
+        }
+    }
+}
+
+/// The place of the part that is found by a number: the first that names it.
+pub fn place_in(places: &[PartPlace], found: u64) -> Option<PartPlace>
+    requires { IsTrue (are_places places.now) }
+    ensures same { result ≡ place_in places.now found }
+    ensures count { IfSome result (λ p. IsTrue (is_count p.count)) }
+{
+    match places.split_first() {
+        None => None,
+        Some((first, rest)) => {
+            if first.found == found {
+                Some(*first)
+            } else {
+                place_in(rest, found)
+            }
+        }
     }
 }

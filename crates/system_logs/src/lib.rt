@@ -31,7 +31,7 @@ mod told;
 mod vectors;
 
 pub use crate::counts::KindCounts;
-pub use crate::form::{Count, PartCheck, PartForm, PartPlace, form_of};
+pub use crate::form::{Count, FORMS, PartCheck, PartForm, PartPlace, form_in, place_in};
 pub use crate::kinds::SentKinds;
 pub use crate::read::{HeardPart, PartRefusal, read_part};
 pub use crate::rows::row_of_parts;

@@ -1,22 +1,30 @@
 //! The rows of frames.
 
+ghost use Rattle.std.specs.Prelude.{◌≡◌, ◌++◌, IfOk, IfErr, OnOk, Ok, Err, length};
+ghost use Rattle.nav_rows.specs.Kinds.{IsKind};
+ghost use Rattle.sent_parts.specs.Frames.{IsFrameKind};
+ghost use Rattle.system_logs.specs.Rows.{bytes_at, ephemeris_of as compared, frame_bytes};
+ghost use Rattle.system_logs.specs.Rows.{frequency_of, number_at, part_at, part_bytes};
+ghost use Rattle.system_logs.specs.Rows.{row_by, row_by_sbas, row_in_bytes, row_of_parts, row_with};
+ghost use Rattle.system_logs.specs.Rows.{sbas_in_bytes};
+
 use crate::kinds::SentKinds;
 use crate::read::bytes_of;
 use crate::told::SentRow;
-use arrayvec::ArrayVec;
 use gnss_week::Moment;
 use nav_again::{Ephemeris, Sender};
 use nav_frames::{
     FRAME_RULES, FrameKey, FramePart, FrameRule, KIND_D1, KIND_D2, KIND_FDMA, KIND_FNAV, KIND_NAVIC,
     KIND_QZSS, KIND_SBAS, rule_of,
 };
+use nav_rows::Kind;
 use sent_parts::{FrameFault, FrameKind, Heard, row_of_frame, row_of_sbas};
+use std::alloc::{AllocError, Global};
 
-// The bytes of parts, one after the other.
-pub(crate) type FrameBytes = ArrayVec<u8, 342>;
-
-// The part with a number.
-fn part_at(parts: &[FramePart], number: u8) -> Option<FramePart> {
+// The part with a number: the first.
+fn part_at(parts: &[FramePart], number: u8) -> Option<FramePart>
+    ensures { result ≡ part_at parts.now number }
+{
     match parts.split_first() {
         None => None,
         Some((first, rest)) => {
@@ -29,59 +37,77 @@ fn part_at(parts: &[FramePart], number: u8) -> Option<FramePart> {
     }
 }
 
-// The first bytes of the part with a number; zeros, if it is not there.
-fn part_bytes(parts: &[FramePart], number: u8) -> [u8; 40] {
-    match part_at(parts, number) {
+// The bytes of a part; zeros, if it is not there.
+fn part_bytes(part: Option<FramePart>) -> [u8; 40]
+    ensures { result ≡ part_bytes part }
+{
+    match part {
         None => [0; 40],
         Some(part) => bytes_of(&[part.bits0, part.bits1, part.bits2, part.bits3, part.bits4]),
     }
 }
 
-// Appends the first bytes of the parts with these numbers.
-fn push_parts(numbers: &[u8], parts: &[FramePart], count: usize, bytes: &mut FrameBytes) -> bool {
+// Appends the first bytes of the parts with these numbers, one part after the other.
+#[tactic(auto, unfolding(crate::specs::Rows::bytes_at))]
+fn push_parts(
+    numbers: &[u8],
+    parts: &[FramePart],
+    count: usize,
+    bytes: &mut Vec<u8>,
+) -> Result<(), AllocError>
+    ensures { OnOk result (bytes.new.items
+        ≡ bytes.old.items ++ bytes_at numbers.now parts.now count) }
+{
     match numbers.split_first() {
-        None => true,
+        None => Ok(()),
         Some((number, rest)) => {
-            let part = part_bytes(parts, *number);
-            bytes.try_extend_from_slice(&part[..count]).is_ok()
-                && push_parts(rest, parts, count, bytes)
+            let part = part_bytes(part_at(parts, *number));
+            bytes.extend_from_slice(&part[..count.min(40)])?;
+            push_parts(rest, parts, count, bytes)
         }
     }
 }
 
-// The bytes of the parts of a frame that its kind needs or uses, by number.
-fn frame_bytes(rule: &FrameRule, parts: &[FramePart], count: usize) -> FrameBytes {
-    let mut bytes = FrameBytes::new();
-    if count <= 40 && push_parts(rule.needed, parts, count, &mut bytes) {
-        push_parts(rule.useful, parts, count, &mut bytes);
-    }
-    bytes
+// The first bytes of the parts that a frame needs, and of those that are useful.
+fn frame_bytes(
+    alloc: Global,
+    rule: &FrameRule,
+    parts: &[FramePart],
+    count: usize,
+) -> Result<Vec<u8>, AllocError>
+    ensures { IfOk result (λ bytes. bytes.items ≡ frame_bytes rule.now parts.now count) }
+{
+    let mut bytes = Vec::new(alloc);
+    push_parts(rule.needed, parts, count, &mut bytes)?;
+    push_parts(rule.useful, parts, count, &mut bytes)?;
+    Ok(bytes)
 }
 
-// The frequency number plus 7 that came with the first part; 0 for kinds that have none.
-fn frequency_of(kind: u8, parts: &[FramePart]) -> u8 {
+// The frequency number plus 7 that came with the first part, of GLONASS.
+fn frequency_of(kind: u8, parts: &[FramePart]) -> u8
+    ensures { result ≡ frequency_of kind parts.now }
+{
+    if kind != KIND_FDMA {
+        return 0;
+    }
     match parts.first() {
         None => 0,
-        Some(first) => {
-            if kind == KIND_FDMA {
-                (first.bits2 >> 56) as u8
-            } else {
-                0
-            }
-        }
+        Some(first) => (first.bits2 >> 56) as u8,
     }
 }
 
-// The row of a frame of a kind.
-fn row_by(
+// The row of a frame of a kind in these bytes.
+fn row_in_bytes(
     kind: &FrameKind,
-    rule: &FrameRule,
     key: FrameKey,
     parts: &[FramePart],
-) -> Result<SentRow, FrameFault> {
-    let bytes = frame_bytes(rule, parts, kind.part_bytes);
+    bytes: &[u8],
+) -> Result<SentRow, FrameFault>
+    requires { IsFrameKind kind.now }
+    ensures { result ≡ row_in_bytes kind.now key parts.now bytes.now }
+{
     let Some(near) = Moment::new(key.begin) else {
-        return Err(FrameFault::Week);
+        return Err(FrameFault::OutOfRange);
     };
     if bytes.len() != kind.bytes {
         return Err(FrameFault::OutOfRange);
@@ -90,88 +116,182 @@ fn row_by(
         satellite: key.satellite,
         frequency: frequency_of(key.kind, parts),
         near,
-        frame: bytes.as_slice(),
+        frame: bytes,
     };
     match row_of_frame(kind, &heard) {
-        Ok(row) => Ok(SentRow {
-            kind: kind.kind,
-            row,
-        }),
+        Ok(row) => Ok(SentRow::new(&kind.kind, row)),
         Err(fault) => Err(fault),
     }
 }
 
-// The row of a message of SBAS.
-fn row_by_sbas(
-    kinds: &SentKinds,
-    rule: &FrameRule,
+// The row of a message of SBAS in these bytes.
+fn sbas_in_bytes(
+    kind: &Kind,
     key: FrameKey,
     parts: &[FramePart],
-) -> Result<SentRow, FrameFault> {
-    let bytes = frame_bytes(rule, parts, 32);
+    bytes: &[u8],
+) -> Result<SentRow, FrameFault>
+    requires { IsKind kind.now }
+    ensures { result ≡ sbas_in_bytes kind.now key parts.now bytes.now }
+{
     let Some(near) = Moment::new(key.begin) else {
-        return Err(FrameFault::Week);
+        return Err(FrameFault::OutOfRange);
     };
     if bytes.len() != 32 {
         return Err(FrameFault::OutOfRange);
     }
     let heard = Heard {
         satellite: key.satellite,
-        frequency: 0,
+        frequency: frequency_of(key.kind, parts),
         near,
-        frame: bytes.as_slice(),
+        frame: bytes,
     };
-    match row_of_sbas(&kinds.sbas, &heard) {
-        Ok(row) => Ok(SentRow {
-            kind: kinds.sbas,
-            row,
-        }),
+    match row_of_sbas(kind, &heard) {
+        Ok(row) => Ok(SentRow::new(kind, row)),
         Err(fault) => Err(fault),
     }
 }
 
-/// The row of a frame by its parts, one of each number that its kind needs; a further kind has
-/// none.
+// The row of a frame of a kind, of which all but SBAS are frames of several parts.
+fn row_by(
+    alloc: Global,
+    kind: &FrameKind,
+    rule: &FrameRule,
+    key: FrameKey,
+    parts: &[FramePart],
+) -> Result<Result<SentRow, FrameFault>, AllocError>
+    requires { IsFrameKind kind.now }
+    ensures { IfOk result (λ row. row ≡ row_by kind.now rule.now key parts.now) }
+{
+    let bytes = frame_bytes(alloc, rule, parts, kind.part_bytes)?;
+    Ok(row_in_bytes(kind, key, parts, &bytes))
+}
+
+// The row of a message of SBAS.
+fn row_by_sbas(
+    alloc: Global,
+    kind: &Kind,
+    rule: &FrameRule,
+    key: FrameKey,
+    parts: &[FramePart],
+) -> Result<Result<SentRow, FrameFault>, AllocError>
+    requires { IsKind kind.now }
+    ensures { IfOk result (λ row. row ≡ row_by_sbas kind.now rule.now key parts.now) }
+{
+    let bytes = frame_bytes(alloc, rule, parts, 32)?;
+    Ok(sbas_in_bytes(kind, key, parts, &bytes))
+}
+
+// The row of a frame by the rule of its kind.
+fn row_with(
+    alloc: Global,
+    kinds: &SentKinds,
+    rule: &FrameRule,
+    key: FrameKey,
+    parts: &[FramePart],
+) -> Result<Result<SentRow, FrameFault>, AllocError>
+    ensures { IfOk result (λ row. row ≡ row_with kinds.now rule.now key parts.now) }
+{
+    if key.kind == KIND_FDMA {
+        return row_by(alloc, &kinds.fdma, rule, key, parts);
+    }
+    if key.kind == KIND_D1 {
+        return row_by(alloc, &kinds.d1, rule, key, parts);
+    }
+    if key.kind == KIND_D2 {
+        return row_by(alloc, &kinds.d2, rule, key, parts);
+    }
+    if key.kind == KIND_QZSS {
+        return row_by(alloc, &kinds.qzss, rule, key, parts);
+    }
+    if key.kind == KIND_FNAV {
+        return row_by(alloc, &kinds.fnav, rule, key, parts);
+    }
+    if key.kind == KIND_NAVIC {
+        return row_by(alloc, &kinds.navic, rule, key, parts);
+    }
+    if key.kind == KIND_SBAS {
+        return row_by_sbas(alloc, &kinds.sbas, rule, key, parts);
+    }
+    Ok(Err(FrameFault::OutOfRange))
+}
+
+/// The row of a frame by its parts, one of each number that its kind needs; there is none for
+/// another kind. `AllocError` if memory runs out.
+#[tactic(auto, unfolding(crate::specs::Rows::row_of_parts))]
 pub fn row_of_parts(
+    alloc: Global,
     kinds: &SentKinds,
     key: FrameKey,
     parts: &[FramePart],
-) -> Result<SentRow, FrameFault> {
-    let Some(rule) = rule_of(&FRAME_RULES, key.kind) else {
-        return Err(FrameFault::OutOfRange);
-    };
-    match key.kind {
-        KIND_FDMA => row_by(&kinds.fdma, &rule, key, parts),
-        KIND_D1 => row_by(&kinds.d1, &rule, key, parts),
-        KIND_D2 => row_by(&kinds.d2, &rule, key, parts),
-        KIND_QZSS => row_by(&kinds.qzss, &rule, key, parts),
-        KIND_FNAV => row_by(&kinds.fnav, &rule, key, parts),
-        KIND_NAVIC => row_by(&kinds.navic, &rule, key, parts),
-        KIND_SBAS => row_by_sbas(kinds, &rule, key, parts),
-        _ => Err(FrameFault::OutOfRange),
+) -> Result<Result<SentRow, FrameFault>, AllocError>
+    ensures { IfOk result (λ row. row ≡ row_of_parts kinds.now key parts.now) }
+{
+    match rule_of(&FRAME_RULES, key.kind) {
+        None => Ok(Err(FrameFault::OutOfRange)),
+        Some(rule) => row_with(alloc, kinds, &rule, key, parts),
     }
 }
 
-// Copies the columns but that of the time sent.
-fn copy_columns(columns: &[i64], sent: usize, numbers: &mut [i64; 34]) {
-    'copying: for i in 0..29 {
-        if i < columns.len() && i != sent {
-            numbers[i + 1] = columns[i];
-        }
+// The number of a column but that of the time sent; 0 after the last.
+fn number_at(columns: &[i64], sent: usize, place: usize) -> i64
+    ensures { result ≡ number_at columns.now sent place }
+{
+    if place != sent && place < columns.len() {
+        columns[place]
+    } else {
+        0
     }
 }
 
-// What is compared to the satellite's last ephemeris.
-pub(crate) fn ephemeris_of(key: FrameKey, row: &SentRow) -> Ephemeris {
-    let mut numbers = [0i64; 34];
-    numbers[0] = row.row.moment.value() as i64;
-    copy_columns(row.row.columns.as_slice(), row.kind.sent, &mut numbers);
+// The satellite, the epoch, and all columns but that of the time sent: what is compared to the
+// satellite's last ephemeris.
+pub(crate) fn ephemeris_of(key: FrameKey, row: &SentRow) -> Ephemeris
+    ensures { result ≡ compared key row.now }
+{
+    let columns = row.row().columns.as_slice();
+    let sent = row.kind().sent;
     Ephemeris {
         sender: Sender {
             kind: key.kind,
             satellite: key.satellite,
         },
-        sent: key.begin as i64,
-        numbers,
+        sent: 0,
+        numbers: [
+            row.row().moment.value() as i64,
+            number_at(columns, sent, 0),
+            number_at(columns, sent, 1),
+            number_at(columns, sent, 2),
+            number_at(columns, sent, 3),
+            number_at(columns, sent, 4),
+            number_at(columns, sent, 5),
+            number_at(columns, sent, 6),
+            number_at(columns, sent, 7),
+            number_at(columns, sent, 8),
+            number_at(columns, sent, 9),
+            number_at(columns, sent, 10),
+            number_at(columns, sent, 11),
+            number_at(columns, sent, 12),
+            number_at(columns, sent, 13),
+            number_at(columns, sent, 14),
+            number_at(columns, sent, 15),
+            number_at(columns, sent, 16),
+            number_at(columns, sent, 17),
+            number_at(columns, sent, 18),
+            number_at(columns, sent, 19),
+            number_at(columns, sent, 20),
+            number_at(columns, sent, 21),
+            number_at(columns, sent, 22),
+            number_at(columns, sent, 23),
+            number_at(columns, sent, 24),
+            number_at(columns, sent, 25),
+            number_at(columns, sent, 26),
+            number_at(columns, sent, 27),
+            number_at(columns, sent, 28),
+            number_at(columns, sent, 29),
+            number_at(columns, sent, 30),
+            number_at(columns, sent, 31),
+            number_at(columns, sent, 32),
+        ],
     }
 }
