@@ -1,8 +1,7 @@
 -- Rows of SBAS' message 9 (RTCA DO-229, A.4.4.11).
 use Rattle.std.specs.Prelude.{ℕ, ◌+◌, ◌-◌, ◌*◌, ◌/◌, ◌&&◌, Bool, true, false, List, [], ◌∷◌, ℤ, pos, ◌-ℤ◌}
 use Rattle.std.specs.Prelude.{nat_eq, nat_le, nat_lt, Option, Some, None, Result, Ok, Err, if◌then◌else◌}
-use Rattle.nav_bits.specs.Bits.{number_at}
-use Rattle.nav_bits.specs.Signed.{signed_at}
+use Rattle.nav_bits.specs.Bits.{number_at, signed_at}
 use Rattle.gnss_week.specs.Functions.{first_from}
 use Rattle.nav_rows.specs.declared.kind.Kind.{Kind}
 use Rattle.nav_rows.specs.Reading.{are_in_columns}

@@ -11,6 +11,7 @@ use std::collections::BTreeMap;
 /// A run over parts: the open frames, and the last ephemeris of each satellite.
 #[derive(Drop)]
 pub struct SystemLog {
+    alloc: Global,
     frames: Frames,
     known: BTreeMap<Sender, Ephemeris>,
     lag: u64,
@@ -33,6 +34,7 @@ fn judge_row(
 
 // The outcome of the parts of a frame.
 fn outcome_of(
+    alloc: Global,
     kinds: &SentKinds,
     known: &mut BTreeMap<Sender, Ephemeris>,
     key: FrameKey,
@@ -41,7 +43,7 @@ fn outcome_of(
     match verdict_on(&FRAME_RULES, key.kind, parts) {
         Verdict::Partial => Ok(Outcome::Partial),
         Verdict::Contradicted => Ok(Outcome::Contradicted),
-        Verdict::Whole => match row_of_parts(kinds, key, parts) {
+        Verdict::Whole => match row_of_parts(alloc, kinds, key, parts)? {
             Ok(row) => judge_row(known, key, row),
             Err(fault) => Ok(Outcome::Rejected(fault)),
         },
@@ -50,6 +52,7 @@ fn outcome_of(
 
 // Tells what the parts of a frame give.
 fn tell(
+    alloc: Global,
     kinds: &SentKinds,
     known: &mut BTreeMap<Sender, Ephemeris>,
     parts: &[FramePart],
@@ -59,7 +62,7 @@ fn tell(
         None => Ok(()),
         Some(first) => {
             let key = first.frame();
-            let outcome = outcome_of(kinds, known, key, parts)?;
+            let outcome = outcome_of(alloc, kinds, known, key, parts)?;
             told.push(Told { key, outcome })?;
             Ok(())
         }
@@ -68,6 +71,7 @@ fn tell(
 
 // Tells what the frames give that begin before the limit, in order.
 fn tell_frames(
+    alloc: Global,
     kinds: &SentKinds,
     frames: &mut Frames,
     limit: u64,
@@ -76,7 +80,7 @@ fn tell_frames(
     told: &mut Vec<Told>,
 ) -> Result<(), AllocError> {
     'telling: while frames.next_frame(limit, frame)? {
-        tell(kinds, known, frame, told)?;
+        tell(alloc, kinds, known, frame, told)?;
     }
     Ok(())
 }
@@ -86,6 +90,7 @@ impl SystemLog {
     /// `lag` seconds later was received.
     pub fn new(alloc: Global, lag: u32) -> SystemLog {
         SystemLog {
+            alloc,
             frames: Frames::new(alloc),
             known: BTreeMap::new(alloc),
             lag: u64::from(lag),
@@ -108,6 +113,7 @@ impl SystemLog {
         self.frames.take(part)?;
         self.limit = self.limit.max(part.begin.saturating_sub(self.lag));
         tell_frames(
+            self.alloc,
             kinds,
             &mut self.frames,
             self.limit,
@@ -122,6 +128,7 @@ impl SystemLog {
     pub fn finish(&mut self, kinds: &SentKinds, told: &mut Vec<Told>) -> Result<(), AllocError> {
         self.limit = u64::MAX;
         tell_frames(
+            self.alloc,
             kinds,
             &mut self.frames,
             u64::MAX,

@@ -88,43 +88,16 @@ fn counts_of(lines: &[u8], records: &[u8], alloc: Global) -> Option<KindCounts> 
     Some(counts)
 }
 
-// A log, with what it gives.
-struct LogRow {
-    name: &'static str,
-    parts: &'static [u8],
-    records: &'static [u8],
-    counts: KindCounts,
-}
-
-const LOGS: [LogRow; 3] = [
-    LogRow {
-        name: "all kinds",
-        parts: KIND_PARTS,
-        records: KIND_RECORDS,
-        counts: KindCounts {
-            parts: 84,
-            check_failed: 0,
-            unused: 3,
-            rejected: 0,
-            complete: 21,
-            again: 0,
-            partial: 0,
-            contradicted: 0,
-        },
-    },
-    LogRow {
-        name: "mixed, UBX",
-        parts: UBX_PARTS,
-        records: MIXED_RECORDS,
-        counts: MIXED,
-    },
-    LogRow {
-        name: "mixed, SBF",
-        parts: SBF_PARTS,
-        records: MIXED_RECORDS,
-        counts: MIXED,
-    },
-];
+const ALL_KINDS: KindCounts = KindCounts {
+    parts: 84,
+    check_failed: 0,
+    unused: 3,
+    rejected: 0,
+    complete: 21,
+    again: 0,
+    partial: 0,
+    contradicted: 0,
+};
 
 const MIXED: KindCounts = KindCounts {
     parts: 103,
@@ -139,8 +112,10 @@ const MIXED: KindCounts = KindCounts {
 
 #[test]
 fn logs_give_their_ephemerides(rt: HostRuntime) {
-    for row in &LOGS {
-        let counts = counts_of(row.parts, row.records, rt.alloc());
-        assert!(rt; counts == Some(row.counts), "{}", row.name);
-    }
+    let kinds = counts_of(KIND_PARTS, KIND_RECORDS, rt.alloc());
+    assert!(rt; kinds == Some(ALL_KINDS), "all kinds");
+    let ubx = counts_of(UBX_PARTS, MIXED_RECORDS, rt.alloc());
+    assert!(rt; ubx == Some(MIXED), "mixed, UBX");
+    let sbf = counts_of(SBF_PARTS, MIXED_RECORDS, rt.alloc());
+    assert!(rt; sbf == Some(MIXED), "mixed, SBF");
 }
