@@ -11,7 +11,7 @@ use Rattle.sent_parts.specs.declared.frame.FrameFault.TheVariants.{OutOfRange}
 use Rattle.sent_parts.specs.Frames.{Received}
 use Rattle.sent_parts.specs.declared.sbas.Place.{Place}
 use Rattle.sent_parts.specs.declared.sbas.Place.TheVariants.{Number, Signed, Sent, Health}
-use Rattle.sent_parts.specs.declared.TheConstants.{SBAS_PLACES}
+use Rattle.sent_parts.specs.declared.sbas.TheConstants.{SBAS_PLACES}
 
 -- the number of a column
 abbrev pub column_of : List ℕ → ℤ → Place → ℤ

@@ -6,7 +6,7 @@ use Rattle.std.specs.Int.{w64, to_be_bytes}
 use Rattle.gnss_week.specs.Weeks.{IsNearestMoment, IsWeek, week_of}
 use Rattle.lnav_subframe.specs.Words.{AreGood, AreSource}
 use Rattle.nav_bits.specs.Bits.{number_at}
-use Rattle.nav_frames.specs.declared.TheConstants.{FRAME_RULES}
+use Rattle.nav_frames.specs.declared.rule.TheConstants.{FRAME_RULES}
 use Rattle.nav_frames.specs.declared.part.FramePart.{FramePart}
 use Rattle.nav_frames.specs.declared.rule.FrameRule.{FrameRule}
 use Rattle.nav_frames.specs.Begins.{IsWithin, begin_second}
@@ -15,7 +15,7 @@ use Rattle.part_checks.specs.Beidou.{IsPart, order_in}
 use Rattle.part_checks.specs.Crc.{has_crc}
 use Rattle.part_checks.specs.Glonass.{is_good_string}
 use Rattle.sent_parts.specs.Runs.{number_in}
-use Rattle.system_logs.specs.declared.TheConstants.{FORMS}
+use Rattle.system_logs.specs.declared.form.TheConstants.{FORMS}
 use Rattle.system_logs.specs.declared.form.Count.{Count}
 use Rattle.system_logs.specs.declared.form.Count.TheVariants.{Sent, Superframe, Received}
 use Rattle.system_logs.specs.declared.form.PartCheck.{PartCheck}

@@ -4,7 +4,7 @@ use Rattle.std.specs.Prelude.{length, take, replicate, find, get_or, ℤ, pos, n
 use Rattle.std.specs.Prelude.{Option, Some, None, Result, Ok, Err}
 use Rattle.nav_again.specs.declared.ephemeris.Ephemeris.{Ephemeris}
 use Rattle.nav_again.specs.declared.ephemeris.Sender.{Sender}
-use Rattle.nav_frames.specs.declared.TheConstants.{FRAME_RULES}
+use Rattle.nav_frames.specs.declared.rule.TheConstants.{FRAME_RULES}
 use Rattle.nav_frames.specs.declared.part.FrameKey.{FrameKey}
 use Rattle.nav_frames.specs.declared.part.FramePart.{FramePart}
 use Rattle.nav_frames.specs.declared.rule.FrameRule.{FrameRule}

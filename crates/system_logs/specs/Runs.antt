@@ -3,7 +3,7 @@ use Rattle.std.specs.Prelude.{◌≡◌, ℕ, ◌-◌, ◌<◌, max, Bool, true,
 use Rattle.nav_again.specs.declared.ephemeris.Ephemeris.{Ephemeris}
 use Rattle.nav_again.specs.declared.ephemeris.Sender.{Sender}
 use Rattle.nav_again.specs.Again.{Knows, is_again, last_from}
-use Rattle.nav_frames.specs.declared.TheConstants.{FRAME_RULES}
+use Rattle.nav_frames.specs.declared.rule.TheConstants.{FRAME_RULES}
 use Rattle.nav_frames.specs.declared.part.FrameKey.{FrameKey}
 use Rattle.nav_frames.specs.declared.part.FramePart.{FramePart}
 use Rattle.nav_frames.specs.declared.verdict.Verdict.{Verdict}
