@@ -58,7 +58,8 @@ fn put_read(read: &ItemRead, into: &mut ItemRaw) -> u32
 /// 0; or the number of the first reason for which it is rejected, 32 to 41, 42 for a record of
 /// another kind, or 24 if there is no such version; and then nothing is put.
 pub fn read_record(text: &[u8], version: u32, into: &mut ItemRaw) -> u32
-    ensures read { IsVersion version → PutsRead (read_in version text.now) into.old into.new result }
+    ensures read { IsVersion version
+        → PutsRead (read_in version text.now) into.old into.new result }
     ensures version { (IsVersion version → ⊥) → (result ≡ 24) × (into.new ≡ into.old) }
 {
     if version == 4 {

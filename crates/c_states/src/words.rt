@@ -35,7 +35,8 @@ pub fn are_texts(words: &[&[u8]]) -> bool
 /// `AllocError` if there is no memory for them.
 pub fn texts_of(alloc: Global, words: &[&[u8]]) -> Result<Vec<String>, AllocError>
     requires { All IsUtf8 (map (λ word. word.now) words.now) }
-    ensures { IfOk result (λ texts. map string_bytes texts.items ≡ map (λ word. word.now) words.now) }
+    ensures { IfOk result (λ texts. map string_bytes texts.items ≡ map
+        (λ word. word.now) words.now) }
 {
     let mut texts = Vec::new(alloc);
     for word in words {

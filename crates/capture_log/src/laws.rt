@@ -85,14 +85,16 @@ pub fn lines_yield_what_is_heard()
         → ArePeriods r window (IsPartHeard window (line_items_of lines))
         (periods_of r window (parts_of window lines)) }
     ensures closed { (r window : ℕ) (lines : List Line)
-        → AreClosed r window (IsPartHeard window (line_items_of lines)) (watermark_after window lines)
+        → AreClosed r window (IsPartHeard window (line_items_of lines))
+        (watermark_after window lines)
         (closed_of r window (watermark_after window lines) (parts_of window lines)) }
     ensures only { (r window : ℕ) (lines : List Line) (some other : List Closed)
         → ArePeriods r window (IsPartHeard window (line_items_of lines)) some
         → ArePeriods r window (IsPartHeard window (line_items_of lines)) other → some ≡ other }
     ensures only_closed { (r window watermark : ℕ) (lines : List Line) (some other : List Closed)
         → AreClosed r window (IsPartHeard window (line_items_of lines)) watermark some
-        → AreClosed r window (IsPartHeard window (line_items_of lines)) watermark other → some ≡ other }
+        → AreClosed r window (IsPartHeard window (line_items_of lines)) watermark other
+        → some ≡ other }
 {
     taken_parts_are_heard();
     parts_of_lines_are_values();
@@ -143,7 +145,8 @@ pub fn further_lines_go_on()
         (2 + length lines) (line_items_of more) }
     ensures known { (window : ℕ) (lines more : List Line)
         → known_from window nothing_known (line_items_of (lines ++ more))
-        ≡ known_from window (known_from window nothing_known (line_items_of lines)) (line_items_of more) }
+        ≡ known_from window (known_from window nothing_known (line_items_of lines))
+        (line_items_of more) }
     ensures watermark { (window : ℕ) (lines more : List Line)
         → watermark_after window lines ≤ watermark_after window (lines ++ more) }
 {}

@@ -84,7 +84,8 @@ pub(crate) fn convert<S: Source, T: Sink, U: Sink>(
         (faults_of (S.faults input.old) (T.faults output.old) (U.faults report.old))
         (faults_of (S.faults input.new) (T.faults output.new) (U.faults report.new)) result }
     ensures still { IsErrOf result BridgeFault.ReadFault
-        → (T.faults output.new ≡ T.faults output.old) × (U.faults report.new ≡ U.faults report.old) }
+        → (T.faults output.new ≡ T.faults output.old)
+        × (U.faults report.new ≡ U.faults report.old) }
     ensures never { IsTrue (S.never_fails input.old) → IsErrOf result BridgeFault.ReadFault → ⊥ }
 {
     what_is_closed_stays();

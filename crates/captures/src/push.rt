@@ -137,7 +137,8 @@ fn follow<S: Source, T: Sink, U: Sink>(
         (faults_of (S.faults input.old) (T.faults output.old) (U.faults report.old))
         (faults_of (S.faults input.new) (T.faults output.new) (U.faults report.new)) result }
     ensures still { IsErrOf result BridgeFault.ReadFault
-        → (T.faults output.new ≡ T.faults output.old) × (U.faults report.new ≡ U.faults report.old) }
+        → (T.faults output.new ≡ T.faults output.old)
+        × (U.faults report.new ≡ U.faults report.old) }
     ensures never { IsTrue (S.never_fails input.old) → IsErrOf result BridgeFault.ReadFault → ⊥ }
     ensures form { IsErrOf result BridgeFault.NotThisForm
         → (output.new ≡ output.old) × (report.new ≡ report.old) }

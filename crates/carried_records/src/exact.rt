@@ -167,8 +167,8 @@ fn decimal_text(number: &Number) -> Option<[u8; 19]>
     Some(text_of(number.minus, &parts))
 }
 
-/// The exact text of the number in a column: a blank or `-`, one digit, a point, twelve digits, `D`,
-/// a sign and two digits of the exponent (RINEX 4.01, navigation records, D19.12).
+/// The exact text of the number in a column: a blank or `-`, one digit, a point, twelve digits,
+/// `D`, a sign and two digits of the exponent (RINEX 4.01, navigation records, D19.12).
 ///
 /// `None` if the column holds no number (blanks or another text), or a number of more than thirteen
 /// digits, or one whose exponent has more than two. A zero has no sign.

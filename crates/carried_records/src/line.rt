@@ -15,7 +15,8 @@ fn put_field(line: &mut [u8; 80], at: usize)
     }
 }
 
-/// A line after the title as it is written; `first` of the first, whose first column holds the date.
+/// A line after the title as it is written; `first` of the first, whose first column holds the
+/// date.
 ///
 /// Each column with a number of at most thirteen digits has its [`exact_text`]; the others stay as
 /// they are.

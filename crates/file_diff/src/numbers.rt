@@ -4,7 +4,8 @@ ghost use Rattle.std.specs.Prelude.{◌≡◌, ◌+◌, ◌≤◌, [], ◌∷◌
 ghost use Rattle.arrayvec.specs.ArrayVec.{array_vec_len};
 ghost use Rattle.nav_eph.specs.Ranks.{clock_rank, content_rank, gal_ion_rank, gps_ion_rank};
 ghost use Rattle.nav_eph.specs.Ranks.{health_rank, orbit_a_rank, orbit_b_rank, sat_rank, side_rank};
-ghost use Rattle.nav_eph.specs.Ranks.{transmission_rank, word1_rank, word2_rank, word3_rank, word4_rank};
+ghost use Rattle.nav_eph.specs.Ranks.{transmission_rank, word1_rank, word2_rank, word3_rank};
+ghost use Rattle.nav_eph.specs.Ranks.{word4_rank};
 ghost use Rattle.nav_eph.specs.Satellite.{place_of};
 ghost use Rattle.nav_eph.specs.declared.items.NavItem.TheVariants.{Gps as GpsItem};
 ghost use Rattle.nav_eph.specs.declared.items.NavItem.TheVariants.{Gal as GalItem};

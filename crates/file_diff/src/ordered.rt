@@ -60,7 +60,8 @@ fn compare(a: &Ordered, b: &Ordered) -> Ordering
 impl PartialEq for Ordered {
     ghost eq = { λ a b. is_eq (by_numbers a b) };
 
-    ghost laws = { partial_equiv_from_equiv (eq_by_cmp_equiv (on_total numbers_of (lists_total int_cmp_total))) };
+    ghost laws = { partial_equiv_from_equiv (eq_by_cmp_equiv (on_total numbers_of
+        (lists_total int_cmp_total))) };
 
     fn eq(&self, other: &Ordered) -> bool {
         compare(self, other).is_eq()

@@ -101,7 +101,8 @@ fn pass_header<F: FileForm<ItemRead>, S: Source>(
     input: &mut S,
 ) -> Result<(), BridgeFault>
     requires first { IsNew records.old }
-    ensures header { OnOk result (PassesHeader (F.form form.now) (S.left input.old) (S.left input.new)
+    ensures header { OnOk result (PassesHeader (F.form form.now) (S.left input.old)
+        (S.left input.new)
         records.old records.new) }
     ensures broken { IfErr result (NoHeader (F.form form.now) (S.left input.old) (S.left input.new)
         records.old records.new) }
@@ -126,9 +127,11 @@ fn next_read<F: FileForm<ItemRead>, S: Source>(
 ) -> Result<Option<ItemRead>, BridgeFault>
     requires header { records.old.header ≡ Passed }
     ensures read { IfOk result (λ given.
-        GivesRead (F.form form.now) given (S.left input.old) (S.left input.new) records.old records.new) }
+        GivesRead (F.form form.now) given (S.left input.old)
+        (S.left input.new) records.old records.new) }
     ensures header { records.new.header ≡ Passed }
-    ensures broken { IfErr result (λ fault. BreaksAfter (F.form form.now) (S.left input.old) (S.left input.new)
+    ensures broken { IfErr result
+        (λ fault. BreaksAfter (F.form form.now) (S.left input.old) (S.left input.new)
         records.old records.new fault) }
     ensures cause { HasItsCause (faults_of (S.faults input.old) 0 0)
         (faults_of (S.faults input.new) 0 0) result }
@@ -154,7 +157,8 @@ fn read_records<F: FileForm<ItemRead>, S: Source>(
     requires counts { counts.old ≡ counts_of [] }
     ensures all { OnOk result (ReadsAll (F.form form.now) all (S.left input.old) (S.left input.new)
         records.old records.new items.old items.new counts.new) }
-    ensures broken { IfErr result (BreaksAfter (F.form form.now) (S.left input.old) (S.left input.new)
+    ensures broken { IfErr result (BreaksAfter (F.form form.now) (S.left input.old)
+        (S.left input.new)
         records.old records.new) }
     ensures cause { HasItsCause (faults_of (S.faults input.old) 0 0)
         (faults_of (S.faults input.new) 0 0) result }
@@ -191,7 +195,8 @@ pub fn read_items<F: FileForm<ItemRead>, S: Source>(
     input: &mut S,
 ) -> Result<ReadCounts, BridgeFault>
     requires { items.old ≡ [] }
-    ensures file { IfOk result (IsFile (F.form form.now) all (S.left input.old) (S.left input.new) items.new) }
+    ensures file { IfOk result (IsFile (F.form form.now) all (S.left input.old)
+        (S.left input.new) items.new) }
     ensures form { IsErrOf result BridgeFault.NotThisForm → IfSome (S.left input.old) (λ bytes.
         IsErr (file_reads (F.form form.now) bytes)) }
     ensures long { IsErrOf result BridgeFault.TooLong → IsTooLong (S.left input.old)

@@ -32,7 +32,8 @@ impl<'a> Model for Walk<'a> {
 impl<'a> Walk<'a> {
     // The next difference.
     fn next(&mut self) -> Option<Difference>
-        ensures { MatchOption result (self.old ≡ []) (λ difference. self.old ≡ difference ∷ self.new) }
+        ensures { MatchOption result (self.old ≡ [])
+            (λ difference. self.old ≡ difference ∷ self.new) }
     {
         match (self.firsts.first(), self.seconds.first()) {
             (None, None) => None,

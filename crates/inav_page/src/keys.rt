@@ -87,7 +87,8 @@ pub(crate) fn words_with(
     half: &Half,
 ) -> Result<Vec<Bits<16>>, AllocError>
     requires { bucket < 2 ^ 63 }
-    ensures words { IfOk result (λ words. words.items ≡ words_in_bucket kept.now.keys bucket half.now) }
+    ensures words { IfOk result
+        (λ words. words.items ≡ words_in_bucket kept.now.keys bucket half.now) }
     ensures ordered { IsStrictlySortedBy key_cmp kept.now.keys }
 {
     let kind = half.kind();

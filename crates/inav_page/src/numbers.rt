@@ -105,7 +105,8 @@ fn stop_of(numbers: &[u128], start: usize, end: u128) -> usize
     ensures from { start ≤ result }
     ensures fits { result ≤ length numbers.now }
     ensures below { (k : ℕ) → start ≤ k → k < result → slice_index numbers.now k < end }
-    ensures above { (k : ℕ) → result ≤ k → k < length numbers.now → end ≤ slice_index numbers.now k }
+    ensures above { (k : ℕ) → result ≤ k → k < length numbers.now
+        → end ≤ slice_index numbers.now k }
 {
     let mut stop = start;
     while stop < numbers.len() {

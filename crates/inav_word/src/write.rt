@@ -145,7 +145,8 @@ fn word5(health: &GalHealth, ion: &GalIon, wn: U<12>, second: Second) -> Word5
 /// The 128 bits of I/NAV word type 5 (Galileo OS SIS ICD, 4.3.5) with the Galileo week number,
 /// modulo 4096, and the TOW of its transmission. The spare bits are 0.
 pub fn write_word5(health: &GalHealth, ion: &GalIon, wn: U<12>, second: Second) -> Bits<16>
-    ensures fields { StandFrom result 0 0 (fields_word5 (written_word5 health.now ion.now wn second)) }
+    ensures fields { StandFrom result 0 0 (fields_word5
+        (written_word5 health.now ion.now wn second)) }
     ensures reserved_bits { number_at result 105 23 ≡ 0 }
     ensures bytes { result ≡ word5_bytes health.now ion.now wn second }
     ensures again { (sat : Satellite) (stamp : ℕ) →

@@ -48,7 +48,8 @@ pub fn order_of_lines_changes_no_text()
 /// Each count of a capture's report is a number of events: those of each line alone, and those of
 /// each word received, once, in whatever order the pairs of page parts are listed.
 pub fn counts_are_of_lines_and_words()
-    ensures { (c : Capture) (pairs : List Pair) → ArePairsHeard c.window (line_items_of c.lines) pairs
+    ensures { (c : Capture) (pairs : List Pair)
+        → ArePairsHeard c.window (line_items_of c.lines) pairs
         → CountLines c pairs (counts_of c) }
 {
     crate::counted::events_are_counted();

@@ -183,7 +183,8 @@ static LOGS: [Log; 3] = [
         last: 23,
         kind: Kind::Sbf,
     },
-    // the message 1005 of the standard's example (RTCM 10403.3, 4.2), whose sixth byte is a preamble
+    // the message 1005 of the standard's example (RTCM 10403.3, 4.2), whose sixth byte is a
+    // preamble
     Log {
         name: "rtcm",
         bytes: b"\xd3\x00\x13\x3e\xd7\xd3\x02\x02\x98\x0e\xde\xef\x34\xb4\xbd\x62\xac\x09\x41\x98\

@@ -62,7 +62,8 @@ fn write_ranges<T: Sink>(cover: &mut Cover, out: &mut T) -> Result<(), Failed>
 
 // Adds what an item covers.
 fn cover_item(item: &NavItem, cover: &mut Cover) -> Result<(), AllocError>
-    ensures { OnOk result ((items : List NavItem) → AreCovers (AreCovering (Contains items)) cover.old
+    ensures { OnOk result ((items : List NavItem)
+        → AreCovers (AreCovering (Contains items)) cover.old
         → AreCovers (AreCovering (Contains (items ++ item.now ∷ []))) cover.new) }
 {
     cover.add(item)?;

@@ -26,13 +26,16 @@ pub fn what_is_written_is_the_sent_text()
 /// What a run writes of files is the text of a list: of the items of the file, of the merged list,
 /// or of the times that the items cover. A header is before it if that of the file is accepted.
 pub fn what_is_written_is_the_text_of_a_list()
-    ensures rinex { (f : Form ItemRead) (words : HeaderWords) (bytes : List ℕ) → IsOk (file_reads f bytes)
+    ensures rinex { (f : Form ItemRead) (words : HeaderWords) (bytes : List ℕ)
+        → IsOk (file_reads f bytes)
         → (convert_meaning f (targets.Rinex words)).whole.output bytes
         ≡ rinex_text words (list_by f bytes) }
-    ensures rinex3 { (f : Form ItemRead) (words : HeaderWords) (bytes : List ℕ) → IsOk (file_reads f bytes)
+    ensures rinex3 { (f : Form ItemRead) (words : HeaderWords) (bytes : List ℕ)
+        → IsOk (file_reads f bytes)
         → (convert_meaning f (targets.Rinex3 words)).whole.output bytes
         ≡ rinex3_text words (list_by f bytes) }
-    ensures rtcm { (f : Form ItemRead) (bytes : List ℕ) → (convert_meaning f targets.Rtcm).whole.output bytes
+    ensures rtcm { (f : Form ItemRead) (bytes : List ℕ)
+        → (convert_meaning f targets.Rtcm).whole.output bytes
         ≡ flat_map rtcm_item (list_by f bytes) }
     ensures merged { (words : HeaderWords) (bytes : List ℕ) → IsOk (file_reads rinex4 bytes)
         → (merge_meaning words).whole.output bytes

@@ -74,10 +74,12 @@ pub fn next_read<R, F: FileForm<R>, S: Source>(
 ) -> Result<Option<R>, BridgeFault>
     requires header { records.old.header ≡ Passed }
     ensures read { IfOk result (λ given.
-        GivesRead (F.form form.now) given (S.left input.old) (S.left input.new) records.old records.new) }
+        GivesRead (F.form form.now) given (S.left input.old)
+        (S.left input.new) records.old records.new) }
     ensures whole { IfOk result (λ given. IfSome given F.whole) }
     ensures header { records.new.header ≡ Passed }
-    ensures broken { IfErr result (λ fault. BreaksRead (F.form form.now) (S.left input.old) (S.left input.new)
+    ensures broken { IfErr result
+        (λ fault. BreaksRead (F.form form.now) (S.left input.old) (S.left input.new)
         records.old records.new fault) }
     ensures cause { HasItsCause (faults_of (S.faults input.old) 0 0)
         (faults_of (S.faults input.new) 0 0) result }

@@ -222,7 +222,8 @@ pub(crate) fn is_earlier(a: &NavItem, b: &NavItem) -> bool
 impl PartialEq for Ranked {
     ghost eq = { λ a b. is_eq (by_rank a b) };
 
-    ghost laws = { partial_equiv_from_equiv (eq_by_cmp_equiv (on_total place_in_rank (lists_total int_cmp_total))) };
+    ghost laws = { partial_equiv_from_equiv (eq_by_cmp_equiv (on_total place_in_rank
+        (lists_total int_cmp_total))) };
 
     fn eq(&self, other: &Ranked) -> bool {
         compare(self, other).is_eq()

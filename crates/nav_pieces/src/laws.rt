@@ -7,7 +7,8 @@ ghost use Rattle.nav_pieces.specs.Pieces.{are_pieces, bits_of, fields_of, number
 pub fn split_numbers_join()
     ensures { (bytes : List ℕ) (k : ℕ) (pieces : List Piece) (numbers : List ℕ) →
         IsTrue (are_pieces pieces) → get_or numbers k 0 < 2 ^ bits_of k pieces →
-        Stand bytes 0 0 (fields_of pieces numbers) → number_in bytes 0 k pieces ≡ get_or numbers k 0 }
+        Stand bytes 0 0 (fields_of pieces numbers)
+        → number_in bytes 0 k pieces ≡ get_or numbers k 0 }
 {}
 
 /// A number that is read has no more bits than its pieces.

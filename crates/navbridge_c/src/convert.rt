@@ -89,8 +89,8 @@ pub(crate) fn convert(
     report: &mut [u8],
     report_used: &mut usize,
 ) -> u8
-    ensures { Converts (map (λ word. word.now) words.now) input.now output.old output.new output_used.new
-        report.old report.new report_used.new result }
+    ensures { Converts (map (λ word. word.now) words.now) input.now output.old
+        output.new output_used.new report.old report.new report_used.new result }
 {
     let run = run_words(alloc, words, input);
     *output_used = put(&run.output.bytes, output);

@@ -79,8 +79,8 @@ pub extern "C" fn nb_convert(
     report: &mut [u8],
     report_used: &mut usize,
 ) -> u32
-    ensures converts { Converts (map (λ word. word.now) words.now) input.now output.old output.new output_used.new
-        report.old report.new report_used.new result }
+    ensures converts { Converts (map (λ word. word.now) words.now) input.now output.old
+        output.new output_used.new report.old report.new report_used.new result }
 {
     u32::from(convert::convert(
         alloc,

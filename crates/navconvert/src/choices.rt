@@ -105,7 +105,8 @@ fn convert_asked<'x, 'a>(
     }
 }
 
-// Converts each file, or makes one output of several, those of RINEX 3 converted before; the status.
+// Converts each file, or makes one output of several, those of RINEX 3 converted before; the
+// status.
 fn convert_staged<'a>(settings: &Settings<'a>, files: &'a [&'a str]) -> u8 {
     match staged_of(settings, files) {
         Err(status) => status,

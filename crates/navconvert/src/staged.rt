@@ -52,8 +52,8 @@ impl Before {
     }
 }
 
-/// The bytes that replace those of the files which are of RINEX 3 or 2, if they are merged, and what was
-/// rejected and skipped of them; the status, if one was not converted.
+/// The bytes that replace those of the files which are of RINEX 3 or 2, if they are merged, and
+/// what was rejected and skipped of them; the status, if one was not converted.
 pub(crate) fn staged_of<'a>(
     settings: &Settings<'a>,
     files: &'a [&'a str],

@@ -6,9 +6,9 @@
 //! one, in buffers of fixed size, over a [`FileForm`], which defines the versions that a header may
 //! name, what begins a record and what its lines give. Over [`Rinex4`] a record gives an item, a
 //! rejection with its first [`Reason`], or that it is of another kind, each with the number of its
-//! `>` line. [`RecordLines`] judges a single record. Reading is exact: each number gives the nearest
-//! raw integer, ties to even, and the record that `rinex_write` writes of an item is read as that
-//! item ([`records_are_read`], [`files_are_read`], [`joined_files_are_read`]).
+//! `>` line. [`RecordLines`] judges a single record. Reading is exact: each number gives the
+//! nearest raw integer, ties to even, and the record that `rinex_write` writes of an item is read
+//! as that item ([`records_are_read`], [`files_are_read`], [`joined_files_are_read`]).
 //!
 //! Over [`Rinex3`] a record has no title, begins at each line whose first column is not blank, and
 //! is judged as the RINEX 4 record with its title added ([`records3_are_read`],

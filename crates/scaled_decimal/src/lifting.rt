@@ -112,7 +112,8 @@ fn digits_at_rank(over: u128, rank: u32, up: u32, down: u32) -> Option<u128>
 // The parts with these digits, if there are thirteen of them.
 fn parts_with(digits: u128, place: u32, whole: bool) -> Option<Parts>
     requires { place ≤ 2000 }
-    ensures { MatchOption result (Unit {0}) (λ p. IsToldPlace digits place whole p.digits p.exponent) }
+    ensures { MatchOption result (Unit {0})
+        (λ p. IsToldPlace digits place whole p.digits p.exponent) }
 {
     let least = if whole {
         1_000_000_000_000

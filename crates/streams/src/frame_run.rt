@@ -110,7 +110,8 @@ fn process_some<T: Sink>(
     requires room { frames.old + length deframer.old.rest + length piece.now < 2 ^ 64 }
     ensures some { IfOk result (λ count. 0 < count) }
     ensures within { IfOk result (λ count. count ≤ length piece.now) }
-    ensures goes { IfOk result (λ count. Goes line_of true (deframer.old.rest ++ take count piece.now)
+    ensures goes { IfOk result
+        (λ count. Goes line_of true (deframer.old.rest ++ take count piece.now)
         deframer.new.rest (T.written output.old) (T.written output.new) frames.old frames.new) }
     ensures may_feed { OnOk result (MayFeed deframer.new) }
     ensures room { IfOk result (λ count. frames.new + length deframer.new.rest

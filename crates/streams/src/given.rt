@@ -15,8 +15,8 @@ use std::alloc::{AllocError, Global};
 use std::marker::Model;
 
 /// The RTCM messages of the ephemerides that were given, each once: two ephemerides of a stream are
-/// equal where the same message encodes them. A cache of payloads as they came saves the decoding of
-/// most repeats.
+/// equal where the same message encodes them. A cache of payloads as they came saves the decoding
+/// of most repeats.
 #[derive(Drop)]
 pub struct ItemsGiven {
     gps: Messages<61>,

@@ -11,8 +11,8 @@
 //! use nav_io::{MemSink, MemSource};
 //! use streams::run_frames;
 //!
-//! let mut input = MemSource::new(Vec::new(rt.alloc()), Vec::new(rt.alloc()), Vec::new(rt.alloc()));
-//! let mut output = MemSink::new(rt.alloc(), 64, Vec::new(rt.alloc()))?;
+//! let mut input = MemSource::new(Vec::new(rt.alloc()), Vec::new(rt.alloc()),
+//! Vec::new(rt.alloc())); let mut output = MemSink::new(rt.alloc(), 64, Vec::new(rt.alloc()))?;
 //! let counts = run_frames(&mut input, &mut output);
 //! assert!(rt; counts.is_ok());
 //! ```

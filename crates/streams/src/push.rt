@@ -83,7 +83,8 @@ impl StreamRun {
         output: &mut T,
     ) -> Result<StreamRun, Failed>
         ensures writes { Writes (T.written output.old) (T.written output.new)
-            (T.faults output.old) (T.faults output.new) result (prefix_text (target_of_stream to.now)) }
+            (T.faults output.old) (T.faults output.new) result (prefix_text
+            (target_of_stream to.now)) }
         ensures run { IfOk result (λ run. (run.to ≡ target_of_stream to.now) × (run.week ≡ r)
             × (run.taken ≡ 0) × (run.fault ≡ None)) }
         ensures pushed { IfOk result (λ run. (begun : Option (List ℕ))

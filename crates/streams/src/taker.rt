@@ -49,7 +49,8 @@ pub trait FrameTaker {
             → IsPrefix (text self.now some) (text self.now (some ++ more)) }
         ensures more { (some more : List (List ℕ))
             → IsPrefix (told self.now some) (told self.now (some ++ more)) }
-        ensures text { (some : List (List ℕ)) → IsPrefix (text self.now some) (whole self.now some) }
+        ensures text { (some : List (List ℕ))
+            → IsPrefix (text self.now some) (whole self.now some) }
         ensures told { (some : List (List ℕ))
             → IsPrefix (told self.now some) (reported self.now some) }
         ensures silent { told self.now [] ≡ [] };

@@ -10,7 +10,8 @@
 //! use system_streams::{Kinds, run_systems};
 //!
 //! let kinds = Kinds::all();
-//! let counts = run_systems(rt.alloc(), &kinds, week, &Target::Rtcm, &mut input, &mut output, &mut report)?;
+//! let counts = run_systems(rt.alloc(), &kinds, week, &Target::Rtcm, &mut input, &mut output, &mut
+//! report)?;
 //! ```
 #![tactic(auto)]
 
