@@ -13,7 +13,7 @@ mod row_raw;
 mod write;
 
 pub use crate::column::row_column;
-pub use crate::message::write_message;
+pub use crate::message::write_row_message;
 pub use crate::read::read_row;
 pub use crate::row_raw::{ColumnRaw, RowRaw};
 pub use crate::write::write_row;

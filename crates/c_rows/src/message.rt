@@ -98,7 +98,7 @@ fn put_frame(kind: &Kind, row: &Row, into: &mut [u8], used: &mut usize) -> u32
 /// none of its kind, 30 if the transmission time is none of a GLONASS frame, and 29 if its day has
 /// no number; 19 if the satellite and 28 if another number is out of the range of its field, 21 for
 /// a spare SISA index; and then nothing is put.
-pub fn write_message(raw: &RowRaw, into: &mut [u8], used: &mut usize) -> u32
+pub fn write_row_message(raw: &RowRaw, into: &mut [u8], used: &mut usize) -> u32
     ensures { WritesFrame raw.now into.old into.new used.new result }
 {
     *used = 0;

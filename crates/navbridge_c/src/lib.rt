@@ -358,7 +358,7 @@ pub extern "C" fn nb_row_from_message(payload: &[u8], week: u32, row: &mut RowRa
 pub extern "C" fn nb_row_message(row: &RowRaw, frame: &mut [u8], used: &mut usize) -> u32
     ensures message { WritesFrame row.now frame.old frame.new used.new result }
 {
-    c_rows::write_message(row, frame, used)
+    c_rows::write_row_message(row, frame, used)
 }
 
 /// Puts the prefix that fits of the record of a row (RINEX 4.01), and its length into `used`; 23 if

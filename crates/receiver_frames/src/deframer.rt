@@ -22,7 +22,7 @@ const FULL: usize = 81_920;
 /// A contract sees `rest`, the bytes fed and not yet passed; `finished`, whether `finish` was
 /// called; and `message`, the message found last.
 #[derive(Drop)]
-pub struct Deframer<J: Judge> {
+pub struct MessageDeframer<J: Judge> {
     bytes: ArrayVec<u8, 98_304>,
     judge: J,
     // offset of the message found last
@@ -34,7 +34,7 @@ pub struct Deframer<J: Judge> {
     finished: bool,
 }
 
-impl<J: Judge> Model for Deframer<J> {
+impl<J: Judge> Model for MessageDeframer<J> {
     ghost use Rattle.std.specs.Prelude.{◌-◌, ◌≤◌, length, take, drop};
     ghost use Rattle.receiver_frames.specs.Headings.{format_of};
     ghost use Rattle.receiver_frames.specs.State.{DeframerState};
@@ -53,7 +53,7 @@ impl<J: Judge> Model for Deframer<J> {
         × J.IsBeside d.judge d.bytes.items };
 }
 
-impl<J: Judge> Deframer<J> {
+impl<J: Judge> MessageDeframer<J> {
     ghost use Rattle.std.specs.Prelude.{◌≡◌, ◌<◌, ◌≤◌};
     ghost use Rattle.std.specs.Prelude.{◌↔◌, [], ◌++◌, length, take};
     ghost use Rattle.std.specs.Prelude.{true, false, not, IsTrue};
@@ -65,7 +65,7 @@ impl<J: Judge> Deframer<J> {
         ensures rest { result.rest ≡ [] }
         ensures finished { result.finished ≡ false }
     {
-        Deframer {
+        MessageDeframer {
             bytes: ArrayVec::new(),
             judge: J::new(),
             found: 0,

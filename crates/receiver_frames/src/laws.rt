@@ -59,7 +59,7 @@ pub fn messages_after_the_first()
 
 /// While nothing is held, or the bytes held begin with an incomplete message, no message is
 /// decided, and all bytes held are undecided.
-pub fn nothing_is_decided_while_bytes_wait()
+pub fn no_message_is_decided_while_bytes_wait()
     ensures decided { (f : Format) (rest : List ℕ) → IsWaiting f rest → decided f rest ≡ [] }
     ensures undecided { (f : Format) (rest : List ℕ) → IsWaiting f rest
         → undecided f rest ≡ rest }

@@ -5,7 +5,7 @@
 //! there, the search continues after it, else one byte further. A format defines how messages
 //! begin, their size and their checksum ([`Judge`]). This crate has
 //!
-//! - [`Deframer`], which takes the bytes of a stream in any pieces and gives the messages in them;
+//! - [`MessageDeframer`], which takes the bytes of a stream in any pieces and gives the messages in them;
 //! - theorems about messages of any format: at which offsets they are, and which are decided while
 //!   more bytes may come;
 //! - [`UbxJudge`]: the sync bytes B5 62, class, ID, a payload length of two bytes (low byte first),
@@ -39,12 +39,12 @@ mod ubx_blocks;
 mod ubx_laws;
 mod ubx_sums;
 
-pub use crate::deframer::Deframer;
+pub use crate::deframer::MessageDeframer;
 pub use crate::judge::Judge;
 pub use crate::laws::{
     decided_messages_stand_before_the_open_place, decided_messages_stay,
     decided_messages_stay_decided, headings_are_formats, messages_after_the_first,
-    messages_are_at_the_chosen_places, nothing_is_decided_while_bytes_wait,
+    messages_are_at_the_chosen_places, no_message_is_decided_while_bytes_wait,
 };
 pub use crate::sbf::{SbfDeframer, SbfJudge};
 pub use crate::sbf_laws::sbf_is_a_format;

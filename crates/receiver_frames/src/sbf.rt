@@ -10,11 +10,11 @@ ghost use Rattle.receiver_frames.specs.SbfStateLaws.{states_stay};
 use crate::sbf_states::{
     Powers, begin_states, cut_states, extend, has_right_crc, has_right_crc_by,
 };
-use crate::{Deframer, Judge};
+use crate::{MessageDeframer, Judge};
 use arrayvec::ArrayVec;
 
 /// Finds SBF blocks in bytes that come in pieces.
-pub type SbfDeframer = Deframer<SbfJudge>;
+pub type SbfDeframer = MessageDeframer<SbfJudge>;
 
 /// Checks SBF blocks.
 ///

@@ -8,11 +8,11 @@ ghost use Rattle.receiver_frames.specs.UbxSums.{AreSums};
 ghost use Rattle.receiver_frames.specs.UbxSumLaws.{sums_stay};
 
 use crate::ubx_sums::{begin_sums, cut_sums, extend, has_right_sums, has_right_sums_by};
-use crate::{Deframer, Judge};
+use crate::{MessageDeframer, Judge};
 use arrayvec::ArrayVec;
 
 /// Finds UBX messages in bytes that come in pieces.
-pub type UbxDeframer = Deframer<UbxJudge>;
+pub type UbxDeframer = MessageDeframer<UbxJudge>;
 
 /// Checks UBX messages.
 ///

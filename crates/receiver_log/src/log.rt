@@ -24,7 +24,7 @@ use crate::state::{Log, LogCounts, LogState, MessageCounts};
 use arrayvec::ArrayVec;
 use nav_io::{Failed, Source};
 use one_run::{BridgeFault, read_piece};
-use receiver_frames::Deframer;
+use receiver_frames::MessageDeframer;
 use receiver_messages::{Reason, Said};
 
 // The most bytes of one read.
@@ -40,7 +40,7 @@ impl<J: Receiver> Log<J> {
         ensures lines { waiting_of result ≡ [] }
     {
         Log {
-            deframer: Deframer::new(),
+            deframer: MessageDeframer::new(),
             counts: MessageCounts::new(),
             queue: Queue::new(),
             state: LogState::new(),

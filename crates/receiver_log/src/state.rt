@@ -6,7 +6,7 @@ ghost use Rattle.receiver_log.specs.Log.{begun, counted, none_counted};
 use crate::lines::LineBuffer;
 use crate::queue::Queue;
 use crate::receiver::Receiver;
-use receiver_frames::Deframer;
+use receiver_frames::MessageDeframer;
 use receiver_messages::Said;
 
 /// LogCounts of a log's messages. Each saturates at 18,446,744,073,709,551,615.
@@ -59,7 +59,7 @@ pub struct LogState {
 #[derive(Drop)]
 pub struct Log<J: Receiver> {
     /// Bytes, of which the messages are taken.
-    pub deframer: Deframer<J>,
+    pub deframer: MessageDeframer<J>,
     /// The counts of these.
     pub counts: MessageCounts,
     /// Subframes and pages that wait for their time.

@@ -6,7 +6,7 @@ use Rattle.receiver_frames.specs.Mirrors.{from_first}
 use Rattle.receiver_frames.proofs.HeadingLaws.{heading_is_format}
 use Rattle.receiver_frames.proofs.Takes.{none_at_first, waits_at_first, message_at_first}
 use Rattle.receiver_frames.proofs.Promising.{promised_none}
-use Rattle.receiver_frames.proofs.deframer.Deframer.next_message.Goals as goal
+use Rattle.receiver_frames.proofs.deframer.MessageDeframer.next_message.Goals as goal
 
 pub returns-then-len-self-clause-none : goal.returns-then-len-self-clause-none
 returns-then-len-self-clause-none g c none =
