@@ -17,12 +17,12 @@ use Rattle.nav_eph.specs.declared.galileo.GalWord4.{GalWord4}
 use Rattle.nav_eph.specs.declared.ion.GalIon.{GalIon}
 use Rattle.nav_eph.specs.declared.part.Body.TheVariants.{GalW1, GalW2, GalW3, GalW4}
 use Rattle.nav_eph.specs.declared.sat.System.TheVariants.{Gal}
-use Rattle.inav_page.specs.Pages.{HasRightCrc, IsHalf, bits_at, bytes_of_half, even_of, kept_of, kind_of, odd_of, word_of}
-use Rattle.inav_page.specs.declared.half.HalfKind.TheVariants.{Even, Odd}
-use Rattle.inav_word.specs.Reading.{one_part, reading_of, two_parts}
-use Rattle.inav_word.specs.Writing.{word1_bytes, word2_bytes, word3_bytes, word4_bytes, word5_bytes}
-use Rattle.inav_word.specs.declared.fault.WordFault.{WordFault}
-use Rattle.inav_word.specs.declared.parts.WordParts.{WordParts}
+use Rattle.inav.specs.Pages.{HasRightCrc, IsHalf, bits_at, bytes_of_half, even_of, kept_of, kind_of, odd_of, word_of}
+use Rattle.inav.specs.declared.half.HalfKind.TheVariants.{Even, Odd}
+use Rattle.inav.specs.Reading.{one_part, reading_of, two_parts}
+use Rattle.inav.specs.Writing.{word1_bytes, word2_bytes, word3_bytes, word4_bytes, word5_bytes}
+use Rattle.inav.specs.declared.word_fault.WordFault.{WordFault}
+use Rattle.inav.specs.declared.parts.WordParts.{WordParts}
 use Rattle.c_messages.specs.Pages.{ArePair, BelongTogether, HasWordRanges, IsAlert, IsContent, IsPageOf, IsReadAs, content_in, even_in, odd_in, page_bits, word_bytes, word_read}
 use Rattle.c_messages.specs.declared.page_raw.PageBits.{PageBits}
 use Rattle.c_messages.specs.declared.page_raw.WordRaw.{WordRaw}

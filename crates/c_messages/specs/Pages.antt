@@ -9,13 +9,13 @@ use Rattle.nav_eph.specs.Satellite.{Satellite}
 use Rattle.nav_eph.specs.declared.part.Part.{Part}
 use Rattle.nav_eph.specs.declared.part.Body.{Body}
 use Rattle.nav_eph.specs.declared.part.Body.TheVariants.{GalW1, GalW2, GalW3, GalW4, GalHealth, GalIon}
-use Rattle.inav_page.specs.Pages.{HasRightCrc, bytes_of_half, even_of, kept_of, kind_of, odd_of, word_of}
-use Rattle.inav_page.specs.declared.half.HalfKind.TheVariants.{Even, Odd}
-use Rattle.inav_word.specs.Reading.{reading_of}
-use Rattle.inav_word.specs.Writing.{word1_bytes, word2_bytes, word3_bytes, word4_bytes, word5_bytes}
-use Rattle.inav_word.specs.declared.fault.WordFault.{WordFault}
-use Rattle.inav_word.specs.declared.fault.WordFault.TheVariants.{OtherWord, WrongSat, BadTime, SpareSisa}
-use Rattle.inav_word.specs.declared.parts.WordParts.{WordParts}
+use Rattle.inav.specs.Pages.{HasRightCrc, bytes_of_half, even_of, kept_of, kind_of, odd_of, word_of}
+use Rattle.inav.specs.declared.half.HalfKind.TheVariants.{Even, Odd}
+use Rattle.inav.specs.Reading.{reading_of}
+use Rattle.inav.specs.Writing.{word1_bytes, word2_bytes, word3_bytes, word4_bytes, word5_bytes}
+use Rattle.inav.specs.declared.word_fault.WordFault.{WordFault}
+use Rattle.inav.specs.declared.word_fault.WordFault.TheVariants.{OtherWord, WrongSat, BadTime, SpareSisa}
+use Rattle.inav.specs.declared.parts.WordParts.{WordParts}
 use Rattle.c_records.specs.Gal.{health_in, raw_health, raw_word1, raw_word2, raw_word3, raw_word4, word1_in, word2_in, word3_in, word4_in}
 use Rattle.c_records.specs.Ion.{gal_ion_in, raw_gal_ion}
 use Rattle.c_messages.specs.Tags.{second_of}

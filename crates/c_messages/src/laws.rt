@@ -48,15 +48,15 @@ pub fn pages_come_back()
         → pages.IsReadAs (pages.word_read page (record { system = Gal; number = satellite })) old
         (pages.content_in raw) }
 {
-    inav_page::split_is_a_word();
-    inav_page::halves_are_read_again();
-    inav_page::parts_are_their_bits();
-    inav_word::word_bytes();
-    inav_word::written_word1_is_read();
-    inav_word::written_word2_is_read();
-    inav_word::written_word3_is_read();
-    inav_word::written_word4_is_read();
-    inav_word::written_word5_is_read();
+    inav::split_is_a_word();
+    inav::halves_are_read_again();
+    inav::parts_are_their_bits();
+    inav::word_bytes();
+    inav::written_word1_is_read();
+    inav::written_word2_is_read();
+    inav::written_word3_is_read();
+    inav::written_word4_is_read();
+    inav::written_word5_is_read();
 }
 
 /// The record that is written of an item is read as that item: of version 4 each, of version 3 an

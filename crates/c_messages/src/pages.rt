@@ -3,10 +3,10 @@
 ghost use Rattle.std.specs.Prelude.{◌≡◌, ◌↔◌, IsTrue};
 ghost use Rattle.nav_eph.specs.Satellite.{IsSat};
 ghost use Rattle.nav_eph.specs.declared.sat.System.TheVariants.{Gal};
-ghost use Rattle.inav_page.specs.Pages.{HasRightCrc, bytes_of_half};
-ghost use Rattle.inav_page.specs.Pages.{even_of, kind_of, odd_of, word_of};
-ghost use Rattle.inav_page.specs.declared.half.HalfKind.TheVariants.{Even, Odd};
-ghost use Rattle.inav_word.specs.Reading.{reading_of};
+ghost use Rattle.inav.specs.Pages.{HasRightCrc, bytes_of_half};
+ghost use Rattle.inav.specs.Pages.{even_of, kind_of, odd_of, word_of};
+ghost use Rattle.inav.specs.declared.half.HalfKind.TheVariants.{Even, Odd};
+ghost use Rattle.inav.specs.Reading.{reading_of};
 ghost use Rattle.c_messages.specs.Pages.{ArePair, BelongTogether, IsAlert, IsContent, IsPageOf};
 ghost use Rattle.c_messages.specs.Pages.{PutsWord, content_in, page_bits, raw_body, raw_second};
 ghost use Rattle.c_messages.specs.Pages.{word_read, word_status};
@@ -16,8 +16,7 @@ use crate::tags::{second_of, wn_of};
 use crate::word_out::{bits_of, content_of};
 use c_records::reasons::{ALERT, NO_ITEM, NO_SATELLITE};
 use c_records::{raw_gal_ion, raw_health, raw_word1, raw_word2, raw_word3, raw_word4, sat_of};
-use inav_page::{Half, HalfKind, join, read_half, split, write_half};
-use inav_word::{WordFault, WordParts, read_word};
+use inav::{Half, HalfKind, WordFault, WordParts, join, read_half, read_word, split, write_half};
 use nav_bits::Bits;
 use nav_eph::{Body, Sat, System};
 

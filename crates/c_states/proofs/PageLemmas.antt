@@ -7,8 +7,8 @@ use Rattle.nav_bits.specs.Bits.{number_at}
 use Rattle.nav_eph.specs.Satellite.{IsSat, Satellite}
 use Rattle.nav_eph.specs.declared.sat.System.TheVariants.{Gal}
 use Rattle.nav_eph.specs.declared.signal.Signal.{Signal}
-use Rattle.inav_page.specs.Pages.{kept_of}
-use Rattle.inav_page.specs.Keeping.{Keeping, Words, stamped}
+use Rattle.inav.specs.Pages.{kept_of}
+use Rattle.inav.specs.Keeping.{Keeping, Words, stamped}
 use Rattle.c_messages.specs.Pages.{page_bits}
 use Rattle.c_messages.specs.declared.page_raw.PageBits.{PageBits}
 use Rattle.c_states.specs.declared.pages.JoinedPage.{JoinedPage}

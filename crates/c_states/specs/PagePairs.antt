@@ -5,9 +5,9 @@ use Rattle.nav_eph.specs.Satellite.{IsSat}
 use Rattle.nav_eph.specs.declared.sat.System.TheVariants.{Gal}
 use Rattle.nav_eph.specs.declared.signal.Signal.{Signal}
 use Rattle.nav_eph.specs.declared.signal.Signal.TheVariants.{E1b, E5b}
-use Rattle.inav_page.specs.Pages.{kept_of, kind_of}
-use Rattle.inav_page.specs.Heard.{AreWordsWith, StampedHalf, stamp_by}
-use Rattle.inav_page.specs.Keeping.{IsKeptWith, Keeping, stamped}
+use Rattle.inav.specs.Pages.{kept_of, kind_of}
+use Rattle.inav.specs.Heard.{AreWordsWith, StampedHalf, stamp_by}
+use Rattle.inav.specs.Keeping.{IsKeptWith, Keeping, stamped}
 use Rattle.c_messages.specs.Pages.{page_bits}
 use Rattle.c_states.specs.declared.pages.JoinedPage.{JoinedPage}
 

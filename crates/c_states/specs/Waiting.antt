@@ -1,6 +1,6 @@
 -- The words of a page part that were not given yet.
 use Rattle.std.specs.Prelude.{ℕ, List, [], drop, Option, None, Some}
-use Rattle.inav_page.specs.Keeping.{Words}
+use Rattle.inav.specs.Keeping.{Words}
 
 -- the words after those that were given
 abbrev pub words_in : Option Words → ℕ → List (List ℕ)

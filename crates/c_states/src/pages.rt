@@ -7,7 +7,7 @@ ghost use Rattle.c_states.specs.PagePairs.{GivesPage, IsEmpty, TakesBits, signal
 use c_messages::PageBits;
 use c_records::reasons::{ALERT, NO_MEMORY, NO_SATELLITE};
 use c_records::sat_of;
-use inav_page::{Halves, Joined, read_half, split, write_half};
+use inav::{Halves, Joined, read_half, split, write_half};
 use nav_bits::Bits;
 use nav_eph::{Signal, System};
 use std::alloc::{AllocError, Global};

@@ -4,8 +4,8 @@ use Rattle.std.proofs.Common.{unwrap_or, refl, sym, ap, subst, ◌∙◌, ⊎_el
 use Rattle.nav_eph.specs.Satellite.{Satellite}
 use Rattle.nav_eph.specs.declared.part.Part.{Part}
 use Rattle.nav_eph.specs.declared.signal.Signal.{Signal}
-use Rattle.inav_page.specs.Heard.{StampedHalf}
-use Rattle.inav_page.proofs.Surface.{still_heard}
+use Rattle.inav.specs.Heard.{StampedHalf}
+use Rattle.inav.proofs.Surface.{still_heard}
 use Rattle.capture_lines.specs.Late.{stamp_of, IsLate, IsAccepted, greatest_stamp}
 use Rattle.capture_lines.specs.declared.item.LineItem.{LineItem}
 use Rattle.capture_lines.specs.declared.item.LineItem.TheVariants.{Lnav, Half}

@@ -5,10 +5,10 @@ use Rattle.std.proofs.lemmas.Bool.{cond_both, both_ways}
 use Rattle.nav_eph.specs.Satellite.{Satellite}
 use Rattle.nav_eph.specs.declared.part.Part.{Part}
 use Rattle.nav_eph.specs.declared.signal.Signal.{Signal}
-use Rattle.inav_page.specs.Heard.{StampedHalf, IsHeard, IsHeardWith, has_half, words_of}
-use Rattle.inav_page.specs.Pages.{word_of}
-use Rattle.inav_page.proofs.Surface.{still_heard, heard_with_one_more}
-use Rattle.inav_word.specs.Reading.{reading_of}
+use Rattle.inav.specs.Heard.{StampedHalf, IsHeard, IsHeardWith, has_half, words_of}
+use Rattle.inav.specs.Pages.{word_of}
+use Rattle.inav.proofs.Surface.{still_heard, heard_with_one_more}
+use Rattle.inav.specs.Reading.{reading_of}
 use Rattle.capture_lines.specs.Late.{stamp_of, IsLate}
 use Rattle.capture_lines.specs.declared.item.LineItem.{LineItem}
 use Rattle.capture_lines.specs.declared.item.LineItem.TheVariants.{Pass, Lnav, Half, Frame}

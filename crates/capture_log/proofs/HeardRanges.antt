@@ -8,10 +8,10 @@ use Rattle.nav_eph.specs.Values.{HasBodyRanges, HasPartRanges}
 use Rattle.nav_eph.specs.declared.part.Part.{Part}
 use Rattle.nav_eph.specs.declared.sat.System.{System}
 use Rattle.lnav_subframe.specs.Reading.{subframe_of}
-use Rattle.inav_page.specs.Pages.{word_of}
-use Rattle.inav_page.specs.Heard.{StampedHalf}
-use Rattle.inav_word.specs.Reading.{reading_of, all_parts as word_parts}
-use Rattle.inav_word.specs.declared.parts.WordParts.{WordParts}
+use Rattle.inav.specs.Pages.{word_of}
+use Rattle.inav.specs.Heard.{StampedHalf}
+use Rattle.inav.specs.Reading.{reading_of, all_parts as word_parts}
+use Rattle.inav.specs.declared.parts.WordParts.{WordParts}
 use Rattle.rtcm_frame.specs.State.{payload_of}
 use Rattle.rtcm_eph.specs.Reading.{content_of, parts_of as message_of, all_parts as message_parts}
 use Rattle.rtcm_eph.specs.declared.read.MessageParts.{MessageParts}

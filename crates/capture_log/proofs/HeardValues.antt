@@ -9,11 +9,11 @@ use Rattle.nav_eph.specs.declared.part.Part.{Part}
 use Rattle.lnav_subframe.specs.Reading.{subframe_of}
 use Rattle.lnav_subframe.specs.declared.fault.LnavFault.{LnavFault}
 use Rattle.lnav_subframe.specs.declared.fault.LnavFault.TheVariants as subframes
-use Rattle.inav_page.specs.Pages.{word_of}
-use Rattle.inav_word.specs.Reading.{reading_of, second_parts, all_parts as word_parts}
-use Rattle.inav_word.specs.declared.parts.WordParts.{WordParts}
-use Rattle.inav_word.specs.declared.fault.WordFault.{WordFault}
-use Rattle.inav_word.specs.declared.fault.WordFault.TheVariants as words
+use Rattle.inav.specs.Pages.{word_of}
+use Rattle.inav.specs.Reading.{reading_of, second_parts, all_parts as word_parts}
+use Rattle.inav.specs.declared.parts.WordParts.{WordParts}
+use Rattle.inav.specs.declared.word_fault.WordFault.{WordFault}
+use Rattle.inav.specs.declared.word_fault.WordFault.TheVariants as words
 use Rattle.rtcm_frame.specs.State.{payload_of}
 use Rattle.rtcm_eph.specs.Reading.{content_of, parts_of, all_parts as message_parts}
 use Rattle.rtcm_eph.specs.declared.fault.MessageFault.{MessageFault}

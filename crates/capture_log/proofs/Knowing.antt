@@ -5,7 +5,7 @@ use Rattle.std.proofs.Common.{⊎_elim, lt-ltb, ltb-true}
 use Rattle.std.proofs.lemmas.Bool.{cond_both, both_ways, false_from_ne_true}
 use Rattle.nav_eph.specs.Satellite.{Satellite}
 use Rattle.nav_eph.specs.declared.signal.Signal.{Signal}
-use Rattle.inav_page.specs.Heard.{StampedHalf, AreWordsWith, has_half, words_of}
+use Rattle.inav.specs.Heard.{StampedHalf, AreWordsWith, has_half, words_of}
 use Rattle.capture_lines.specs.Late.{stamp_of, IsLate, greatest_stamp}
 use Rattle.capture_lines.specs.declared.item.LineItem.{LineItem}
 use Rattle.capture_lines.specs.declared.item.LineItem.TheVariants.{Pass, Lnav, Half, Frame}

@@ -3,11 +3,11 @@ use Rattle.std.proofs.Common.{◌≡◌, ℕ, ◌+◌, ◌-◌, ◌≤◌, inl, 
 use Rattle.std.proofs.Common.{sym, subst, ⊎_elim, arith, ltb-false}
 use Rattle.std.proofs.lemmas.Bool.{cond_both}
 use Rattle.nav_eph.specs.declared.part.Part.{Part}
-use Rattle.inav_page.specs.declared.half.HalfKind.{HalfKind}
-use Rattle.inav_page.specs.declared.half.HalfKind.TheVariants.{Even, Odd}
-use Rattle.inav_page.specs.Pages.{kind_of}
-use Rattle.inav_page.specs.Heard.{StampedHalf, stamp_by}
-use Rattle.inav_word.specs.Reading.{reading_of}
+use Rattle.inav.specs.declared.half.HalfKind.{HalfKind}
+use Rattle.inav.specs.declared.half.HalfKind.TheVariants.{Even, Odd}
+use Rattle.inav.specs.Pages.{kind_of}
+use Rattle.inav.specs.Heard.{StampedHalf, stamp_by}
+use Rattle.inav.specs.Reading.{reading_of}
 use Rattle.capture_lines.specs.declared.item.LineItem.{LineItem}
 use Rattle.capture_lines.specs.declared.item.LineItem.TheVariants.{Pass, Lnav, Half, Frame}
 use Rattle.capture_lines.specs.declared.item.LineItem.TheVariants.{Malformed as MalformedItem}

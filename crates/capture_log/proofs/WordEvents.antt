@@ -2,9 +2,9 @@
 use Rattle.std.proofs.Common.{◌≡◌, ℕ, inl, inr, List, map, flat_map, refl, sym, ap, subst, ◌∙◌}
 use Rattle.std.proofs.Common.{⊎_elim}
 use Rattle.nav_eph.specs.Satellite.{Satellite}
-use Rattle.inav_page.specs.Pages.{kind_of, word_of}
-use Rattle.inav_page.specs.Heard.{StampedHalf, MakeWord, ArePartners, AreWordsWith, IsHeardWith}
-use Rattle.inav_page.specs.Heard.{word_by, word_with, stamp_by}
+use Rattle.inav.specs.Pages.{kind_of, word_of}
+use Rattle.inav.specs.Heard.{StampedHalf, MakeWord, ArePartners, AreWordsWith, IsHeardWith}
+use Rattle.inav.specs.Heard.{word_by, word_with, stamp_by}
 use Rattle.capture_log.proofs.Lists.{In, in_from_contains, contains_from_in, in_flat_map}
 use Rattle.capture_log.proofs.Lists.{flat_map_in, in_map, map_in}
 

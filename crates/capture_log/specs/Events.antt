@@ -9,13 +9,13 @@ use Rattle.nav_eph.specs.declared.part.Part.{Part}
 use Rattle.lnav_subframe.specs.declared.fault.LnavFault.{LnavFault}
 use Rattle.lnav_subframe.specs.declared.fault.LnavFault.TheVariants as subframes
 use Rattle.nav_eph.specs.declared.signal.Signal.{Signal}
-use Rattle.inav_page.specs.Pages.{kept_of, kind_of}
-use Rattle.inav_page.specs.Heard.{StampedHalf, stamp_by, words_of, has_half}
-use Rattle.inav_page.specs.Keeping.{stamped}
-use Rattle.inav_word.specs.Reading.{reading_of}
-use Rattle.inav_word.specs.declared.parts.WordParts.{WordParts}
-use Rattle.inav_word.specs.declared.fault.WordFault.{WordFault}
-use Rattle.inav_word.specs.declared.fault.WordFault.TheVariants as words
+use Rattle.inav.specs.Pages.{kept_of, kind_of}
+use Rattle.inav.specs.Heard.{StampedHalf, stamp_by, words_of, has_half}
+use Rattle.inav.specs.Keeping.{stamped}
+use Rattle.inav.specs.Reading.{reading_of}
+use Rattle.inav.specs.declared.parts.WordParts.{WordParts}
+use Rattle.inav.specs.declared.word_fault.WordFault.{WordFault}
+use Rattle.inav.specs.declared.word_fault.WordFault.TheVariants as words
 use Rattle.rtcm_frame.specs.Frames.{frame_size}
 use Rattle.rtcm_frame.specs.State.{payload_of}
 use Rattle.rtcm_eph.specs.Reading.{content_of, parts_of}

@@ -4,9 +4,9 @@ use Rattle.std.specs.Prelude.{◌≡◌, ◌⊎◌, ◌↔◌, ℕ, false, List,
 use Rattle.nav_eph.specs.Satellite.{Satellite}
 use Rattle.nav_eph.specs.declared.part.Part.{Part}
 use Rattle.nav_eph.specs.declared.signal.Signal.{Signal}
-use Rattle.inav_page.specs.Pages.{word_of}
-use Rattle.inav_page.specs.Heard.{StampedHalf, IsHeard}
-use Rattle.inav_word.specs.Reading.{reading_of}
+use Rattle.inav.specs.Pages.{word_of}
+use Rattle.inav.specs.Heard.{StampedHalf, IsHeard}
+use Rattle.inav.specs.Reading.{reading_of}
 use Rattle.capture_lines.specs.Late.{stamp_of, IsAccepted}
 use Rattle.capture_lines.specs.declared.item.LineItem.{LineItem}
 use Rattle.capture_lines.specs.declared.item.LineItem.TheVariants.{Lnav, Half, Frame}

@@ -23,7 +23,7 @@ pub fn parts_heard_have_ranges()
         → IsPartHeard window (line_items_of lines) part → HasPartRanges part }
 {
     lnav_subframe::subframe_parts();
-    inav_word::word_parts();
+    inav::word_parts();
     rtcm_eph::message_parts();
     capture_lines::each_line_stands_for_one_thing();
 }

@@ -24,8 +24,8 @@ pub fn taken_parts_are_heard()
         → Contains (parts_in (log_from window nothing_known number items)) part
         ↔ IsPartHeard window items part }
 {
-    inav_page::halves_are_decided();
-    inav_page::words_are_the_function();
+    inav::halves_are_decided();
+    inav::words_are_the_function();
     capture_lines::late_is_behind_the_greatest_stamp();
 }
 
@@ -37,7 +37,7 @@ pub fn parts_heard_are_values()
         → All IsPartValue (parts_in (log_from window nothing_known number items)) }
 {
     lnav_subframe::subframe_parts();
-    inav_word::word_parts();
+    inav::word_parts();
     rtcm_eph::message_parts();
     taken_parts_are_heard();
 }
@@ -56,7 +56,7 @@ pub fn parts_of_lines_are_sendable()
         → All (λ part. IsPart part.sat part.body) (parts_of window lines) }
 {
     lnav_subframe::subframe_parts();
-    inav_word::word_parts();
+    inav::word_parts();
     rtcm_eph::message_parts();
     capture_lines::each_line_stands_for_one_thing();
 }
@@ -159,7 +159,7 @@ pub fn further_lines_are_later()
         × All (λ p. watermark_after window lines ≤ p.stamp) later }
 {
     lnav_subframe::subframe_parts();
-    inav_word::word_parts();
+    inav::word_parts();
     rtcm_eph::message_parts();
 }
 

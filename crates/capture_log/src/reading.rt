@@ -4,7 +4,7 @@ ghost use Rattle.std.specs.Prelude.{◌≡◌};
 ghost use Rattle.capture_log.specs.Events.{of_message_fault, of_subframe, of_word_fault};
 
 use crate::event::{Event, Refusal};
-use inav_word::WordFault;
+use inav::WordFault;
 use lnav_subframe::LnavFault;
 use nav_eph::Part;
 use rtcm_eph::MessageFault;

@@ -11,8 +11,8 @@ use Rattle.nav_io.specs.LineAnswers.{Breaks}
 use Rattle.nav_io.specs.declared.lines.LineFault.{LineFault}
 use Rattle.nav_io.specs.declared.lines.LineFault.TheVariants as lines
 use Rattle.nav_io.proofs.Surface.{ended_before, no_lines, no_pieces, reads_more, reads_none, recent_ended, recent_lines, recent_within, sum_pieces}
-use Rattle.inav_page.specs.Heard.{StampedHalf}
-use Rattle.inav_page.specs.Keeping.{Keeping}
+use Rattle.inav.specs.Heard.{StampedHalf}
+use Rattle.inav.specs.Keeping.{Keeping}
 use Rattle.capture_lines.specs.declared.item.LineItem.{LineItem}
 use Rattle.periods.specs.declared.closed.Closed.{Closed}
 use Rattle.periods.specs.PeriodsOf.{closed_of, periods_of}

@@ -4,9 +4,9 @@ use Rattle.std.proofs.lemmas.Bool.{cond_both}
 use Rattle.std.proofs.lemmas.List.{length-take}
 use Rattle.nav_eph.specs.Satellite.{Satellite}
 use Rattle.nav_eph.specs.declared.part.Part.{Part}
-use Rattle.inav_word.specs.Reading.{reading_of}
-use Rattle.inav_word.specs.declared.fault.WordFault.{WordFault}
-use Rattle.inav_word.specs.declared.parts.WordParts.{WordParts}
+use Rattle.inav.specs.Reading.{reading_of}
+use Rattle.inav.specs.declared.word_fault.WordFault.{WordFault}
+use Rattle.inav.specs.declared.parts.WordParts.{WordParts}
 use Rattle.slot_assembly.specs.Standing.{Stood, adding}
 use Rattle.rtcm_frame.specs.State.{payload_of}
 use Rattle.rtcm_eph.specs.Reading.{content_of, parts_of}

@@ -4,11 +4,11 @@ use Rattle.std.proofs.lemmas.Bool.{cond_both, cond-true, cond-false, both_ways}
 use Rattle.std.proofs.lemmas.List.Elements.{Contains-append_cases, Contains-append_left, Contains-append_right, Contains-push, Contains-push_cases, at_from_Contains}
 use Rattle.nav_eph.specs.Satellite.{Satellite}
 use Rattle.nav_eph.specs.declared.signal.Signal.{Signal}
-use Rattle.inav_page.specs.Heard.{StampedHalf, ArePartners, AreWordsWith, has_half, stamp_by, words_of}
-use Rattle.inav_page.specs.Pages.{kept_of, kind_of}
+use Rattle.inav.specs.Heard.{StampedHalf, ArePartners, AreWordsWith, has_half, stamp_by, words_of}
+use Rattle.inav.specs.Pages.{kept_of, kind_of}
 use Rattle.nav_bits.specs.Bits.{number_at}
-use Rattle.inav_page.specs.Keeping.{Keeping, IsKeptWith, IsRecent, stamped}
-use Rattle.inav_page.proofs.Surface.{one_list_of}
+use Rattle.inav.specs.Keeping.{Keeping, IsKeptWith, IsRecent, stamped}
+use Rattle.inav.proofs.Surface.{one_list_of}
 use Rattle.capture_log.specs.Events.{Known, half_of, is_alert, new_words, of_half, of_words, with_half}
 use Rattle.capture_log.specs.declared.event.Event.TheVariants.{Unused}
 use Rattle.captures.specs.Notes.{KeepsHalves, TookHalf, of_heard}

@@ -8,12 +8,12 @@ use Rattle.std.proofs.lemmas.List.{length-map, map-append}
 use Rattle.std.proofs.lemmas.List.Sums.{sum-map, sum_by-append}
 use Rattle.nav_eph.specs.declared.part.Part.{Part}
 use Rattle.nav_io.specs.Lines.{Line}
-use Rattle.inav_page.specs.Pages.{kind_of}
+use Rattle.inav.specs.Pages.{kind_of}
 use Rattle.lnav_subframe.specs.Reading.{subframe_of}
-use Rattle.inav_page.specs.Heard.{StampedHalf, stamp_by, are_partners, partners_of, put_half, words_of, word_with, has_half}
-use Rattle.inav_word.specs.Reading.{reading_of}
-use Rattle.inav_word.specs.declared.parts.WordParts.{WordParts}
-use Rattle.inav_word.specs.declared.fault.WordFault.{WordFault}
+use Rattle.inav.specs.Heard.{StampedHalf, stamp_by, are_partners, partners_of, put_half, words_of, word_with, has_half}
+use Rattle.inav.specs.Reading.{reading_of}
+use Rattle.inav.specs.declared.parts.WordParts.{WordParts}
+use Rattle.inav.specs.declared.word_fault.WordFault.{WordFault}
 use Rattle.nav_eph.specs.Satellite.{Satellite}
 use Rattle.rtcm_frame.specs.State.{payload_of}
 use Rattle.rtcm_eph.specs.Reading.{content_of, parts_of as message_parts}

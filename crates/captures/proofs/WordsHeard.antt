@@ -6,7 +6,7 @@ use Rattle.std.proofs.lemmas.Grind.{flat_map-append}
 use Rattle.std.proofs.lemmas.List.{take-append-drop}
 use Rattle.std.proofs.lemmas.Option.{slice_get_within, get_or_from_slice_get}
 use Rattle.nav_eph.specs.Satellite.{Satellite}
-use Rattle.inav_word.specs.Reading.{reading_of}
+use Rattle.inav.specs.Reading.{reading_of}
 use Rattle.capture_log.specs.Events.{of_word}
 use Rattle.capture_log.specs.Log.{Noted, noted}
 use Rattle.capture_log.specs.declared.event.Event.{Event}

@@ -4,7 +4,7 @@ use Rattle.std.specs.Io.KnownBytes.{Appends, Consumes, IsAtEnd}
 use Rattle.nav_io.specs.Prefix.{AppendsPrefix}
 use Rattle.nav_io.specs.Lines.{Line}
 use Rattle.nav_io.specs.LinesState.{LinesState, GivesLine, GivesEnd, BreaksRead, BreaksLong}
-use Rattle.inav_page.specs.Keeping.{Keeping}
+use Rattle.inav.specs.Keeping.{Keeping}
 use Rattle.periods.specs.PeriodsOf.{periods_of, closed_of}
 use Rattle.capture_log.specs.Events.{nothing_known}
 use Rattle.capture_log.specs.Log.{line_items_of, known_from, log_of, watermark_after, parts_of}

@@ -10,9 +10,9 @@ use Rattle.nav_eph.specs.Satellite.{Satellite}
 use Rattle.nav_eph.specs.declared.sat.System.TheVariants.{Gps, Gal}
 use Rattle.nav_eph.specs.declared.part.Part.{Part}
 use Rattle.nav_eph.specs.declared.signal.Signal.{Signal}
-use Rattle.inav_page.specs.Heard.{StampedHalf}
-use Rattle.inav_page.specs.Keeping.{Keeping, IsRecent}
-use Rattle.inav_word.specs.Reading.{reading_of}
+use Rattle.inav.specs.Heard.{StampedHalf}
+use Rattle.inav.specs.Keeping.{Keeping, IsRecent}
+use Rattle.inav.specs.Reading.{reading_of}
 use Rattle.capture_lines.specs.declared.item.LineItem.{LineItem}
 use Rattle.capture_lines.specs.declared.item.LineItem.TheVariants.{Lnav, Half}
 use Rattle.slot_assembly.specs.Standing.{Standing, Carries}

@@ -16,7 +16,7 @@ use crate::flush::{write_closed, write_risen};
 use capture_lines::LineItem;
 use capture_log::{Event, parts_of_lines_are_values, what_is_closed_stays};
 use gnss_week::RefWeek;
-use inav_page::{HalfFault, Halves, halves_are_decided, read_half, words_are_the_function};
+use inav::{HalfFault, Halves, halves_are_decided, read_half, words_are_the_function};
 use nav_bits::Bits;
 use nav_eph::{Sat, Signal};
 use nav_io::Sink;

@@ -1,7 +1,7 @@
 //! Words of an independent program and worked words both ways, and worked faults.
 
 use crate::samples::bits_of;
-use inav_word::{
+use inav::{
     WordFault, WordParts, read_word, write_word1, write_word2, write_word3, write_word4,
     write_word5,
 };

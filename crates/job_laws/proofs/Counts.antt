@@ -2,7 +2,7 @@
 use Rattle.std.proofs.Common.{◌≡◌, ℕ, ◌+◌, List, [], ◌∷◌, ◌++◌, map, length, refl, sym, ap, subst, ◌∙◌, append_assoc}
 use Rattle.std.proofs.Common.{append-nil, arith}
 use Rattle.std.specs.Prelude.{sum}
-use Rattle.inav_page.specs.Heard.{StampedHalf}
+use Rattle.inav.specs.Heard.{StampedHalf}
 use Rattle.capture_lines.specs.declared.item.LineItem.{LineItem}
 use Rattle.capture_log.specs.Events.{Known, events_of, known_with, nothing_known}
 use Rattle.capture_log.specs.Heard.{IsHalfHeard}

@@ -2,8 +2,8 @@
 use Rattle.std.proofs.Common.{◌≡◌, ℕ, ◌⊎◌, inl, inr, false, List, [], ◌∷◌, ◌++◌, map, Contains, sym, ap, subst, ◌∙◌}
 use Rattle.std.proofs.Common.{⊎_elim}
 use Rattle.std.proofs.lemmas.Bool.{both_ways}
-use Rattle.inav_page.specs.Heard.{StampedHalf, MakeWord, ArePartners, IsHeard, IsHeardWith, has_half}
-use Rattle.inav_page.proofs.Surface.{still_heard, heard_with_one_more}
+use Rattle.inav.specs.Heard.{StampedHalf, MakeWord, ArePartners, IsHeard, IsHeardWith, has_half}
+use Rattle.inav.proofs.Surface.{still_heard, heard_with_one_more}
 use Rattle.capture_lines.specs.declared.item.LineItem.{LineItem}
 use Rattle.capture_log.specs.Events.{Known}
 use Rattle.capture_log.specs.Heard.{IsHalfHeard}

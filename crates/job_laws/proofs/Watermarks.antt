@@ -9,12 +9,12 @@ use Rattle.nav_eph.specs.declared.signal.Signal.{Signal}
 use Rattle.lnav_subframe.specs.Reading.{subframe_of}
 use Rattle.lnav_subframe.specs.declared.fault.LnavFault.{LnavFault}
 use Rattle.lnav_subframe.specs.declared.fault.LnavFault.TheVariants as subframes
-use Rattle.inav_page.specs.Heard.{StampedHalf, stamp_by}
-use Rattle.inav_page.specs.Pages.{kind_of}
-use Rattle.inav_word.specs.Reading.{reading_of}
-use Rattle.inav_word.specs.declared.parts.WordParts.{WordParts}
-use Rattle.inav_word.specs.declared.fault.WordFault.{WordFault}
-use Rattle.inav_word.specs.declared.fault.WordFault.TheVariants as words
+use Rattle.inav.specs.Heard.{StampedHalf, stamp_by}
+use Rattle.inav.specs.Pages.{kind_of}
+use Rattle.inav.specs.Reading.{reading_of}
+use Rattle.inav.specs.declared.parts.WordParts.{WordParts}
+use Rattle.inav.specs.declared.word_fault.WordFault.{WordFault}
+use Rattle.inav.specs.declared.word_fault.WordFault.TheVariants as words
 use Rattle.rtcm_frame.specs.State.{payload_of}
 use Rattle.rtcm_eph.specs.Reading.{content_of, parts_of}
 use Rattle.rtcm_eph.specs.declared.fault.MessageFault.{MessageFault}

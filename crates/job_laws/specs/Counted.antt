@@ -1,8 +1,8 @@
 -- What is counted of a log: the events of each item alone, and those of each I/NAV word that is received.
 use Rattle.std.specs.Prelude.{◌↔◌, ℕ, ◌+◌, List, [], ◌∷◌, ◌++◌, map, sum, Contains}
-use Rattle.inav_page.specs.Pages.{word_of}
-use Rattle.inav_page.specs.Heard.{StampedHalf, IsHeard}
-use Rattle.inav_word.specs.Reading.{reading_of}
+use Rattle.inav.specs.Pages.{word_of}
+use Rattle.inav.specs.Heard.{StampedHalf, IsHeard}
+use Rattle.inav.specs.Reading.{reading_of}
 use Rattle.capture_lines.specs.Late.{greatest_stamp}
 use Rattle.capture_lines.specs.declared.item.LineItem.{LineItem}
 use Rattle.capture_log.specs.Events.{events_of, of_word}

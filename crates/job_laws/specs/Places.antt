@@ -1,6 +1,6 @@
 -- Which lines are late, malformed or rejected, stated by each item and those before it.
 use Rattle.std.specs.Prelude.{◌≡◌, ◌≤◌, ◌⊎◌, ℕ, ◌+◌, List, [], ◌∷◌, ◌++◌, length, Contains, Some}
-use Rattle.inav_page.specs.Heard.{IsHeard}
+use Rattle.inav.specs.Heard.{IsHeard}
 use Rattle.capture_lines.specs.Late.{stamp_of, IsLate}
 use Rattle.capture_lines.specs.declared.item.LineItem.{LineItem}
 use Rattle.capture_lines.specs.declared.item.LineItem.TheVariants.{Malformed}

@@ -48,8 +48,8 @@ pub fn events_are_counted()
         → weight_in kind (log_from window nothing_known first items)
         ≡ own_weight kind window [] items + pairs_weight kind pairs }
 {
-    inav_page::halves_are_decided();
-    inav_page::words_are_the_function();
+    inav::halves_are_decided();
+    inav::words_are_the_function();
     capture_lines::late_is_behind_the_greatest_stamp();
     pairs_are_counted_once();
 }
@@ -64,7 +64,7 @@ pub fn refused_lines_are_told()
     ensures order { (window first : ℕ) (items : List LineItem)
         → InLineOrder first (log_from window nothing_known first items) }
 {
-    inav_page::halves_are_decided();
-    inav_page::words_are_the_function();
+    inav::halves_are_decided();
+    inav::words_are_the_function();
     capture_lines::late_is_behind_the_greatest_stamp();
 }

@@ -1,8 +1,8 @@
 -- From fewer accepted lines no more parts are received.
 use Rattle.std.proofs.Common.{ℕ, List, inl, inr}
 use Rattle.nav_eph.specs.declared.part.Part.{Part}
-use Rattle.inav_page.specs.Heard.{StampedHalf}
-use Rattle.inav_page.proofs.Surface.{still_heard}
+use Rattle.inav.specs.Heard.{StampedHalf}
+use Rattle.inav.proofs.Surface.{still_heard}
 use Rattle.capture_lines.specs.Late.{IsAccepted}
 use Rattle.capture_lines.specs.declared.item.LineItem.{LineItem}
 use Rattle.capture_lines.specs.declared.item.LineItem.TheVariants.{Lnav, Half}

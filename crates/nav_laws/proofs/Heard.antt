@@ -9,14 +9,14 @@ use Rattle.nav_eph.specs.declared.part.Part.{Part}
 use Rattle.lnav_subframe.specs.declared.out.SubframeOut.{SubframeOut}
 use Rattle.lnav_subframe.specs.Bytes.{subframe_bytes}
 use Rattle.lnav_subframe.specs.Reading.{subframe_of}
-use Rattle.inav_page.specs.declared.half.HalfKind.TheVariants.{Even, Odd}
+use Rattle.inav.specs.declared.half.HalfKind.TheVariants.{Even, Odd}
 use Rattle.nav_eph.specs.declared.signal.Signal.{Signal}
 use Rattle.nav_eph.specs.declared.signal.Signal.TheVariants.{E1b}
-use Rattle.inav_page.specs.Pages.{HasRightCrc, IsHalf, bytes_of_half, bits_at, even_of, kept_of, kind_of, odd_of, word_of}
-use Rattle.inav_page.specs.Heard.{IsHeard, StampedHalf}
-use Rattle.inav_page.specs.Keeping.{stamped}
-use Rattle.inav_page.proofs.Surface.{not_both}
-use Rattle.inav_word.specs.Reading.{reading_of}
+use Rattle.inav.specs.Pages.{HasRightCrc, IsHalf, bytes_of_half, bits_at, even_of, kept_of, kind_of, odd_of, word_of}
+use Rattle.inav.specs.Heard.{IsHeard, StampedHalf}
+use Rattle.inav.specs.Keeping.{stamped}
+use Rattle.inav.proofs.Surface.{not_both}
+use Rattle.inav.specs.Reading.{reading_of}
 use Rattle.capture_lines.specs.Late.{IsAccepted, stamp_of}
 use Rattle.capture_lines.specs.declared.item.LineItem.{LineItem}
 use Rattle.capture_lines.specs.declared.item.LineItem.TheVariants.{Lnav, Half, Frame}

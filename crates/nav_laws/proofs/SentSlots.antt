@@ -25,9 +25,9 @@ use Rattle.lnav_subframe.specs.declared.out.SubframeOut.TheVariants.{Clock, Orbi
 use Rattle.lnav_subframe.specs.Bytes.{HasBits, subframe_bytes}
 use Rattle.lnav_subframe.specs.Reading.{heard, start_second, subframe_of}
 use Rattle.lnav_subframe.specs.Writing.{IsWritable, read_again}
-use Rattle.inav_word.specs.Reading.{one_part, reading_of, two_parts}
-use Rattle.inav_word.specs.Writing.{word1_bytes, word2_bytes, word3_bytes, word4_bytes, word5_bytes}
-use Rattle.inav_page.specs.Pages.{even_of, odd_of}
+use Rattle.inav.specs.Reading.{one_part, reading_of, two_parts}
+use Rattle.inav.specs.Writing.{word1_bytes, word2_bytes, word3_bytes, word4_bytes, word5_bytes}
+use Rattle.inav.specs.Pages.{even_of, odd_of}
 use Rattle.nav_eph.specs.declared.signal.Signal.{Signal}
 use Rattle.hex.specs.Hex.{IsBytes}
 use Rattle.capture_lines.specs.Late.{stamp_of}

@@ -49,15 +49,15 @@ pub fn what_is_sent_is_heard()
     capture_lines::each_line_stands_for_one_thing();
     capture_lines::texts_stand_for_their_items();
     lnav_subframe::subframe_bytes_are_written();
-    inav_word::word_bytes();
-    inav_word::written_word1_is_read();
-    inav_word::written_word2_is_read();
-    inav_word::written_word3_is_read();
-    inav_word::written_word4_is_read();
-    inav_word::written_word5_is_read();
-    inav_page::split_is_a_word();
-    inav_page::halves_are_read_again();
-    inav_page::parts_are_their_bits();
+    inav::word_bytes();
+    inav::written_word1_is_read();
+    inav::written_word2_is_read();
+    inav::written_word3_is_read();
+    inav::written_word4_is_read();
+    inav::written_word5_is_read();
+    inav::split_is_a_word();
+    inav::halves_are_read_again();
+    inav::parts_are_their_bits();
     capture_log::lines_yield_what_is_heard();
 }
 

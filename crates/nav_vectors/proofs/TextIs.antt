@@ -8,10 +8,10 @@ use Rattle.nav_bits.proofs.Surface.{are_bytes}
 use Rattle.nav_eph.specs.Bodies.{IsGalIon}
 use Rattle.nav_eph.specs.declared.ion.GalIon.{GalIon}
 use Rattle.lnav_subframe.proofs.Surface.{are_subframe_bytes, is_written, written_is}
-use Rattle.inav_word.proofs.Surface.{stand1, zeros1, bytes1, only_word1, stand2, zeros2, bytes2, only_word2, stand3, bytes3, only_word3}
-use Rattle.inav_word.proofs.Surface.{stand4, zeros4, bytes4, only_word4, stand5, zeros5, bytes5, only_word5}
-use Rattle.inav_page.proofs.Surface.{only_parts, parts_split}
-use Rattle.inav_page.specs.Pages.{bytes_of_half, even_of, odd_of}
+use Rattle.inav.proofs.Surface.{stand1, zeros1, bytes1, only_word1, stand2, zeros2, bytes2, only_word2, stand3, bytes3, only_word3}
+use Rattle.inav.proofs.Surface.{stand4, zeros4, bytes4, only_word4, stand5, zeros5, bytes5, only_word5}
+use Rattle.inav.proofs.Surface.{only_parts, parts_split}
+use Rattle.inav.specs.Pages.{bytes_of_half, even_of, odd_of}
 use Rattle.nav_eph.specs.declared.signal.Signal.{Signal}
 use Rattle.capture_lines.specs.Texts.{half_text, lnav_text}
 use Rattle.nav_vectors.specs.declared.values.GalValues.{GalValues}

@@ -10,9 +10,9 @@ use Rattle.nav_eph.specs.declared.ion.GalIon.{GalIon}
 use Rattle.lnav_subframe.specs.declared.out.SubframeOut.{SubframeOut}
 use Rattle.lnav_subframe.specs.declared.out.SubframeOut.TheVariants.{Clock, OrbitA, OrbitB, Ion, Other}
 use Rattle.lnav_subframe.specs.Writing.{IsWritten}
-use Rattle.inav_word.specs.Words.{fields_word1, fields_word2, fields_word3, fields_word4, fields_word5}
-use Rattle.inav_word.specs.Writing.{written_word1, written_word2, written_word3, written_word4, written_word5}
-use Rattle.inav_page.specs.Pages.{bytes_of_half, IsSplit}
+use Rattle.inav.specs.Words.{fields_word1, fields_word2, fields_word3, fields_word4, fields_word5}
+use Rattle.inav.specs.Writing.{written_word1, written_word2, written_word3, written_word4, written_word5}
+use Rattle.inav.specs.Pages.{bytes_of_half, IsSplit}
 use Rattle.nav_eph.specs.declared.signal.Signal.{Signal}
 use Rattle.nav_eph.specs.declared.signal.Signal.TheVariants.{E1b, E5b}
 use Rattle.capture_lines.specs.Texts.{half_text, lnav_text}

@@ -3,8 +3,8 @@ use Rattle.std.specs.Prelude.{ℕ, zero, suc, ◌+◌, ◌-◌, ◌*◌, ◌/◌
 use Rattle.std.specs.Prelude.{List, [], ◌∷◌, ◌++◌, replicate, codes}
 use Rattle.nav_eph.specs.declared.ion.GalIon.{GalIon}
 use Rattle.lnav_subframe.specs.Bytes.{subframe_bytes}
-use Rattle.inav_word.specs.Writing.{word1_bytes, word2_bytes, word3_bytes, word4_bytes, word5_bytes}
-use Rattle.inav_page.specs.Pages.{bytes_of_half, even_of, odd_of}
+use Rattle.inav.specs.Writing.{word1_bytes, word2_bytes, word3_bytes, word4_bytes, word5_bytes}
+use Rattle.inav.specs.Pages.{bytes_of_half, even_of, odd_of}
 use Rattle.nav_eph.specs.declared.signal.Signal.{Signal}
 use Rattle.capture_lines.specs.Texts.{half_text, lnav_text}
 use Rattle.nav_vectors.specs.declared.values.GalValues.{GalValues}

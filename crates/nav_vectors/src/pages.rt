@@ -12,8 +12,7 @@ ghost use Rattle.nav_vectors.specs.Mirrors.{IsEmptyPage, IsPageIn};
 
 use crate::values::GalValues;
 use gnss_week::{RefWeek, Second};
-use inav_page::{split, write_half};
-use inav_word::{write_word1, write_word2, write_word3, write_word4, write_word5};
+use inav::{split, write_half, write_word1, write_word2, write_word3, write_word4, write_word5};
 use nav_bits::{Bits, U};
 use nav_eph::{GalIon, Sat, System};
 use std::alloc::{AllocError, Global};

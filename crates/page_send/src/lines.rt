@@ -9,7 +9,7 @@ ghost use Rattle.page_send.specs.Slots.{text_of_items};
 
 use arrayvec::ArrayVec;
 use capture_lines::{LineText, write_half_line, write_lnav};
-use inav_page::{Half, split, write_half};
+use inav::{Half, split, write_half};
 use lnav_subframe::{SubframeOut, write_subframe};
 use nav_bits::{Bits, U};
 use nav_eph::{Sat, Signal};

@@ -14,7 +14,7 @@ ghost use Rattle.page_send.specs.Slots.{no_ionosphere, slot_text, text_of_items}
 
 use crate::lines::{SlotText, push_page, push_subframe};
 use gnss_week::{RefWeek, Second};
-use inav_word::{write_word1, write_word2, write_word3, write_word4, write_word5};
+use inav::{write_word1, write_word2, write_word3, write_word4, write_word5};
 use lnav_subframe::SubframeOut;
 use nav_bits::{S, U};
 use nav_eph::{GalEph, GalIon, GpsEph, NavItem};

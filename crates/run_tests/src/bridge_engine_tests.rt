@@ -6,8 +6,7 @@ ghost use Rattle.std.specs.Prelude.{◌≤◌};
 use capture_lines::{LineItem, read_line};
 use captures::{CaptureTo, run_capture};
 use gnss_week::RefWeek;
-use inav_page::{Halves, read_half};
-use inav_word::read_word;
+use inav::{Halves, read_half, read_word};
 use lnav_subframe::read_subframe;
 use nav_eph::{
     Body, GalEph, GalHealth, GalIon, GalWord1, GalWord2, GalWord3, GalWord4, GpsClock, GpsEph,

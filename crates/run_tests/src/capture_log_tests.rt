@@ -4,7 +4,7 @@ use capture_log::{
     Event, Refusal, lines_yield_what_is_heard, message_event, order_of_lines_does_not_matter,
     subframe_event, taken_parts_are_heard, what_is_closed_stays, word_event,
 };
-use inav_word::WordFault;
+use inav::WordFault;
 use lnav_subframe::LnavFault;
 use nav_bits::U;
 use nav_eph::{Body, Part, Sat, System};

@@ -1,6 +1,6 @@
 use Rattle.std.proofs.Common.{◌+◌, sym, subst}
 use Rattle.std.specs.Prelude.{Option}
-use Rattle.inav_page.specs.Keeping.{Words}
+use Rattle.inav.specs.Keeping.{Words}
 use Rattle.c_states.specs.PagePairs.{GivesPage, PagesState}
 use Rattle.c_states.specs.Waiting.{words_in}
 use Rattle.c_states.proofs.PageLemmas.{gives, kept_at}

@@ -6,7 +6,7 @@ use Rattle.nav_eph.specs.declared.items.NavItem.{NavItem}
 use Rattle.capture_lines.specs.Heads.{head_of, plain_head}
 use Rattle.capture_lines.specs.Late.{IsAccepted}
 use Rattle.capture_lines.specs.declared.item.LineItem.{LineItem}
-use Rattle.inav_word.specs.Writing.{word1_bytes, word2_bytes, word3_bytes, word4_bytes, word5_bytes}
+use Rattle.inav.specs.Writing.{word1_bytes, word2_bytes, word3_bytes, word4_bytes, word5_bytes}
 use Rattle.periods.proofs.Surface.{In, In-from_contains, contains_from_In}
 use Rattle.capture_log.specs.Heard.{IsPartHeard}
 use Rattle.capture_log.specs.Log.{line_items_of, parts_of}

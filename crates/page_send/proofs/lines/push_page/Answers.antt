@@ -1,5 +1,5 @@
 use Rattle.std.proofs.Common.{◌≡◌, ℕ, ◌+◌, List, [], ◌++◌, ap, sym, ◌∙◌, append_assoc, append-nil}
-use Rattle.inav_page.specs.Pages.{even_of, odd_of}
+use Rattle.inav.specs.Pages.{even_of, odd_of}
 use Rattle.page_send.specs.Slots.{half_item, text_of_item}
 use Rattle.page_send.proofs.lines.push_page.Goals as goal
 

@@ -1,7 +1,7 @@
 use Rattle.std.proofs.Common.{◌≡◌, ℕ, ◌+◌, List, ◌++◌, ap, ◌∙◌}
 use Rattle.nav_eph.specs.declared.galileo.GalHealth.{GalHealth}
 use Rattle.nav_eph.specs.declared.ion.GalIon.{GalIon}
-use Rattle.inav_word.specs.Writing.{word1_bytes, word2_bytes, word3_bytes, word4_bytes, word5_bytes}
+use Rattle.inav.specs.Writing.{word1_bytes, word2_bytes, word3_bytes, word4_bytes, word5_bytes}
 use Rattle.page_send.specs.Slots.{galileo_second, galileo_week_number, no_ionosphere, page_items, text_of_items}
 use Rattle.page_send.proofs.Texts.{five_pages}
 use Rattle.page_send.proofs.slot.push_galileo.Goals as goal

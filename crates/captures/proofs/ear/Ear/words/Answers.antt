@@ -1,5 +1,5 @@
 use Rattle.std.proofs.Common.{◌≡◌, ℕ, ◌+◌, ◌<◌, ◌≤◌, List, [], ◌++◌, take, drop, length, refl, sym, ap, subst, ◌∙◌, arith}
-use Rattle.inav_word.specs.Reading.{reading_of}
+use Rattle.inav.specs.Reading.{reading_of}
 use Rattle.capture_log.specs.Events.{of_word}
 use Rattle.capture_log.specs.Log.{Noted, noted}
 use Rattle.captures.specs.Hearings.{Hears}

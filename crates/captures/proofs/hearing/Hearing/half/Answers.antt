@@ -1,7 +1,7 @@
 use Rattle.std.proofs.Common.{◌≡◌, ◌+◌, ◌≤◌, true, false, refl, arith}
 use Rattle.std.proofs.lemmas.Bool.{eq-eqb, false≢true, ne_eqb}
 use Rattle.nav_bits.specs.Bits.{number_at}
-use Rattle.inav_page.specs.Keeping.{stamped}
+use Rattle.inav.specs.Keeping.{stamped}
 use Rattle.capture_log.specs.Events.{is_alert, of_half}
 use Rattle.capture_log.specs.Log.{noted}
 use Rattle.captures.specs.Notes.{of_heard}
