@@ -2,8 +2,8 @@
 use Rattle.std.specs.Prelude.{◌≡◌, ◌<◌, ℕ, List, length, Option, None, Some, Result, Ok, Err}
 use Rattle.nav_eph.specs.declared.items.NavItem.{NavItem}
 use Rattle.nav_eph.specs.declared.items.NavItem.TheVariants.{Gps, Gal, Ion}
-use Rattle.rtcm_frame.specs.Frames.{frame_size}
-use Rattle.rtcm_frame.specs.Writing.{frame_bytes}
+use Rattle.framing.specs.Frames.{frame_size}
+use Rattle.framing.specs.Writing.{frame_bytes}
 use Rattle.rtcm_eph.specs.declared.fault.MessageFault.{MessageFault}
 use Rattle.rtcm_eph.specs.declared.fault.MessageFault.TheVariants.{NoNumber, OtherMessage, Short, BadSat, BadTime, SpareSisa}
 use Rattle.rtcm_eph.specs.Writing.{bytes_1019, bytes_1046}

@@ -1,13 +1,13 @@
 //! Frames of RTCM 10403.3 (the transport layer, section 4).
 
 ghost use Rattle.std.specs.Prelude.{◌≡◌, ◌<◌, ◌≤◌, ◌↔◌, length, IsTrue};
-ghost use Rattle.rtcm_frame.specs.Writing.{frame_bytes};
+ghost use Rattle.framing.specs.Writing.{frame_bytes};
 ghost use Rattle.c_records.specs.Rooms.{IsLeft, StandsIn};
 ghost use Rattle.c_messages.specs.Messages.{IsFrame};
 
 use arrayvec::ArrayVec;
 use c_records::put;
-use rtcm_frame::{frame_of, write_frame};
+use framing::{frame_of, write_frame};
 
 /// Whether these bytes are one complete frame with a right checksum, and nothing else.
 pub fn is_frame(bytes: &[u8]) -> bool

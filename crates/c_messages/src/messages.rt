@@ -2,7 +2,7 @@
 
 ghost use Rattle.std.specs.Prelude.{◌≡◌};
 ghost use Rattle.gnss_week.specs.Weeks.{IsReference};
-ghost use Rattle.rtcm_frame.specs.State.{payload_of};
+ghost use Rattle.framing.specs.State.{payload_of};
 ghost use Rattle.rtcm_eph.specs.Reading.{item_in as item_of_payload};
 ghost use Rattle.c_records.specs.Items.{IsItemIn, item_in};
 ghost use Rattle.c_records.specs.Rooms.{IsLeft};
@@ -15,7 +15,7 @@ use c_records::{ItemRaw, item_of, put_item};
 use gnss_week::RefWeek;
 use nav_eph::NavItem;
 use rtcm_eph::{MessageFault, read_item, write_1019, write_1046};
-use rtcm_frame::frame_of;
+use framing::frame_of;
 
 // The number of a fault.
 fn status_of(fault: &MessageFault) -> u32

@@ -4,7 +4,7 @@ use Rattle.nav_bits.specs.Bits.{number_at}
 use Rattle.nav_tables.specs.declared.message.TableFault.TheVariants.{Short, OutOfRange}
 use Rattle.nav_days.specs.declared.times.TimeFault.{TimeFault}
 use Rattle.nav_days.specs.declared.times.TimeFault.TheVariants as frames
-use Rattle.rtcm_frame.specs.Writing.{frame_bytes}
+use Rattle.framing.specs.Writing.{frame_bytes}
 use Rattle.rinex_write.specs.Columns.{AreFields}
 use Rattle.rinex_write.specs.declared.columns.Column.{Column}
 use Rattle.rinex_write.specs.declared.columns.Rule.{Rule}

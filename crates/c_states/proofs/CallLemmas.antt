@@ -1,7 +1,7 @@
 -- What calls of a deframer give, by induction over them.
 use Rattle.std.proofs.Common.{◌≡◌, ℕ, Bool, true, false, not, List, [], ◌∷◌, ◌++◌, length, refl, sym, ap, ◌∙◌, subst, append_assoc, append-nil}
-use Rattle.rtcm_frame.specs.Frames.{frames}
-use Rattle.rtcm_frame.specs.State.{DeframerState}
+use Rattle.framing.specs.Frames.{frames}
+use Rattle.framing.specs.State.{DeframerState}
 use Rattle.c_states.specs.Deframers.{ended, fed, fresh, left}
 use Rattle.c_states.specs.Calls.{Call, Leads, bytes_fed, frames_given}
 use Rattle.c_states.specs.Calls.Call.{Fed, Gave, GaveNone, Finished}

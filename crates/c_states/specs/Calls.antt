@@ -1,6 +1,6 @@
 -- The calls of a deframer from its beginning on, one after another.
 use Rattle.std.specs.Prelude.{◌≡◌, ℕ, not, true, List, [], ◌∷◌, ◌++◌, length}
-use Rattle.rtcm_frame.specs.State.{DeframerState, TakesFrame, TakesNone}
+use Rattle.framing.specs.State.{DeframerState, TakesFrame, TakesNone}
 use Rattle.c_states.specs.Deframers.{ended, fed, left}
 
 -- a call, with what it took or gave

@@ -4,9 +4,9 @@ use Rattle.std.specs.Borrow.{full_share}
 use Rattle.std.specs.Mem.{type_size}
 use Rattle.std.specs.Ptr.{Ptr, lies_at, room_at}
 use base.Fml.{Fml}
-use Rattle.rtcm_frame.specs.Frames.{undecided, after_first}
-use Rattle.rtcm_frame.specs.State.{DeframerState, MayFeed, TakesFrame, TakesNone}
-use Rattle.rtcm_frame.specs.contracts.deframer.Deframer.{the_row}
+use Rattle.framing.specs.Frames.{undecided, after_first}
+use Rattle.framing.specs.State.{DeframerState, MayFeed, TakesFrame, TakesNone}
+use Rattle.framing.specs.contracts.deframer.Deframer.{the_row}
 use Rattle.c_records.specs.Rooms.{StandsIn}
 
 -- a deframer in this state lies there, and nobody else has it

@@ -4,7 +4,7 @@ ghost use Rattle.std.specs.Prelude.{◌≡◌, take};
 ghost use Rattle.c_states.specs.Deframers.{Feeds, Gives, ended, fed, fresh, left};
 
 use c_records::put;
-use rtcm_frame::Deframer;
+use framing::Deframer;
 
 /// A deframer that has been fed no byte.
 pub fn new() -> Deframer

@@ -1,8 +1,8 @@
 //! A theorem about the definitions. The function does nothing; its contract is the theorem.
 
 ghost use Rattle.std.specs.Prelude.{◌≡◌, ℕ, List, [], ◌++◌, true};
-ghost use Rattle.rtcm_frame.specs.Frames.{frames};
-ghost use Rattle.rtcm_frame.specs.State.{DeframerState};
+ghost use Rattle.framing.specs.Frames.{frames};
+ghost use Rattle.framing.specs.State.{DeframerState};
 ghost use Rattle.c_states.specs.Deframers.{fresh};
 ghost use Rattle.c_states.specs.Calls.{Call, Leads, bytes_fed, frames_given};
 

@@ -12,7 +12,7 @@ use Rattle.inav.specs.Pages.{word_of}
 use Rattle.inav.specs.Heard.{StampedHalf}
 use Rattle.inav.specs.Reading.{reading_of, all_parts as word_parts}
 use Rattle.inav.specs.declared.parts.WordParts.{WordParts}
-use Rattle.rtcm_frame.specs.State.{payload_of}
+use Rattle.framing.specs.State.{payload_of}
 use Rattle.rtcm_eph.specs.Reading.{content_of, parts_of as message_of, all_parts as message_parts}
 use Rattle.rtcm_eph.specs.declared.read.MessageParts.{MessageParts}
 use Rattle.capture_lines.specs.Late.{IsAccepted}

@@ -16,8 +16,8 @@ use Rattle.inav.specs.Reading.{reading_of}
 use Rattle.inav.specs.declared.parts.WordParts.{WordParts}
 use Rattle.inav.specs.declared.word_fault.WordFault.{WordFault}
 use Rattle.inav.specs.declared.word_fault.WordFault.TheVariants as words
-use Rattle.rtcm_frame.specs.Frames.{frame_size}
-use Rattle.rtcm_frame.specs.State.{payload_of}
+use Rattle.framing.specs.Frames.{frame_size}
+use Rattle.framing.specs.State.{payload_of}
 use Rattle.rtcm_eph.specs.Reading.{content_of, parts_of}
 use Rattle.rtcm_eph.specs.declared.fault.MessageFault.{MessageFault}
 use Rattle.rtcm_eph.specs.declared.fault.MessageFault.TheVariants as messages

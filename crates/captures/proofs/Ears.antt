@@ -8,7 +8,7 @@ use Rattle.inav.specs.Reading.{reading_of}
 use Rattle.inav.specs.declared.word_fault.WordFault.{WordFault}
 use Rattle.inav.specs.declared.parts.WordParts.{WordParts}
 use Rattle.slot_assembly.specs.Standing.{Stood, adding}
-use Rattle.rtcm_frame.specs.State.{payload_of}
+use Rattle.framing.specs.State.{payload_of}
 use Rattle.rtcm_eph.specs.Reading.{content_of, parts_of}
 use Rattle.rtcm_eph.specs.declared.read.MessageParts.{MessageParts}
 use Rattle.rtcm_eph.specs.declared.read.MessageParts.TheVariants.{Gps as GpsParts, Gal as GalParts}

@@ -15,7 +15,7 @@ use Rattle.inav.specs.Reading.{reading_of}
 use Rattle.inav.specs.declared.parts.WordParts.{WordParts}
 use Rattle.inav.specs.declared.word_fault.WordFault.{WordFault}
 use Rattle.nav_eph.specs.Satellite.{Satellite}
-use Rattle.rtcm_frame.specs.State.{payload_of}
+use Rattle.framing.specs.State.{payload_of}
 use Rattle.rtcm_eph.specs.Reading.{content_of, parts_of as message_parts}
 use Rattle.rtcm_eph.specs.declared.fault.MessageFault.{MessageFault}
 use Rattle.rtcm_eph.specs.declared.read.MessageParts.{MessageParts}

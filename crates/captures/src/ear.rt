@@ -25,7 +25,7 @@ use nav_eph::Sat;
 use nav_io::{Failed, Sink};
 use one_run::{BridgeFault, report_text};
 use rtcm_eph::{MessageParts, message_parts, read_message};
-use rtcm_frame::frame_of;
+use framing::frame_of;
 use slot_assembly::{Assembly, SlotAssembly};
 
 // Writes a line of the report.

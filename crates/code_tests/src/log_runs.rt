@@ -3,7 +3,7 @@
 use crate::samples::source_of;
 use nav_io::MemSink;
 use one_run::Status;
-use receiver_frames::{SbfJudge, UbxJudge};
+use framing::{SbfJudge, UbxJudge};
 use receiver_log::{Receiver, run_log};
 use std::alloc::{AllocError, Global};
 

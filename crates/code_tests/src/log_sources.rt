@@ -3,7 +3,7 @@
 use crate::samples::source_of;
 use crate::small_log::{ALL, LOG, PAGE};
 use nav_io::{MemSink, Source};
-use receiver_frames::UbxJudge;
+use framing::UbxJudge;
 use receiver_log::LogSource;
 use std::alloc::{AllocError, Global};
 use std::test::Fail;

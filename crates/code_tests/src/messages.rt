@@ -9,7 +9,7 @@ use nav_samples::{
     Word1Numbers, Word2Numbers, Word3Numbers, Word4Numbers,
 };
 use rtcm_eph::{MessageFault, MessageParts, read_item, read_message, write_1019, write_1046};
-use rtcm_frame::{frame_of, write_frame};
+use framing::{frame_of, write_frame};
 
 // A payload, and what its message is read as, near week 2295.
 struct MessageRow {

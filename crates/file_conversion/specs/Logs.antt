@@ -1,7 +1,7 @@
 -- Logs of receivers, which are converted as their captures, and files of RINEX 2, as those of RINEX 3.
 use Rattle.std.specs.Prelude.{ℕ, List}
-use Rattle.receiver_frames.specs.UbxForm.{ubx}
-use Rattle.receiver_frames.specs.SbfForm.{sbf}
+use Rattle.framing.specs.UbxForm.{ubx}
+use Rattle.framing.specs.SbfForm.{sbf}
 use Rattle.receiver_messages.specs.Sbf.{sbf_said}
 use Rattle.receiver_messages.specs.Ubx.{ubx_said}
 use Rattle.receiver_log.specs.Capture.{capture_of}

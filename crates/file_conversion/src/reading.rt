@@ -6,7 +6,7 @@ ghost use Rattle.receiver_log.specs.Capture.{too_many};
 ghost use Rattle.file_conversion.specs.Logs.{read_as};
 
 use nav_io::{Failed, Source};
-use receiver_frames::{SbfJudge, UbxJudge};
+use framing::{SbfJudge, UbxJudge};
 use receiver_log::{LogCounts, LogParts, LogSource, Receiver, Refused};
 use rinex2_lines::{Rinex2Parts, Rinex2Source};
 use whole_file::{Counted, Kind, Peeked, Progress};

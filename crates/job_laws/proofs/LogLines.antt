@@ -25,8 +25,8 @@ use Rattle.capture_lines.specs.declared.item.LineItem.TheVariants.{Half, Lnav}
 use Rattle.capture_lines.proofs.Surface.{decimal_is_text, last_digit, one_digit}
 use Rattle.capture_log.specs.Log.{line_items_of}
 use Rattle.nav_laws.proofs.Surface.{AreSpelt, LineLaws, lines_are, no_cr, no_end, spelt_append}
-use Rattle.receiver_frames.specs.Headings.{Heading, format_of}
-use Rattle.receiver_frames.specs.Messages.{messages}
+use Rattle.framing.specs.Headings.{Heading, format_of}
+use Rattle.framing.specs.Messages.{messages}
 use Rattle.nav_bits.specs.Packed.{pack}
 use Rattle.receiver_messages.specs.Words.{read_words, subframe_bytes, word_fields}
 use Rattle.receiver_messages.specs.declared.said.Content.{Content}

@@ -12,8 +12,8 @@ use Rattle.rinex_write.specs.Texts3.{ephemerides, rinex3_text}
 use Rattle.rinex_write.specs.declared.words.HeaderWords.{HeaderWords}
 use Rattle.rinex_read.specs.Files.{rinex_list}
 use Rattle.rinex_read.specs.Form3.{rinex3_list}
-use Rattle.rtcm_frame.specs.Frames.{frames}
-use Rattle.rtcm_frame.specs.State.{payload_of}
+use Rattle.framing.specs.Frames.{frames}
+use Rattle.framing.specs.State.{payload_of}
 use Rattle.rtcm_eph.specs.Reading.{item_in}
 use Rattle.outlets.specs.ItemTexts.{rtcm_item}
 use Rattle.capture_log.specs.Heard.{IsPartHeard}

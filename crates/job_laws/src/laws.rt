@@ -80,8 +80,8 @@ pub fn converted_captures_come_back()
 {
     capture_log::periods_heard();
     capture_lines::each_first_line_is_one_head();
-    rtcm_frame::written_frames_are_whole();
-    rtcm_frame::frames_behind_a_written_frame();
+    framing::written_frames_are_whole();
+    framing::frames_behind_a_written_frame();
     rtcm_eph::item_function();
     rtcm_eph::message_bytes();
     rtcm_eph::sent_1019_is_read();

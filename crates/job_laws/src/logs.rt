@@ -1,10 +1,10 @@
 //! Theorems about logs of receivers: each is the contract of an empty function.
 
 ghost use Rattle.std.specs.Prelude.{ℕ, List};
-ghost use Rattle.receiver_frames.specs.Headings.{format_of};
-ghost use Rattle.receiver_frames.specs.Messages.{messages};
-ghost use Rattle.receiver_frames.specs.UbxForm.{ubx};
-ghost use Rattle.receiver_frames.specs.SbfForm.{sbf};
+ghost use Rattle.framing.specs.Headings.{format_of};
+ghost use Rattle.framing.specs.Messages.{messages};
+ghost use Rattle.framing.specs.UbxForm.{ubx};
+ghost use Rattle.framing.specs.SbfForm.{sbf};
 ghost use Rattle.receiver_messages.specs.Sbf.{sbf_said};
 ghost use Rattle.receiver_messages.specs.Ubx.{ubx_said};
 ghost use Rattle.receiver_log.specs.declared.reception.Reception.{Reception};

@@ -33,9 +33,9 @@ pub use denote.Triple.Entry.{on_entry}
 pub use denote.Triple.Spec.{triple_of}
 pub use denote.Triple.Walked.{Stays, walk_of, says, stay_dropped, Goes-dropped, gave_ref, Goes-gave_ref, gave_slice, Goes-gave_slice, ends_at}
 pub use denote.Triple.Table.{framed}
-pub use Rattle.rtcm_frame.specs.State.{DeframerState}
-pub use Rattle.rtcm_frame.specs.contracts.deframer.Deframer.{the_row as R}
-pub use Rattle.rtcm_frame.proofs.deframer.Deframer.TheLaws.{the_row_laws}
+pub use Rattle.framing.specs.State.{DeframerState}
+pub use Rattle.framing.specs.contracts.deframer.Deframer.{the_row as R}
+pub use Rattle.framing.proofs.deframer.Deframer.TheLaws.{the_row_laws}
 pub use Rattle.c_states.specs.Pushes.{PushState}
 pub use Rattle.c_states.specs.contracts.push.Conversion.{the_row as P}
 pub use Rattle.c_states.proofs.push.Conversion.TheLaws.{the_row_laws as push_laws}

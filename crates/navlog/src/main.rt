@@ -9,7 +9,7 @@
 
 use nav_io::{ReadSource, WriteSink};
 use one_run::Status;
-use receiver_frames::{SbfJudge, UbxJudge};
+use framing::{SbfJudge, UbxJudge};
 use receiver_log::{Receiver, run_log};
 use std::env;
 use std::io::ErrorKind;

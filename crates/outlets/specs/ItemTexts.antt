@@ -3,7 +3,7 @@ use Rattle.std.specs.Prelude.{ℕ, ◌+◌, ◌*◌, ◌/◌, ◌%◌, List, [],
 use Rattle.nav_eph.specs.Satellite.{Satellite}
 use Rattle.nav_eph.specs.declared.items.NavItem.{NavItem}
 use Rattle.nav_eph.specs.declared.items.NavItem.TheVariants.{Gps as GpsItem, Gal as GalItem, Ion as IonItem}
-use Rattle.rtcm_frame.specs.Writing.{frame_bytes}
+use Rattle.framing.specs.Writing.{frame_bytes}
 use Rattle.rinex_write.specs.Texts.{item_lines, letter_of, text_of}
 use Rattle.rtcm_eph.specs.Writing.{bytes_1019, bytes_1046}
 

@@ -2,14 +2,14 @@
 
 ghost use Rattle.std.specs.Prelude.{◌≤◌, length};
 ghost use Rattle.nav_io.specs.Writes.{Writes};
-ghost use Rattle.rtcm_frame.specs.Writing.{frame_bytes};
+ghost use Rattle.framing.specs.Writing.{frame_bytes};
 ghost use Rattle.outlets.specs.ItemTexts.{rtcm_item};
 
 use arrayvec::ArrayVec;
 use nav_eph::NavItem;
 use nav_io::{Failed, Sink};
 use rtcm_eph::{write_1019, write_1046};
-use rtcm_frame::write_frame;
+use framing::write_frame;
 
 /// Appends the frame of an ephemeris to a sink: message 1019 or 1046 (RTCM 10403.3,
 /// 3.5). For ionosphere parameters nothing is written.

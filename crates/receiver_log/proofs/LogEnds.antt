@@ -9,8 +9,8 @@ use Rattle.std.specs.Prelude.{Option, Some, None, Err, IfSome, IsSome}
 use Rattle.std.specs.Io.KnownBytes.{Appends, IsAtEnd}
 use Rattle.nav_io.specs.Causes.{Rose}
 use Rattle.nav_io.specs.Prefix.{AppendsPrefix, IsPrefix}
-use Rattle.receiver_frames.specs.Headings.{Heading, format_of}
-use Rattle.receiver_frames.specs.Messages.{messages, messages_past, decided}
+use Rattle.framing.specs.Headings.{Heading, format_of}
+use Rattle.framing.specs.Messages.{messages, messages_past, decided}
 use Rattle.one_run.specs.Causes.{HasItsCause}
 use Rattle.one_run.specs.Runs.{Accepts, AppendsAll, AppendsBetween, Broke, Done, Says}
 use Rattle.one_run.specs.Runs.{StopAtOnePlace, Texts, World, faults_in}

@@ -5,8 +5,8 @@ use Rattle.std.proofs.Common.{append_assoc}
 use Rattle.std.proofs.lemmas.Bool.{le-leb, leb-false, leb-true}
 use Rattle.std.proofs.lemmas.List.{map-append}
 use Rattle.std.specs.Prelude.{Option, Some, None}
-use Rattle.receiver_frames.specs.Headings.{Heading, format_of}
-use Rattle.receiver_frames.specs.Messages.{Format, decided, messages, messages_past, undecided}
+use Rattle.framing.specs.Headings.{Heading, format_of}
+use Rattle.framing.specs.Messages.{Format, decided, messages, messages_past, undecided}
 use Rattle.receiver_messages.specs.Systems.{SaysTimes}
 use Rattle.receiver_messages.specs.declared.said.Content.{Content}
 use Rattle.receiver_messages.specs.declared.said.Said.{Said}

@@ -1,8 +1,8 @@
 -- The capture of a log, and its report.
 use Rattle.std.specs.Prelude.{ℕ, ◌-◌, ◌^◌, true, false, List, [], ◌∷◌, ◌++◌, length, take, codes}
 use Rattle.std.specs.Prelude.{Option, Some, None}
-use Rattle.receiver_frames.specs.Messages.{messages, decided}
-use Rattle.receiver_frames.specs.Headings.{Heading, format_of}
+use Rattle.framing.specs.Messages.{messages, decided}
+use Rattle.framing.specs.Headings.{Heading, format_of}
 use Rattle.one_run.specs.Reports.{report_line}
 use Rattle.one_run.specs.Runs.{Meaning}
 use Rattle.receiver_messages.specs.declared.said.Reason.{Reason}

@@ -7,9 +7,9 @@ use Rattle.nav_io.specs.Prefix.{AppendsPrefix}
 use Rattle.one_run.specs.Runs.{AppendsBetween}
 use Rattle.one_run.specs.declared.fault.BridgeFault.{BridgeFault}
 use Rattle.one_run.specs.declared.fault.BridgeFault.TheVariants.{ReadFault, ReportFault, TooLong}
-use Rattle.receiver_frames.specs.Headings.{Heading, format_of}
-use Rattle.receiver_frames.specs.Messages.{messages}
-use Rattle.receiver_frames.specs.State.{IsWaiting}
+use Rattle.framing.specs.Headings.{Heading, format_of}
+use Rattle.framing.specs.Messages.{messages}
+use Rattle.framing.specs.MessageState.{IsWaiting}
 use Rattle.receiver_messages.specs.declared.said.Said.{Said}
 use Rattle.receiver_log.specs.declared.state.Log.{Log}
 use Rattle.receiver_log.specs.declared.reception.Reception.{Reception}

@@ -6,8 +6,8 @@ ghost use Rattle.std.specs.Prelude.{OnErr};
 ghost use Rattle.std.specs.Io.KnownBytes.{Appends};
 ghost use Rattle.nav_io.specs.Causes.{HasCause};
 ghost use Rattle.nav_io.specs.Prefix.{AppendsPrefix};
-ghost use Rattle.receiver_frames.specs.Headings.{format_of};
-ghost use Rattle.receiver_frames.specs.State.{MayFeed};
+ghost use Rattle.framing.specs.Headings.{format_of};
+ghost use Rattle.framing.specs.MessageState.{MayFeed};
 ghost use Rattle.receiver_log.specs.Capture.{refusal_line};
 ghost use Rattle.receiver_messages.specs.declared.said.Said.{Said as SaidNow};
 ghost use Rattle.receiver_log.specs.Log.{counted};
@@ -24,7 +24,7 @@ use crate::state::{Log, LogCounts, LogState, MessageCounts};
 use arrayvec::ArrayVec;
 use nav_io::{Failed, Source};
 use one_run::{BridgeFault, read_piece};
-use receiver_frames::MessageDeframer;
+use framing::MessageDeframer;
 use receiver_messages::{Reason, Said};
 
 // The most bytes of one read.

@@ -7,7 +7,7 @@ ghost use Rattle.receiver_messages.specs.Ubx.{ubx_said as ubx_says};
 ghost use Rattle.receiver_messages.specs.Systems.{SaysOfSystem, SaysTimes};
 ghost use Rattle.receiver_log.specs.SaysTimes.{sbf_says_times, ubx_says_times};
 
-use receiver_frames::{Judge, SbfJudge, UbxJudge};
+use framing::{Judge, SbfJudge, UbxJudge};
 use receiver_messages::{Said, sbf_said, ubx_said};
 
 /// A format of messages, and their content.

@@ -8,7 +8,7 @@ use crate::report::counts_text;
 use crate::state::{Log, LogCounts};
 use nav_io::{Failed, Sink, Source};
 use one_run::BridgeFault;
-use receiver_frames::decided_messages_stay_decided;
+use framing::decided_messages_stay_decided;
 
 /// Reads a log to its end, writes its capture, and reports rejected messages and counts.
 ///

@@ -6,7 +6,7 @@ ghost use Rattle.receiver_log.specs.Log.{begun, counted, none_counted};
 use crate::lines::LineBuffer;
 use crate::queue::Queue;
 use crate::receiver::Receiver;
-use receiver_frames::MessageDeframer;
+use framing::MessageDeframer;
 use receiver_messages::Said;
 
 /// LogCounts of a log's messages. Each saturates at 18,446,744,073,709,551,615.

@@ -24,7 +24,7 @@ use Rattle.rtcm_eph.specs.Messages.{fields_1019, fields_1046}
 use Rattle.rtcm_eph.specs.Reading.{GivesItem, content_of, item_in}
 use Rattle.rtcm_eph.specs.RoundTrip.{Begins1019, Begins1046, IsGal, IsGps}
 use Rattle.rtcm_eph.specs.Writing.{bytes_1019, bytes_1046, message_1019, message_1046}
-use Rattle.rtcm_frame.specs.State.{payload_of}
+use Rattle.framing.specs.State.{payload_of}
 use Rattle.streams.specs.Streams.{has, items_of_readings, readings}
 use Rattle.streams.specs.Mirrors.{any_alike, sent_alike}
 

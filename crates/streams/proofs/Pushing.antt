@@ -4,8 +4,8 @@ use Rattle.std.specs.Prelude.{Option, None, Some}
 use Rattle.std.specs.Io.KnownBytes.{Appends}
 use Rattle.std.proofs.KnownBytes.{Appends-nil, Appends-trans}
 use Rattle.nav_io.specs.Prefix.{AppendsPrefix, IsPrefix}
-use Rattle.rtcm_frame.specs.Frames.{decided, frames, undecided}
-use Rattle.rtcm_frame.specs.State.{DeframerState, IsWaiting}
+use Rattle.framing.specs.Frames.{decided, frames, undecided}
+use Rattle.framing.specs.State.{DeframerState, IsWaiting}
 use Rattle.outlets.specs.Targets.{prefix_text, item_text}
 use Rattle.one_run.specs.declared.fault.BridgeFault.{BridgeFault}
 use Rattle.one_run.specs.Runs.{AppendsBetween}

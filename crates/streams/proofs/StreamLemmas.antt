@@ -12,7 +12,7 @@ use Rattle.nav_eph.specs.declared.items.NavItem.{NavItem}
 use Rattle.rtcm_eph.specs.declared.fault.MessageFault.{MessageFault}
 use Rattle.rtcm_eph.specs.declared.fault.MessageFault.TheVariants.{NoNumber, OtherMessage, Short, BadSat, BadTime, SpareSisa}
 use Rattle.rtcm_eph.specs.Reading.{item_in}
-use Rattle.rtcm_frame.specs.State.{payload_of}
+use Rattle.framing.specs.State.{payload_of}
 use Rattle.one_run.specs.Runs.{AppendsBetween}
 use Rattle.streams.specs.declared.counts.StreamCounts.{StreamCounts}
 use Rattle.outlets.specs.Times.{times_of, with_item as timed}

@@ -5,8 +5,8 @@ use Rattle.std.specs.Io.KnownBytes.{Appends, Consumes, IsAtEnd, Keeps}
 use Rattle.std.proofs.KnownBytes.{Appends-nil, Appends-trans, Consumes-kept, Consumes-nil, Consumes-trans}
 use Rattle.nav_io.specs.Causes.{Rose}
 use Rattle.nav_io.specs.Prefix.{AppendsPrefix, IsPrefix}
-use Rattle.rtcm_frame.specs.Frames.{decided, frames}
-use Rattle.rtcm_frame.specs.State.{DeframerState, MayFeed}
+use Rattle.framing.specs.Frames.{decided, frames}
+use Rattle.framing.specs.State.{DeframerState, MayFeed}
 use Rattle.one_run.specs.declared.fault.BridgeFault.{BridgeFault}
 use Rattle.one_run.specs.declared.fault.BridgeFault.TheVariants.{ReadFault, WriteFault, ReportFault, NotThisForm, TooLong, NoMemory}
 use Rattle.one_run.specs.Causes.{HasItsCause, faults_of}

@@ -6,7 +6,7 @@ ghost use Rattle.std.specs.Prelude.{length, take, IfOk, OnOk, OnErr, Some};
 ghost use Rattle.std.specs.Io.KnownBytes.{Appends};
 ghost use Rattle.nav_io.specs.Causes.{HasCause};
 ghost use Rattle.nav_io.specs.Prefix.{AppendsPrefix};
-ghost use Rattle.rtcm_frame.specs.State.{MayFeed, IsWaiting};
+ghost use Rattle.framing.specs.State.{MayFeed, IsWaiting};
 ghost use Rattle.one_run.specs.Runs.{Ran};
 ghost use Rattle.streams.specs.FrameLines.{frames_meaning, line_of};
 ghost use Rattle.streams.specs.FrameRuns.{Goes, Breaks, Gathers};
@@ -15,7 +15,7 @@ use crate::line::{FrameLine, frame_line};
 use arrayvec::ArrayVec;
 use nav_io::{Failed, MOST_TAKEN, Sink, Source, read_piece};
 use one_run::BridgeFault;
-use rtcm_frame::{Deframer, Frame, decided_frames_stay};
+use framing::{Deframer, Frame, decided_frames_stay};
 
 // The number of bytes that one read asks for.
 const PIECE: usize = 16_384;

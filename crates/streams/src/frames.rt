@@ -7,7 +7,7 @@ ghost use Rattle.std.specs.Prelude.{IsErrOf, IfOk, IfErr, IfSome, OnOk, OnErr, I
 ghost use Rattle.std.specs.Io.KnownBytes.{Appends};
 ghost use Rattle.nav_eph.specs.declared.items.NavItem.{NavItem};
 ghost use Rattle.nav_io.specs.Prefix.{AppendsPrefix};
-ghost use Rattle.rtcm_frame.specs.State.{MayFeed, IsWaiting, payload_of};
+ghost use Rattle.framing.specs.State.{MayFeed, IsWaiting, payload_of};
 ghost use Rattle.outlets.specs.Targets.{prefix_text, item_text};
 ghost use Rattle.rtcm_eph.specs.declared.fault.MessageFault.{MessageFault};
 ghost use Rattle.one_run.specs.Causes.{HasItsCause, faults_of};
@@ -28,7 +28,7 @@ use outlets::{Target, with_item};
 use rtcm_eph::{
     MessageFault, item_function, message_bytes, read_item, sent_1019_is_read, sent_1046_is_read,
 };
-use rtcm_frame::{Deframer, Frame};
+use framing::{Deframer, Frame};
 
 // Reports that the frame with this number is refused, and counts it.
 fn refuse<U: Sink>(

@@ -14,7 +14,7 @@ ghost use Rattle.streams.specs.Streams.{stream_list, stream_meaning};
 ghost use Rattle.streams.specs.Streams.{stream_output_by, stream_report};
 ghost use Rattle.streams.specs.declared.target.StreamTo.TheVariants as streams;
 
-use rtcm_frame::decided_frames_stay;
+use framing::decided_frames_stay;
 
 /// What a run writes of a stream is the text of the list of its items.
 pub fn what_is_written_of_a_stream_is_the_text_of_its_list()

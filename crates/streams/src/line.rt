@@ -7,7 +7,7 @@ ghost use Rattle.streams.specs.FrameLines.{line_of, number_text};
 
 use arrayvec::ArrayVec;
 use itoa::Buffer;
-use rtcm_frame::Frame;
+use framing::Frame;
 
 /// A line, which is built in place and takes no memory.
 pub type FrameLine = ArrayVec<u8, 96>;

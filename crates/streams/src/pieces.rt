@@ -14,7 +14,7 @@ use gnss_week::RefWeek;
 use nav_io::{Failed, MOST_TAKEN, Sink, Source, read_piece};
 use one_run::BridgeFault;
 use outlets::Target;
-use rtcm_frame::Deframer;
+use framing::Deframer;
 
 // The number of bytes that one read asks for.
 const PIECE: usize = 16_384;

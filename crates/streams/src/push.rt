@@ -19,7 +19,7 @@ use gnss_week::RefWeek;
 use nav_io::{Failed, Sink};
 use one_run::BridgeFault;
 use outlets::Target;
-use rtcm_frame::{Deframer, decided_frames_stay};
+use framing::{Deframer, decided_frames_stay};
 use std::alloc::Global;
 use std::marker::Model;
 

@@ -11,7 +11,7 @@ use gnss_week::RefWeek;
 use nav_io::{Failed, Sink, Source};
 use one_run::BridgeFault;
 use outlets::Target;
-use rtcm_frame::decided_frames_stay;
+use framing::decided_frames_stay;
 use std::alloc::Global;
 
 // Reads a stream to its end, and writes the conversion of its items while it reads.

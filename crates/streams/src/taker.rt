@@ -5,7 +5,7 @@ ghost use Rattle.std.specs.Prelude.{ℕ, true, not, List, [], length, take};
 ghost use Rattle.std.specs.Prelude.{IsTrue, IsErrOf, IfOk, IfErr, OnOk, OnErr};
 ghost use Rattle.nav_io.specs.Prefix.{IsPrefix};
 ghost use Rattle.nav_io.specs.Writes.{Writes};
-ghost use Rattle.rtcm_frame.specs.State.{MayFeed, IsWaiting};
+ghost use Rattle.framing.specs.State.{MayFeed, IsWaiting};
 ghost use Rattle.one_run.specs.Causes.{HasItsCause, faults_of};
 ghost use Rattle.one_run.specs.Runs.{Ran};
 ghost use Rattle.streams.specs.Mirrors.{IsStreamFault};
@@ -15,7 +15,7 @@ ghost use Rattle.streams.specs.Taken.{Stops, Takes, TakesAll, TakesPart, frames_
 use crate::pieces::fault_at;
 use nav_io::{Failed, MOST_TAKEN, Sink, Source, read_piece};
 use one_run::{BridgeFault, Text};
-use rtcm_frame::{Deframer, Frame, decided_frames_stay};
+use framing::{Deframer, Frame, decided_frames_stay};
 
 // The number of bytes that one read asks for.
 const PIECE: usize = 16_384;

@@ -19,7 +19,7 @@ use Rattle.outlets.specs.declared.times.Times.{Times}
 use Rattle.rtcm_eph.specs.Reading.{item_in}
 use Rattle.rtcm_eph.specs.declared.fault.MessageFault.{MessageFault}
 use Rattle.rtcm_eph.specs.declared.fault.MessageFault.TheVariants.{NoNumber, OtherMessage, Short, BadSat, BadTime, SpareSisa}
-use Rattle.rtcm_frame.specs.State.{payload_of}
+use Rattle.framing.specs.State.{payload_of}
 use Rattle.streams.specs.Mirrors.{AreFew}
 use Rattle.streams.specs.Streams.{has as nav_has, items_of_readings, readings as nav_readings}
 use Rattle.streams.specs.declared.counts.StreamCounts.{StreamCounts}

@@ -9,7 +9,7 @@ use Rattle.nav_rows.specs.Rows.{RowValue, row_in}
 use Rattle.rtcm_eph.specs.Reading.{item_in}
 use Rattle.rtcm_eph.specs.declared.fault.MessageFault.{MessageFault}
 use Rattle.rtcm_eph.specs.declared.fault.MessageFault.TheVariants.{NoNumber, OtherMessage, Short, BadSat, BadTime, SpareSisa}
-use Rattle.rtcm_frame.specs.State.{payload_of}
+use Rattle.framing.specs.State.{payload_of}
 use Rattle.streams.specs.Streams.{first_places, first_places_behind, has as nav_has, items_of_readings, readings as nav_readings}
 use Rattle.system_streams.specs.Readings.{kind_at, kind_reading, reading_by, readings, row_reading, satellite_in}
 use Rattle.system_streams.specs.Streams.{Numbered, firsts_behind, has, items_from, items_of, navs}

@@ -15,7 +15,7 @@ use Rattle.nav_rows.specs.Order.{KindRow, rank}
 use Rattle.outlets.specs.declared.target.Target.{Target}
 use Rattle.rtcm_eph.specs.Reading.{item_in}
 use Rattle.rtcm_eph.specs.declared.fault.MessageFault.{MessageFault}
-use Rattle.rtcm_frame.specs.State.{payload_of}
+use Rattle.framing.specs.State.{payload_of}
 use Rattle.streams.specs.Mirrors.{AreKnown, GivenState, HasRoom, KeptPlaces, any_alike, is_given, sent_alike}
 use Rattle.streams.specs.Streams.{items_of_readings, readings as nav_readings}
 use Rattle.streams.specs.Streams.{Reading as NavReading}

@@ -15,7 +15,7 @@ use Rattle.one_run.specs.Reports.{report_line}
 use Rattle.rtcm_eph.specs.Reading.{item_in}
 use Rattle.rtcm_eph.specs.declared.fault.MessageFault.{MessageFault}
 use Rattle.rtcm_eph.specs.declared.fault.MessageFault.TheVariants.{NoNumber, OtherMessage, Short, BadSat, BadTime, SpareSisa}
-use Rattle.rtcm_frame.specs.State.{payload_of}
+use Rattle.framing.specs.State.{payload_of}
 use Rattle.system_streams.specs.declared.kinds.Kinds.{Kinds}
 
 -- an item of a stream: an ephemeris of GPS or of Galileo I/NAV, or one of a further kind

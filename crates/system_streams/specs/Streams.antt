@@ -16,7 +16,7 @@ use Rattle.outlets.specs.declared.target.Target.{Target}
 use Rattle.outlets.specs.declared.target.Target.TheVariants.{Rinex, Rinex3, Rtcm, ToList, Count}
 use Rattle.outlets.specs.declared.times.Times.{Times}
 use Rattle.rinex_write.specs.Fields.{epoch_of}
-use Rattle.rtcm_frame.specs.Writing.{frame_bytes}
+use Rattle.framing.specs.Writing.{frame_bytes}
 use Rattle.streams.specs.Streams.{stream_counts_text}
 use Rattle.streams.specs.Taken.{frames_meaning_by}
 use Rattle.streams.specs.declared.counts.StreamCounts.{StreamCounts}

@@ -1,7 +1,7 @@
 //! Theorems about streams of all systems: each is the contract of a function that does nothing.
 
 ghost use Rattle.std.specs.Prelude.{◌≡◌, ℕ, List};
-ghost use Rattle.rtcm_frame.specs.Frames.{frames};
+ghost use Rattle.framing.specs.Frames.{frames};
 ghost use Rattle.streams.specs.Streams.{stream_list};
 ghost use Rattle.system_streams.specs.Readings.{readings};
 ghost use Rattle.system_streams.specs.Streams.{items_of, navs};

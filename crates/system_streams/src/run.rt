@@ -6,7 +6,7 @@ ghost use Rattle.std.proofs.Common.{inr};
 ghost use Rattle.one_run.specs.Causes.{HasItsCause, faults_of};
 ghost use Rattle.one_run.specs.Runs.{Ran};
 ghost use Rattle.rinex_write.specs.Columns.{AreFields};
-ghost use Rattle.rtcm_frame.specs.State.{payload_of};
+ghost use Rattle.framing.specs.State.{payload_of};
 ghost use Rattle.rtcm_eph.specs.Reading.{item_in};
 ghost use Rattle.rtcm_eph.specs.declared.fault.MessageFault.TheVariants.{OtherMessage};
 ghost use Rattle.nav_rows.specs.Kinds.{IsKind};
@@ -31,7 +31,7 @@ use outlets::{Target, with_item, with_time};
 use rtcm_eph::{
     MessageFault, item_function, message_bytes, read_item, sent_1019_is_read, sent_1046_is_read,
 };
-use rtcm_frame::Frame;
+use framing::Frame;
 use std::alloc::Global;
 use streams::{FrameTaker, StreamCounts, run_taker, stream_counts_text};
 

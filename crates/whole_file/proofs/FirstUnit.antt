@@ -3,13 +3,13 @@ use Rattle.std.proofs.Common.{◌≡◌, ◌⊎◌, ℕ, ◌+◌, ◌-◌, ◌<�
 use Rattle.std.proofs.Math.Seq.{take-append-add}
 use Rattle.std.proofs.lemmas.Bool.{or_parts, false≢true, lt-ltb}
 use Rattle.std.proofs.lemmas.List.{drop_all, drop_more, take-append-le}
-use Rattle.receiver_frames.specs.Headings.{Heading, IsHeading, format_of, opens_by, size_by}
-use Rattle.receiver_frames.specs.Messages.{IsFormat}
-use Rattle.receiver_frames.specs.SbfForm.{sbf}
-use Rattle.receiver_frames.specs.SbfFormLaws.{sbf_is_heading}
-use Rattle.receiver_frames.specs.UbxForm.{ubx}
-use Rattle.receiver_frames.specs.UbxFormLaws.{ubx_is_heading}
-use Rattle.rtcm_frame.specs.Frames.{frame_size, is_open}
+use Rattle.framing.specs.Headings.{Heading, IsHeading, format_of, opens_by, size_by}
+use Rattle.framing.specs.Messages.{IsFormat}
+use Rattle.framing.specs.SbfForm.{sbf}
+use Rattle.framing.specs.SbfFormLaws.{sbf_is_heading}
+use Rattle.framing.specs.UbxForm.{ubx}
+use Rattle.framing.specs.UbxFormLaws.{ubx_is_heading}
+use Rattle.framing.specs.Frames.{frame_size, is_open}
 use Rattle.whole_file.proofs.FrameForms.{frame-append}
 use Rattle.whole_file.specs.Kinds.{is_head, kind_of, prefix_kind, told_by}
 use Rattle.whole_file.specs.Units.{IsPast, first_of, first_unit, opens_unit, unit_of}

@@ -1,7 +1,7 @@
 //! Theorems about the format of a file: the contracts of empty functions.
 
 ghost use Rattle.std.specs.Prelude.{◌≡◌, ◌<◌, ◌≤◌, ◌∷◌, ℕ, List, take};
-ghost use Rattle.rtcm_frame.specs.Frames.{frame_size};
+ghost use Rattle.framing.specs.Frames.{frame_size};
 ghost use Rattle.whole_file.specs.declared.kinds.Kind.TheVariants.{Stream};
 ghost use Rattle.whole_file.specs.Kinds.{kind_of};
 

@@ -4,13 +4,12 @@
 ghost use Rattle.std.specs.Prelude.{◌≡◌, ℕ, ◌+◌, ◌<◌, ◌≤◌};
 ghost use Rattle.std.specs.Prelude.{List, [], ◌++◌, ◌&&◌, length, drop, slice_index, nat_lt};
 ghost use Rattle.std.specs.Prelude.{false, IfSome, None, Some};
-ghost use Rattle.receiver_frames.specs.Headings.{opens_by, size_by};
-ghost use Rattle.rtcm_frame.specs.Frames.{announced, frame_size, is_open};
+ghost use Rattle.framing.specs.Headings.{opens_by, size_by};
+ghost use Rattle.framing.specs.Frames.{announced, frame_size, is_open};
 ghost use Rattle.whole_file.specs.Units.{first_unit, opens_unit, unit_of};
 
 use crate::kinds::Kind;
-use receiver_frames::{Judge, SbfJudge, UbxJudge, headings_are_formats};
-use rtcm_frame::frame_of;
+use framing::{Judge, SbfJudge, UbxJudge, frame_of, headings_are_formats};
 
 // The first whole unit in the bytes from `start` on: its form, or `None`, and the first offset that
 // is not passed. Where more bytes may come, an offset where a unit is incomplete is not passed.

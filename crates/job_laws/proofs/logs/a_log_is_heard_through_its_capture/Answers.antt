@@ -1,5 +1,5 @@
-use Rattle.receiver_frames.specs.UbxForm.{ubx}
-use Rattle.receiver_frames.specs.SbfForm.{sbf}
+use Rattle.framing.specs.UbxForm.{ubx}
+use Rattle.framing.specs.SbfForm.{sbf}
 use Rattle.receiver_messages.specs.Sbf.{sbf_said}
 use Rattle.receiver_messages.specs.Ubx.{ubx_said}
 use Rattle.job_laws.proofs.LogLines.{ChainLaws, heard_through}

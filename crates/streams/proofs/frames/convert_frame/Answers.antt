@@ -1,6 +1,6 @@
 use Rattle.std.proofs.Common.{refl, sym, ap, subst, ◌∙◌}
 use Rattle.rtcm_eph.specs.Reading.{item_in}
-use Rattle.rtcm_frame.specs.State.{payload_of}
+use Rattle.framing.specs.State.{payload_of}
 use Rattle.streams.specs.Mirrors.{KeptPlaces, StandsIn}
 use Rattle.streams.proofs.AlikeLemmas.{Laws, looked_for, read_own}
 use Rattle.streams.proofs.StreamLemmas.{broke_fault, broke_item, on_err1, on_ok2, on_ok4, so_far_again, so_far_fault, so_far_item}

@@ -1,6 +1,6 @@
 use Rattle.std.proofs.Common.{ℕ, sym, ap, ◌∙◌}
 use Rattle.std.specs.Prelude.{Err, Some, codes}
-use Rattle.rtcm_frame.specs.State.{payload_of}
+use Rattle.framing.specs.State.{payload_of}
 use Rattle.system_streams.specs.Readings.{Reading, message_in, reading_by}
 use Rattle.system_streams.proofs.Taking.{any_err}
 use Rattle.system_streams.proofs.run.take_fault.Goals as goal

@@ -3,7 +3,7 @@ use Rattle.std.specs.Prelude.{Ok}
 use Rattle.std.proofs.KnownBytes.{Appends-nil}
 use Rattle.streams.proofs.Surface.{Laws, adds_nothing, is_known}
 use Rattle.system_streams.specs.Readings.{reading_by}
-use Rattle.rtcm_frame.specs.State.{payload_of}
+use Rattle.framing.specs.State.{payload_of}
 use Rattle.system_streams.proofs.Taking.{gives_item, gives_report, holds_item, was_item}
 use Rattle.system_streams.proofs.run.Systems.again.Goals as goal
 

@@ -5,7 +5,7 @@ use Rattle.one_run.proofs.Surface.{no_prefix}
 use Rattle.streams.specs.Mirrors.{KeptPlaces, is_given}
 use Rattle.streams.proofs.Surface.{Laws, counts_are}
 use Rattle.system_streams.specs.Readings.{reading_by}
-use Rattle.rtcm_frame.specs.State.{payload_of}
+use Rattle.framing.specs.State.{payload_of}
 use Rattle.system_streams.proofs.Taking.{gives_item, gives_report, holds_item, is_new, is_old, part_of_gives, part_of_item, was_item}
 use Rattle.system_streams.proofs.run.Systems.give_item.Goals as goal
 
