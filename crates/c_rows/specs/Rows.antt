@@ -2,8 +2,8 @@
 use Rattle.std.specs.Prelude.{◌≡◌, ◌⊎◌, ℕ, ◌==◌, if◌then◌else◌, Bool, true, false, List, [], ◌∷◌, length, take, slice_get, Option, None, Some, Result, Ok, Err}
 use Rattle.nav_bits.specs.Bits.{number_at}
 use Rattle.nav_tables.specs.declared.message.TableFault.TheVariants.{Short, OutOfRange}
-use Rattle.nav_days.specs.declared.times.TimeFault.{TimeFault}
-use Rattle.nav_days.specs.declared.times.TimeFault.TheVariants as frames
+use Rattle.nav_tables.specs.declared.times.TimeFault.{TimeFault}
+use Rattle.nav_tables.specs.declared.times.TimeFault.TheVariants as frames
 use Rattle.framing.specs.Writing.{frame_bytes}
 use Rattle.rinex_write.specs.Columns.{AreFields}
 use Rattle.rinex_write.specs.declared.columns.Column.{Column}

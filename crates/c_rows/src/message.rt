@@ -12,7 +12,7 @@ use crate::row_raw::RowRaw;
 use crate::write::row_in;
 use c_messages::make_frame;
 use c_records::reasons::NO_ITEM;
-use nav_days::TimeFault;
+use nav_tables::TimeFault;
 use nav_rows::{EncodeFault, Kind, Row, message_of_row};
 use rinex_read::Reason;
 

@@ -24,27 +24,27 @@ use Rattle.nav_tables.specs.Messages.{starts}
 use Rattle.nav_tables.proofs.Surface.{all_in_range, both, le_z_true, none_outside, range_length}
 use Rattle.nav_tables.proofs.Surface.{read_in_range, read_written, start_is, starts_length}
 use Rattle.nav_tables.proofs.Surface.{written_read}
-use Rattle.nav_links.specs.declared.link.Part.{Part}
-use Rattle.nav_links.specs.declared.link.Link.{Link}
-use Rattle.nav_links.specs.declared.link.Link.TheVariants.{Field, Opposite, Raised, Parts, Given}
-use Rattle.nav_links.specs.declared.link.Link.TheVariants.{Fixed}
-use Rattle.nav_links.specs.Links.{AreFit, AreSaid, AreSmall, column_of, columns_of}
-use Rattle.nav_links.specs.Links.{filled}
-use Rattle.nav_links.specs.Links.{nth, say}
-use Rattle.nav_links.proofs.Surface.{back_all, column_at, columns_append, columns_length}
-use Rattle.nav_links.proofs.Surface.{filled_append, filled_length, fit_all, fit_append, right_all}
-use Rattle.nav_links.proofs.Surface.{said_append}
-use Rattle.nav_days.specs.declared.times.FrameTime.{FrameTime}
-use Rattle.nav_days.specs.declared.times.TimeFault.{TimeFault}
-use Rattle.nav_days.specs.declared.times.TimeFault.TheVariants as frames
-use Rattle.nav_days.specs.declared.times.Times.{Times}
-use Rattle.nav_days.specs.Times.{frame_in, times_to}
-use Rattle.nav_days.specs.Days.{distance}
-use Rattle.nav_days.specs.Weeks.{number_of_week, week_to}
-use Rattle.nav_days.proofs.Surface.{frame_epoch, frame_is, good_rule, near_is, number_again}
-use Rattle.nav_days.proofs.Surface.{ok_same}
-use Rattle.nav_days.proofs.Surface.{passed}
-use Rattle.nav_days.proofs.Surface.{times_near, week_again}
+use Rattle.nav_tables.specs.declared.link.Part.{Part}
+use Rattle.nav_tables.specs.declared.link.Link.{Link}
+use Rattle.nav_tables.specs.declared.link.Link.TheVariants.{Field, Opposite, Raised, Parts, Given}
+use Rattle.nav_tables.specs.declared.link.Link.TheVariants.{Fixed}
+use Rattle.nav_tables.specs.Links.{AreFit, AreSaid, AreSmall, column_of, columns_of}
+use Rattle.nav_tables.specs.Links.{filled}
+use Rattle.nav_tables.specs.Links.{nth, say}
+use Rattle.nav_tables.proofs.Surface.{back_all, column_at, columns_append, columns_length}
+use Rattle.nav_tables.proofs.Surface.{filled_append, filled_length, fit_all, fit_append, right_all}
+use Rattle.nav_tables.proofs.Surface.{said_append}
+use Rattle.nav_tables.specs.declared.times.FrameTime.{FrameTime}
+use Rattle.nav_tables.specs.declared.times.TimeFault.{TimeFault}
+use Rattle.nav_tables.specs.declared.times.TimeFault.TheVariants as frames
+use Rattle.nav_tables.specs.declared.times.Times.{Times}
+use Rattle.nav_tables.specs.Times.{frame_in, times_to}
+use Rattle.nav_tables.specs.Days.{distance}
+use Rattle.nav_tables.specs.Weeks.{number_of_week, week_to}
+use Rattle.nav_tables.proofs.Surface.{frame_epoch, frame_is, good_rule, near_is, number_again}
+use Rattle.nav_tables.proofs.Surface.{ok_same}
+use Rattle.nav_tables.proofs.Surface.{passed}
+use Rattle.nav_tables.proofs.Surface.{times_near, week_again}
 use Rattle.scaled_decimal.specs.declared.scales.Scale.{Scale}
 use Rattle.rinex_write.specs.declared.columns.Rule.{Rule}
 use Rattle.rinex_write.specs.declared.columns.Rule.TheVariants.{Plain, OrZero, OrLeast, OrUnknown}

@@ -17,7 +17,7 @@ use Rattle.gnss_week.specs.Functions.{civil_to}
 use Rattle.rinex_write.specs.Texts.{date_text}
 use Rattle.nav_tables.specs.Fields.{IsInRange, is_in_range}
 use Rattle.nav_tables.proofs.Surface.{both, in_range_true, le_z_true}
-use Rattle.nav_links.specs.Links.{field_at}
+use Rattle.nav_tables.specs.Links.{field_at}
 use Rattle.rinex_write.specs.declared.columns.Rule.{Rule}
 use Rattle.rinex_write.specs.declared.columns.Rule.TheVariants.{Plain, OrZero, OrLeast, OrUnknown}
 use Rattle.rinex_write.specs.declared.columns.Rule.TheVariants.{Ura, Sisa, Fit, Sent, Unread}

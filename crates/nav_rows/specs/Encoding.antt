@@ -5,14 +5,14 @@ use Rattle.std.specs.Prelude.{length, ℤ, pos, nat_eq, nat_le, nat_lt, Option, 
 use Rattle.std.specs.Prelude.{Result, Ok, Err, if◌then◌else◌}
 use Rattle.gnss_week.specs.Functions.{moment_near}
 use Rattle.nav_tables.specs.Messages.{first_outside, message_bytes, starts}
-use Rattle.nav_links.specs.declared.link.Part.{Part}
-use Rattle.nav_links.specs.Links.{AreSaid, filled, nth, say}
-use Rattle.nav_days.specs.declared.times.FrameTime.{FrameTime}
-use Rattle.nav_days.specs.declared.times.TimeFault.{TimeFault}
-use Rattle.nav_days.specs.declared.times.TimeFault.TheVariants as frames
-use Rattle.nav_days.specs.Times.{frame_in}
-use Rattle.nav_days.specs.Days.{distance}
-use Rattle.nav_days.specs.Weeks.{first_week, number_of_week}
+use Rattle.nav_tables.specs.declared.link.Part.{Part}
+use Rattle.nav_tables.specs.Links.{AreSaid, filled, nth, say}
+use Rattle.nav_tables.specs.declared.times.FrameTime.{FrameTime}
+use Rattle.nav_tables.specs.declared.times.TimeFault.{TimeFault}
+use Rattle.nav_tables.specs.declared.times.TimeFault.TheVariants as frames
+use Rattle.nav_tables.specs.Times.{frame_in}
+use Rattle.nav_tables.specs.Days.{distance}
+use Rattle.nav_tables.specs.Weeks.{first_week, number_of_week}
 use Rattle.rinex_write.specs.declared.columns.Column.{Column}
 use Rattle.rinex_write.specs.Columns.{is_unknown}
 use Rattle.rinex_read.specs.declared.reason.Reason.{Reason}

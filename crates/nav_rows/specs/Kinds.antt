@@ -6,13 +6,13 @@ use Rattle.std.specs.Prelude.{ℤ, pos, neg_ℤ, ◌+ℤ◌, int_le, nat_le, nat
 use Rattle.std.specs.Prelude.{Some, None, if◌then◌else◌}
 use Rattle.nav_tables.specs.declared.field.Field.{Field as TableField}
 use Rattle.nav_tables.specs.Messages.{is_table}
-use Rattle.nav_links.specs.declared.link.Part.{Part}
-use Rattle.nav_links.specs.declared.link.Link.{Link}
-use Rattle.nav_links.specs.declared.link.Link.TheVariants.{Field, Opposite, Raised, Parts, Given}
-use Rattle.nav_links.specs.declared.link.Link.TheVariants.{Fixed}
-use Rattle.nav_links.specs.Links.{parts_from, width_of, are_apart, are_links, field_at, ranges_fit}
-use Rattle.nav_links.specs.Links.{say}
-use Rattle.nav_days.specs.Weeks.{is_week_rule}
+use Rattle.nav_tables.specs.declared.link.Part.{Part}
+use Rattle.nav_tables.specs.declared.link.Link.{Link}
+use Rattle.nav_tables.specs.declared.link.Link.TheVariants.{Field, Opposite, Raised, Parts, Given}
+use Rattle.nav_tables.specs.declared.link.Link.TheVariants.{Fixed}
+use Rattle.nav_tables.specs.Links.{parts_from, width_of, are_apart, are_links, field_at, ranges_fit}
+use Rattle.nav_tables.specs.Links.{say}
+use Rattle.nav_tables.specs.Weeks.{is_week_rule}
 use Rattle.rinex_write.specs.declared.columns.Rule.{Rule}
 use Rattle.rinex_write.specs.declared.columns.Rule.TheVariants.{Plain, OrZero, OrLeast, OrUnknown}
 use Rattle.rinex_write.specs.declared.columns.Rule.TheVariants.{Ura, Sisa, Fit, Sent, Unread}

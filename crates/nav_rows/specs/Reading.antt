@@ -6,7 +6,7 @@ use Rattle.std.specs.Prelude.{Option}
 use Rattle.std.specs.Prelude.{Some, None, Result, Ok, Err, if◌then◌else◌}
 use Rattle.scaled_decimal.specs.NumberReading.{is_decimal}
 use Rattle.nav_tables.specs.Fields.{is_in_range}
-use Rattle.nav_links.specs.Links.{field_at}
+use Rattle.nav_tables.specs.Links.{field_at}
 use Rattle.rinex_write.specs.declared.columns.Rule.{Rule}
 use Rattle.rinex_write.specs.declared.columns.Rule.TheVariants.{Plain, OrZero, OrLeast, OrUnknown}
 use Rattle.rinex_write.specs.declared.columns.Rule.TheVariants.{Ura, Sisa, Fit, Sent, Unread}

@@ -3,7 +3,7 @@ use Rattle.std.specs.Prelude.{ℕ, ◌&&◌, ◌<◌, Bool, false, List, [], ◌
 use Rattle.std.specs.Prelude.{Option, Some, None, Result, Ok, Err, if◌then◌else◌, codes}
 use Rattle.nav_tables.specs.declared.message.TableFault.{TableFault}
 use Rattle.nav_tables.specs.Messages.{message_in}
-use Rattle.nav_links.specs.Links.{nth, columns_of}
+use Rattle.nav_tables.specs.Links.{nth, columns_of}
 use Rattle.rinex_write.specs.RowTexts.{RowKind, row_body, row_record, split_rows}
 use Rattle.rinex_write.specs.Texts.{text_of}
 use Rattle.nav_rows.specs.declared.kind.Kind.{Kind}

@@ -2,11 +2,11 @@
 use Rattle.std.specs.Prelude.{ℕ, ◌+◌, ◌-◌, ◌*◌, ◌%◌, ◌^◌, ◌<◌, ◌≤◌, List, length, ℤ, pos, ◌≤ℤ◌}
 use Rattle.std.specs.Prelude.{unsigned_abs, IsTrue, Option, Some, None}
 use Rattle.gnss_week.specs.Functions.{moment_near}
-use Rattle.nav_links.specs.Links.{nth}
-use Rattle.nav_days.specs.declared.times.FrameTime.{FrameTime}
-use Rattle.nav_days.specs.declared.times.Times.{Times}
-use Rattle.nav_days.specs.Times.{times_to, IsFrameTime}
-use Rattle.nav_days.specs.Weeks.{week_to}
+use Rattle.nav_tables.specs.Links.{nth}
+use Rattle.nav_tables.specs.declared.times.FrameTime.{FrameTime}
+use Rattle.nav_tables.specs.declared.times.Times.{Times}
+use Rattle.nav_tables.specs.Times.{times_to, IsFrameTime}
+use Rattle.nav_tables.specs.Weeks.{week_to}
 use Rattle.nav_rows.specs.declared.kind.WeekClock.{WeekClock}
 use Rattle.nav_rows.specs.declared.kind.Clock.{Clock}
 use Rattle.nav_rows.specs.declared.kind.Clock.TheVariants.{Frame, Weeks, Daily}

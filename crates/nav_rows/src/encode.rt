@@ -3,8 +3,8 @@
 ghost use Rattle.std.specs.Prelude.{◌≡◌, ◌≤◌, ◌<◌, ◌+◌, ◌*◌, ◌^◌, ◌∷◌, ◌++◌, [], length, pos, IfOk};
 ghost use Rattle.std.specs.Prelude.{IfErr, IsTrue, Ok, Err, None, if◌then◌else◌};
 ghost use Rattle.nav_tables.specs.Messages.{AreInRange, starts};
-ghost use Rattle.nav_links.specs.Links.{AreSmall, are_links};
-ghost use Rattle.nav_days.specs.Weeks.{is_week_rule};
+ghost use Rattle.nav_tables.specs.Links.{AreSmall, are_links};
+ghost use Rattle.nav_tables.specs.Weeks.{is_week_rule};
 ghost use Rattle.rinex_write.specs.Columns.{AreFields, is_unknown};
 ghost use Rattle.nav_rows.specs.declared.kind.Clock.TheVariants.{Frame, Weeks};
 ghost use Rattle.nav_rows.specs.Kinds.{IsKind, head_links};
@@ -17,9 +17,7 @@ use crate::kind::{Clock, Kind, WeekClock};
 use crate::row::{Row, has_spare_sisa};
 use arrayvec::ArrayVec;
 use gnss_week::{Moment, Second, Week, nearest_moment};
-use nav_days::{FrameTime, TimeFault, Times, frame_time, number_of_week};
-use nav_links::{Link, Part, fill_numbers};
-use nav_tables::{first_outside, start_numbers, write_message};
+use nav_tables::{FrameTime, Link, Part, TimeFault, Times, fill_numbers, first_outside, frame_time, number_of_week, start_numbers, write_message};
 use rinex_read::Reason;
 use rinex_write::{Column, NOT_KNOWN, Rule};
 

@@ -9,7 +9,7 @@ ghost use Rattle.nav_bits.specs.Packed.{AreBytes};
 ghost use Rattle.gnss_week.specs.Weeks.{IsMoment, IsReference};
 ghost use Rattle.nav_tables.specs.Fields.{IsInRange};
 ghost use Rattle.nav_tables.specs.Messages.{ArePlain};
-ghost use Rattle.nav_links.specs.Links.{field_at};
+ghost use Rattle.nav_tables.specs.Links.{field_at};
 ghost use Rattle.rinex_write.specs.Columns.{AreFields};
 ghost use Rattle.nav_rows.specs.declared.kind.Kind.{Kind};
 ghost use Rattle.nav_rows.specs.Kinds.{IsKind, has_weeks, is_whole};

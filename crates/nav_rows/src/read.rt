@@ -3,7 +3,7 @@
 ghost use Rattle.std.specs.Prelude.{◌≡◌, ◌++◌, ◌∷◌, ◌&&◌, ◌↔◌, [], length, replicate, int_le, pos};
 ghost use Rattle.std.specs.Prelude.{IfOk, IsTrue};
 ghost use Rattle.nav_tables.specs.Fields.{is_in_range};
-ghost use Rattle.nav_links.specs.Links.{field_at};
+ghost use Rattle.nav_tables.specs.Links.{field_at};
 ghost use Rattle.rinex_write.specs.Columns.{AreFields};
 ghost use Rattle.rinex_read.specs.Mirrors.{Gives};
 ghost use Rattle.nav_rows.specs.Kinds.{IsKind};

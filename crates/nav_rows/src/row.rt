@@ -3,7 +3,7 @@
 ghost use Rattle.std.specs.Prelude.{◌≡◌, ◌<◌, ◌≤◌, ◌++◌, ◌∷◌, [], length, pos, ◌≤ℤ◌, unsigned_abs};
 ghost use Rattle.std.specs.Prelude.{IfOk, IfErr, Ok, Err, codes, map};
 ghost use Rattle.nav_io.specs.Writes.{Writes};
-ghost use Rattle.nav_links.specs.Links.{nth};
+ghost use Rattle.nav_tables.specs.Links.{nth};
 ghost use Rattle.rinex_write.specs.Columns.{AreFields};
 ghost use Rattle.nav_rows.specs.Kinds.{IsKind};
 ghost use Rattle.nav_rows.specs.Times.{IsSatellite};
@@ -15,8 +15,7 @@ use crate::times::{RowTimes, times_told};
 use arrayvec::ArrayVec;
 use gnss_week::{Moment, RefWeek};
 use nav_io::{Failed, Sink};
-use nav_links::columns_of;
-use nav_tables::{TableFault, read_message};
+use nav_tables::{TableFault, columns_of, read_message};
 use rinex_write::{RowHead, write_row, write_row_body};
 
 /// An ephemeris of some kind.

@@ -7,7 +7,7 @@ ghost use Rattle.std.specs.Cmp.{eq_by_cmp_equiv, int_cmp_total, on_total, then_t
 ghost use Rattle.std.specs.Cmp.{partial_equiv_from_equiv, partial_order_from_agreeing_total};
 ghost use Rattle.std.specs.Ordering.{int_cmp, is_eq};
 ghost use Rattle.nav_io.specs.Writes.{Writes};
-ghost use Rattle.nav_links.specs.Links.{nth};
+ghost use Rattle.nav_tables.specs.Links.{nth};
 ghost use Rattle.nav_rows.specs.Kinds.{IsKind};
 ghost use Rattle.nav_rows.specs.Order.{by_place, by_rank, front_of};
 ghost use Rattle.nav_rows.specs.Order.{rank as rank_in_order};

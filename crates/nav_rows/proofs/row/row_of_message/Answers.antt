@@ -1,5 +1,5 @@
 use Rattle.std.proofs.Common.{length, sym, ap, subst, ◌∙◌, ◌≡◌, true, false}
-use Rattle.nav_links.specs.Links.{AreFit, are_links, columns_of}
+use Rattle.nav_tables.specs.Links.{AreFit, are_links, columns_of}
 use Rattle.rinex_write.specs.Columns.{AreFields}
 use Rattle.nav_rows.specs.Times.{HasTimes, IsSatellite}
 use Rattle.nav_rows.specs.Rows.{SisaInside, has_spare_sisa}
