@@ -5,7 +5,7 @@ ghost use Rattle.file_conversion.specs.Counted.{times_in};
 
 use outlets::Times;
 use streams::StreamCounts;
-use system_files::{SystemCounts, SystemMergeCounts};
+use all_systems::{SystemCounts, SystemMergeCounts};
 
 /// What a conversion that is done has counted.
 #[derive(Clone, Copy)]

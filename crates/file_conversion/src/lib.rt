@@ -64,4 +64,4 @@ pub use crate::table::{
 };
 pub use crate::targets::{Target, ending_of, kind_named, target_named, to_word};
 pub use crate::telling::{Teller, finish};
-pub use system_streams::Kinds;
+pub use all_systems::Kinds;

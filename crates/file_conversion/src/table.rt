@@ -10,8 +10,7 @@ use crate::targets::Target;
 use bridge_engine::{CaptureJob, CaptureTo, Job};
 use gnss_week::RefWeek;
 use rinex_write::HeaderWords;
-use system_files::Version;
-use system_streams::Kinds;
+use all_systems::{Kinds, Version};
 use whole_file::Kind;
 
 /// What is asked of each file.

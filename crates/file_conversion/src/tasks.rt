@@ -16,8 +16,7 @@ use crate::table::{SystemFileJob, SystemMergeJob, SystemsJob, Task};
 use bridge_engine::{BridgeFault, Job, run_job};
 use nav_io::{Sink, Source};
 use std::alloc::Global;
-use system_files::{Version, run_system_file, run_system_merge};
-use system_streams::run_systems;
+use all_systems::{Version, run_system_file, run_system_merge, run_systems};
 use whole_file::Conversion;
 
 /// A task that is done with a report.

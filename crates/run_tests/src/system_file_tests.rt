@@ -7,8 +7,7 @@ use outlets::{Target, Times};
 use rinex_write::{HeaderWords, write_header, write_header3};
 use std::alloc::{AllocError, Global};
 use std::test::Fail;
-use system_files::{SystemCounts, Version, run_system_file, run_system_merge};
-use system_streams::Kinds;
+use all_systems::{Kinds, SystemCounts, Version, run_system_file, run_system_merge};
 
 // What the header of a file says.
 const WORDS: HeaderWords = HeaderWords {
