@@ -5,7 +5,7 @@ use Rattle.std.specs.List.Sorted.{IsStrictlySortedBy}
 use Rattle.std.specs.declared.cmp.Ordering.TheVariants.{Equal}
 use Rattle.std.proofs.lemmas.List.{map-append}
 use Rattle.std.proofs.lemmas.Map.Lookups.{exact_bytes}
-use Rattle.ranked_list.specs.Ranks.{IsRankedList, ranked_of}
+use Rattle.nav_lists.specs.Ranks.{IsRankedList, ranked_of}
 use Rattle.all_systems.specs.CarriedOrder.{CarriedRecord, by_text, kept_record}
 use Rattle.all_systems.specs.Files.{carried_in, carried_lines}
 use Rattle.all_systems.specs.Merging.{carried_of, firsts, is_carried_before, items_of, merged_entries, merged_items, seconds}

@@ -7,7 +7,7 @@ use Rattle.std.specs.declared.cmp.Ordering.TheVariants.{Less, Equal, Greater}
 use Rattle.nav_eph.specs.declared.items.NavItem.{NavItem}
 use Rattle.nav_lists.specs.Merging.{IsMerged, merged_of}
 use Rattle.nav_rows.specs.Order.{KindRow, by_place, by_rank, rank, rank_of}
-use Rattle.ranked_list.specs.Ranks.{AreTold, IsRankedList, ranked_of}
+use Rattle.nav_lists.specs.Ranks.{AreTold, IsRankedList, ranked_of}
 use Rattle.rinex_read.specs.Files.{file_reads, items_read, records_in}
 use Rattle.all_systems.specs.Readings.{Item}
 use Rattle.all_systems.specs.Streams.{navs}

@@ -10,7 +10,7 @@ use Rattle.std.specs.declared.cmp.Ordering.TheVariants.{Less, Equal, Greater}
 use Rattle.nav_eph.specs.declared.items.NavItem.{NavItem}
 use Rattle.nav_rows.specs.Order.{KindRow, by_place, by_rank}
 use Rattle.outlets.specs.declared.target.Target.{Target}
-use Rattle.ranked_list.specs.Ranks.{first_of, ranked_of, with_value}
+use Rattle.nav_lists.specs.Ranks.{first_of, ranked_of, with_value}
 use Rattle.all_systems.specs.Readings.{Item}
 use Rattle.all_systems.specs.MergeMirrors.{held}
 use Rattle.all_systems.specs.Merging.{behind, interleaved, is_before, item_of, items_of, merge_counts, merged_items, navs_of, rows_of}

@@ -19,7 +19,7 @@ use Rattle.nav_eph.specs.declared.items.SentSecond.{SentSecond}
 use Rattle.nav_eph.specs.declared.items.SentSecond.TheVariants.{Unknown, At}
 use Rattle.nav_eph.proofs.Surface.{ranks_alike}
 use Rattle.nav_lists.specs.Merging.{IsEarliest, IsMerged, is_sooner}
-use Rattle.ranked_list.specs.Ranks.{AreTold, IsFirst, IsRankedList}
+use Rattle.nav_lists.specs.Ranks.{AreTold, IsFirst, IsRankedList}
 use Rattle.rinex_write.specs.Fields.{gps_epoch, galileo_epoch}
 use Rattle.all_systems.specs.NavOrder.{by_numbers, by_sent, nav_rank, sent_place}
 

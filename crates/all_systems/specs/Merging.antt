@@ -13,7 +13,7 @@ use Rattle.one_run.specs.Runs.{Meaning}
 use Rattle.outlets.specs.Targets.{prefix_text}
 use Rattle.outlets.specs.declared.target.Target.{Target}
 use Rattle.outlets.specs.declared.target.Target.TheVariants.{Rinex, Rinex3, Rtcm, ToList, Count}
-use Rattle.ranked_list.specs.Ranks.{ranked_of}
+use Rattle.nav_lists.specs.Ranks.{ranked_of}
 use Rattle.rinex_read.specs.Files.{file_reads, records_in}
 use Rattle.rinex_write.specs.declared.words.HeaderWords.{HeaderWords}
 use Rattle.all_systems.specs.Readings.{Item}

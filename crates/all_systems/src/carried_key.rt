@@ -19,7 +19,7 @@ use carried_records::record_text;
 use gnss_week::Moment;
 use nav_io::{Failed, Sink};
 use outlets::Target;
-use ranked_list::Ranked;
+use nav_lists::Ranked;
 use rinex_read::{columns, read_row_lines};
 use rinex_write::{Column, RecordLayout};
 use std::alloc::{AllocError, Global};

@@ -6,7 +6,7 @@ ghost use Rattle.std.specs.List.Sorted.{IsStrictlySortedBy};
 ghost use Rattle.nav_eph.specs.declared.items.NavItem.{NavItem};
 ghost use Rattle.nav_lists.specs.Merging.{merged_of};
 ghost use Rattle.nav_rows.specs.Order.{by_place, by_rank};
-ghost use Rattle.ranked_list.specs.Ranks.{ranked_of};
+ghost use Rattle.nav_lists.specs.Ranks.{ranked_of};
 ghost use Rattle.rinex_read.specs.Files.{list_by};
 ghost use Rattle.all_systems.specs.Readings.{Item};
 ghost use Rattle.all_systems.specs.declared.kinds.Kinds.{Kinds};
@@ -22,8 +22,7 @@ ghost use Rattle.all_systems.specs.declared.version.Version.{Version};
 use crate::carried_key::CarriedKey;
 use crate::nav_key::NavKey;
 use crate::row_key::RowKey;
-use nav_lists::merging;
-use ranked_list::ranking;
+use nav_lists::{merging, ranking};
 
 /// The merged list has the items of GPS and Galileo of their merged list, and each row once, in the
 /// order of rank, no two of one rank. Items may be merged in several steps. The list depends on the

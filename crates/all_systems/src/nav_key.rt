@@ -12,7 +12,7 @@ ghost use Rattle.all_systems.specs.NavOrder.{nav_rank, sent_place};
 
 use crate::nav_numbers::{item_sent_place, nav_front, nav_numbers};
 use nav_eph::NavItem;
-use ranked_list::Ranked;
+use nav_lists::Ranked;
 use std::alloc::{AllocError, Global};
 use std::cmp::Ordering;
 use std::marker::Model;

@@ -11,7 +11,7 @@ use crate::nav_key::NavKey;
 use crate::row_key::RowKey;
 use nav_io::{Failed, Sink};
 use outlets::Target;
-use ranked_list::RankedList;
+use nav_lists::RankedList;
 
 // What comes next.
 #[derive(Clone, Copy)]

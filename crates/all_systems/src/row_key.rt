@@ -22,7 +22,7 @@ use arrayvec::ArrayVec;
 use nav_io::{Failed, Sink};
 use nav_rows::{Kind, Row, compare_rows, rank_of};
 use outlets::Target;
-use ranked_list::Ranked;
+use nav_lists::Ranked;
 use std::alloc::{AllocError, Global};
 use std::cmp::Ordering;
 use std::marker::Model;

@@ -1,4 +1,4 @@
-use Rattle.ranked_list.specs.Ranks.{ranked_of}
+use Rattle.nav_lists.specs.Ranks.{ranked_of}
 use Rattle.all_systems.specs.Merging.{outlet_of}
 use Rattle.all_systems.proofs.merge.run_system_merge.Goals as goal
 

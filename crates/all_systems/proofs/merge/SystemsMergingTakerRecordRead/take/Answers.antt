@@ -3,7 +3,7 @@ use Rattle.std.proofs.lemmas.Result.{err_from_is_err_and}
 use Rattle.std.specs.Io.KnownBytes.{Appends}
 use Rattle.nav_io.specs.Prefix.{AppendsPrefix}
 use Rattle.nav_rows.specs.Order.{by_place, by_rank}
-use Rattle.ranked_list.specs.Ranks.{ranked_of}
+use Rattle.nav_lists.specs.Ranks.{ranked_of}
 use Rattle.one_run.proofs.Surface.{between_whole}
 use Rattle.nav_files.proofs.Surface.{grew_between, grew_more, texts_prefix}
 use Rattle.all_systems.specs.Readings.{Item}

@@ -1,6 +1,6 @@
 ghost use Rattle.std.specs.Prelude.{◌≡◌, ◌↔◌, ◌++◌, List};
 ghost use Rattle.std.specs.List.{Contains};
-ghost use Rattle.ranked_list.specs.Ranks.{AreTold, IsRankedList, ranked_of};
+ghost use Rattle.nav_lists.specs.Ranks.{AreTold, IsRankedList, ranked_of};
 
 use crate::list::Ranked;
 

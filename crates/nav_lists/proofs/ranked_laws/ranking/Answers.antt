@@ -1,5 +1,5 @@
-use Rattle.ranked_list.proofs.RankedLemmas.{is_ranked, ranked_only, ranked_set, ranked_again}
-use Rattle.ranked_list.proofs.laws.ranking.Goals as goal
+use Rattle.nav_lists.proofs.RankedLemmas.{is_ranked, ranked_only, ranked_set, ranked_again}
+use Rattle.nav_lists.proofs.ranked_laws.ranking.Goals as goal
 
 pub returns-clause-are : goal.returns-clause-are
 returns-clause-are g c = is_ranked g.K.Ord.cmp g.K.Ranked.choice g.met.K.Ord.total g.met.K.Ranked.choice_total

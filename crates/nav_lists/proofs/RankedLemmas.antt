@@ -8,7 +8,7 @@ use Rattle.std.specs.declared.cmp.Ordering.{Ordering}
 use Rattle.std.specs.declared.cmp.Ordering.TheVariants.{Less, Equal, Greater}
 use Rattle.std.proofs.lemmas.Cmp.{tied_itself, tied_back, alike_right}
 use Rattle.std.proofs.lemmas.List.Elements.{Contains-append_left, Contains-append_right, Contains-append_cases, Contains-push, Contains-push_cases}
-use Rattle.ranked_list.specs.Ranks as ranks
+use Rattle.nav_lists.specs.Ranks as ranks
 
 module _ {X : Type 0} (by choice : X → X → Ordering) (order : IsTotalOrder by) (total : IsTotalOrder choice) where
   abbrev first_of : X → X → X

@@ -1,7 +1,7 @@
 use Rattle.std.proofs.Common.{sym, ◌∙◌}
-use Rattle.ranked_list.proofs.HeldLemmas.{add_first, add_later, add_new}
-use Rattle.ranked_list.proofs.list.RankedList.add.Goals as goal
-use Rattle.ranked_list.proofs.list.RankedList.add.Goals.{in-Some-1, in-None-1}
+use Rattle.nav_lists.proofs.RankedHeldLemmas.{add_first, add_later, add_new}
+use Rattle.nav_lists.proofs.list.RankedList.add.Goals as goal
+use Rattle.nav_lists.proofs.list.RankedList.add.Goals.{in-Some-1, in-None-1}
 
 pub returns-in_ok-insert-in-None-clause-ok : goal.returns-in_ok-insert-in-None-clause-ok
 returns-in_ok-insert-in-None-clause-ok g c =

@@ -8,8 +8,8 @@ use Rattle.std.specs.List.Sorted.{IsStrictlySortedBy}
 use Rattle.std.specs.Ordering.{is_eq, is_lt, match_ordering}
 use Rattle.std.specs.declared.cmp.Ordering.{Ordering}
 use Rattle.std.specs.declared.cmp.Ordering.TheVariants.{Less, Equal, Greater}
-use Rattle.ranked_list.specs.Ranks as ranks
-use Rattle.ranked_list.proofs.RankedLemmas.{ascends, ranked_pushed}
+use Rattle.nav_lists.specs.Ranks as ranks
+use Rattle.nav_lists.proofs.RankedLemmas.{ascends, ranked_pushed}
 
 module _ {X : Type 0} (by choice : X → X → Ordering) (order : IsTotalOrder by) (total : IsTotalOrder choice) where
   abbrev first_of : X → X → X

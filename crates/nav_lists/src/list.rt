@@ -1,7 +1,7 @@
 //! A ranked list, built value by value.
 
 ghost use Rattle.std.specs.Prelude.{◌≡◌, [], ◌∷◌, ◌++◌, OnOk, OnErr, length};
-ghost use Rattle.ranked_list.specs.Ranks.{ranked_of};
+ghost use Rattle.nav_lists.specs.Ranks.{ranked_of};
 
 use std::alloc::{AllocError, Global};
 use std::cmp::Ordering;
