@@ -1,6 +1,6 @@
 //! What messages of UBX say: times, refusals, and subframes in each form.
 
-use receiver_messages::{Content, Reason, Said, ubx_said};
+use receiver_log::{Content, Reason, Said, ubx_said};
 
 // A time message, and the second that it gives, or 0 where it gives none.
 struct TimeCase {

@@ -2,8 +2,8 @@
 use Rattle.std.specs.Prelude.{ℕ, List}
 use Rattle.framing.specs.UbxForm.{ubx}
 use Rattle.framing.specs.SbfForm.{sbf}
-use Rattle.receiver_messages.specs.Sbf.{sbf_said}
-use Rattle.receiver_messages.specs.Ubx.{ubx_said}
+use Rattle.receiver_log.specs.Sbf.{sbf_said}
+use Rattle.receiver_log.specs.Ubx.{ubx_said}
 use Rattle.receiver_log.specs.Capture.{capture_of}
 use Rattle.rinex2_lines.specs.Files.{rinex3_of}
 use Rattle.whole_file.specs.declared.kinds.Kind.{Kind}

@@ -5,8 +5,8 @@ use Rattle.std.specs.Prelude.{Option, Some, None}
 use Rattle.gnss_week.specs.Weeks.{IsReference}
 use Rattle.page_send.specs.Slots.{text_of_items}
 use Rattle.capture_lines.specs.Texts.{half_text}
-use Rattle.receiver_messages.specs.declared.said.Content.{Content}
-use Rattle.receiver_messages.specs.declared.said.Content.TheVariants.{Refused, Subframe, Page}
+use Rattle.receiver_log.specs.declared.said.Content.{Content}
+use Rattle.receiver_log.specs.declared.said.Content.TheVariants.{Refused, Subframe, Page}
 use Rattle.receiver_log.specs.declared.reception.Reception.{Reception}
 use Rattle.receiver_log.specs.declared.state.LogState.{LogState}
 use Rattle.receiver_log.specs.Capture.{given, lines_from}

@@ -28,12 +28,12 @@ use Rattle.nav_laws.proofs.Surface.{AreSpelt, LineLaws, lines_are, no_cr, no_end
 use Rattle.framing.specs.Headings.{Heading, format_of}
 use Rattle.framing.specs.Messages.{messages}
 use Rattle.nav_bits.specs.Packed.{pack}
-use Rattle.receiver_messages.specs.Words.{read_words, subframe_bytes, word_fields}
-use Rattle.receiver_messages.specs.declared.said.Content.{Content}
-use Rattle.receiver_messages.specs.declared.said.Content.TheVariants.{Refused, Subframe, Page}
-use Rattle.receiver_messages.specs.declared.said.Reason.{Reason}
-use Rattle.receiver_messages.specs.declared.said.Said.{Said}
-use Rattle.receiver_messages.specs.declared.said.Said.TheVariants.{Other, Time, Heard, Dated}
+use Rattle.receiver_log.specs.Words.{read_words, subframe_bytes, word_fields}
+use Rattle.receiver_log.specs.declared.said.Content.{Content}
+use Rattle.receiver_log.specs.declared.said.Content.TheVariants.{Refused, Subframe, Page}
+use Rattle.receiver_log.specs.declared.said.Reason.{Reason}
+use Rattle.receiver_log.specs.declared.said.Said.{Said}
+use Rattle.receiver_log.specs.declared.said.Said.TheVariants.{Other, Time, Heard, Dated}
 use Rattle.receiver_log.specs.Capture as logs
 use Rattle.receiver_log.specs.Log.{begun, head_line, reason_in}
 use Rattle.receiver_log.specs.declared.reception.Reception.{Reception}

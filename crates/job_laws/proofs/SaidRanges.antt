@@ -12,22 +12,22 @@ use Rattle.nav_eph.specs.declared.signal.Signal.{Signal}
 use Rattle.nav_eph.specs.declared.signal.Signal.TheVariants.{E1b, E5b}
 use Rattle.gnss_week.specs.Functions.{moment_to}
 use Rattle.gnss_week.specs.declared.calendar.WeekFault.{WeekFault}
-use Rattle.receiver_messages.specs.Halves.{ubx_even, ubx_odd, sbf_even, sbf_odd}
-use Rattle.receiver_messages.specs.Numbers.{two_at, four_at, eight_at}
-use Rattle.receiver_messages.specs.Times.{digits_of, exponent_of, is_week, is_in_week, minute_at}
-use Rattle.receiver_messages.specs.Times.{nearest_to, places_of, time_in, nearest_time, time_of_date}
-use Rattle.receiver_messages.specs.Times.{time_of_raw, time_of_seconds, time_of_week, nearest_week}
-use Rattle.receiver_messages.specs.Words.{words_at}
-use Rattle.receiver_messages.specs.Sbf.{block_said, page_said, pages_said, sbf_said, subframe_said}
-use Rattle.receiver_messages.specs.Sbf.{time_at}
-use Rattle.receiver_messages.specs.Ubx.{galileo_words, gps_words, page_with, payload_of}
-use Rattle.receiver_messages.specs.Ubx.{payload_said, satellite_of, subframe_with, ubx_said}
-use Rattle.receiver_messages.specs.Ubx.{words_said}
-use Rattle.receiver_messages.specs.declared.said.Content.{Content}
-use Rattle.receiver_messages.specs.declared.said.Content.TheVariants.{Refused, Subframe, Page}
-use Rattle.receiver_messages.specs.declared.said.Reason.TheVariants.{Length}
-use Rattle.receiver_messages.specs.declared.said.Said.{Said}
-use Rattle.receiver_messages.specs.declared.said.Said.TheVariants.{Other, Time, Heard, Dated}
+use Rattle.receiver_log.specs.Halves.{ubx_even, ubx_odd, sbf_even, sbf_odd}
+use Rattle.receiver_log.specs.Numbers.{two_at, four_at, eight_at}
+use Rattle.receiver_log.specs.Times.{digits_of, exponent_of, is_week, is_in_week, minute_at}
+use Rattle.receiver_log.specs.Times.{nearest_to, places_of, time_in, nearest_time, time_of_date}
+use Rattle.receiver_log.specs.Times.{time_of_raw, time_of_seconds, time_of_week, nearest_week}
+use Rattle.receiver_log.specs.Words.{words_at}
+use Rattle.receiver_log.specs.Sbf.{block_said, page_said, pages_said, sbf_said, subframe_said}
+use Rattle.receiver_log.specs.Sbf.{time_at}
+use Rattle.receiver_log.specs.Ubx.{galileo_words, gps_words, page_with, payload_of}
+use Rattle.receiver_log.specs.Ubx.{payload_said, satellite_of, subframe_with, ubx_said}
+use Rattle.receiver_log.specs.Ubx.{words_said}
+use Rattle.receiver_log.specs.declared.said.Content.{Content}
+use Rattle.receiver_log.specs.declared.said.Content.TheVariants.{Refused, Subframe, Page}
+use Rattle.receiver_log.specs.declared.said.Reason.TheVariants.{Length}
+use Rattle.receiver_log.specs.declared.said.Said.{Said}
+use Rattle.receiver_log.specs.declared.said.Said.TheVariants.{Other, Time, Heard, Dated}
 
 -- a time is in the weeks that are accepted from receivers, or at the end of the last
 abbrev pub IsTime : Option ℕ → Type 0

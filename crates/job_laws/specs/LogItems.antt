@@ -2,10 +2,10 @@
 use Rattle.std.specs.Prelude.{ℕ, ◌-◌, ◌*◌, ◌/◌, List, [], ◌∷◌, ◌++◌, Option, Some, None}
 use Rattle.capture_lines.specs.declared.item.LineItem.{LineItem}
 use Rattle.capture_lines.specs.declared.item.LineItem.TheVariants.{Lnav, Half}
-use Rattle.receiver_messages.specs.Words.{read_words, subframe_bytes}
-use Rattle.receiver_messages.specs.declared.said.Content.{Content}
-use Rattle.receiver_messages.specs.declared.said.Content.TheVariants.{Refused, Subframe, Page}
-use Rattle.receiver_messages.specs.declared.said.Reason.{Reason}
+use Rattle.receiver_log.specs.Words.{read_words, subframe_bytes}
+use Rattle.receiver_log.specs.declared.said.Content.{Content}
+use Rattle.receiver_log.specs.declared.said.Content.TheVariants.{Refused, Subframe, Page}
+use Rattle.receiver_log.specs.declared.said.Reason.{Reason}
 use Rattle.receiver_log.specs.declared.reception.Reception.{Reception}
 use Rattle.receiver_log.specs.Log.{reason_in}
 

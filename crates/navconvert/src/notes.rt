@@ -3,8 +3,7 @@
 
 use crate::tally::Reported;
 use nav_io::Failed;
-use receiver_log::{Refused, refusal};
-use receiver_messages::Reason;
+use receiver_log::{Reason, Refused, refusal};
 
 /// Who writes the messages of a log that are rejected to the report.
 #[derive(Drop)]

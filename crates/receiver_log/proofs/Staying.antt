@@ -7,10 +7,10 @@ use Rattle.std.proofs.lemmas.List.{map-append}
 use Rattle.std.specs.Prelude.{Option, Some, None}
 use Rattle.framing.specs.Headings.{Heading, format_of}
 use Rattle.framing.specs.Messages.{Format, decided, messages, messages_past, undecided}
-use Rattle.receiver_messages.specs.Systems.{SaysTimes}
-use Rattle.receiver_messages.specs.declared.said.Content.{Content}
-use Rattle.receiver_messages.specs.declared.said.Said.{Said}
-use Rattle.receiver_messages.specs.declared.said.Said.TheVariants.{Other, Time, Heard, Dated}
+use Rattle.receiver_log.specs.Systems.{SaysTimes}
+use Rattle.receiver_log.specs.declared.said.Content.{Content}
+use Rattle.receiver_log.specs.declared.said.Said.{Said}
+use Rattle.receiver_log.specs.declared.said.Said.TheVariants.{Other, Time, Heard, Dated}
 use Rattle.receiver_log.specs.declared.reception.Reception.{Reception}
 use Rattle.receiver_log.specs.Log.{one_more}
 use Rattle.receiver_log.specs.Mirrors.{behind_time, decision, stamped}

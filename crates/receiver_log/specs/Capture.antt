@@ -5,8 +5,8 @@ use Rattle.framing.specs.Messages.{messages, decided}
 use Rattle.framing.specs.Headings.{Heading, format_of}
 use Rattle.one_run.specs.Reports.{report_line}
 use Rattle.one_run.specs.Runs.{Meaning}
-use Rattle.receiver_messages.specs.declared.said.Reason.{Reason}
-use Rattle.receiver_messages.specs.declared.said.Said.{Said}
+use Rattle.receiver_log.specs.declared.said.Reason.{Reason}
+use Rattle.receiver_log.specs.declared.said.Said.{Said}
 use Rattle.receiver_log.specs.declared.reception.Reception.{Reception}
 use Rattle.receiver_log.specs.declared.state.LogCounts.{LogCounts}
 use Rattle.receiver_log.specs.declared.state.LogState.{LogState}

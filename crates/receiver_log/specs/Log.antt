@@ -5,13 +5,13 @@ use Rattle.std.specs.Prelude.{Option, Some, None}
 use Rattle.nav_eph.specs.Satellite.{Satellite}
 use Rattle.nav_eph.specs.declared.signal.Signal.{Signal}
 use Rattle.capture_lines.specs.Texts.{lnav_text, half_text}
-use Rattle.receiver_messages.specs.Words.{read_words, has_good_reading, is_inverted, subframe_bytes}
-use Rattle.receiver_messages.specs.declared.said.Content.{Content}
-use Rattle.receiver_messages.specs.declared.said.Content.TheVariants.{Refused, Subframe, Page}
-use Rattle.receiver_messages.specs.declared.said.Reason.{Reason}
-use Rattle.receiver_messages.specs.declared.said.Reason.TheVariants.{Untimed, Late, Far}
-use Rattle.receiver_messages.specs.declared.said.Said.{Said}
-use Rattle.receiver_messages.specs.declared.said.Said.TheVariants.{Other, Time, Heard, Dated}
+use Rattle.receiver_log.specs.Words.{read_words, has_good_reading, is_inverted, subframe_bytes}
+use Rattle.receiver_log.specs.declared.said.Content.{Content}
+use Rattle.receiver_log.specs.declared.said.Content.TheVariants.{Refused, Subframe, Page}
+use Rattle.receiver_log.specs.declared.said.Reason.{Reason}
+use Rattle.receiver_log.specs.declared.said.Reason.TheVariants.{Untimed, Late, Far}
+use Rattle.receiver_log.specs.declared.said.Said.{Said}
+use Rattle.receiver_log.specs.declared.said.Said.TheVariants.{Other, Time, Heard, Dated}
 use Rattle.receiver_log.specs.declared.state.LogState.{LogState}
 use Rattle.receiver_log.specs.declared.state.CaptureCounts.{CaptureCounts}
 use Rattle.receiver_log.specs.declared.state.MessageCounts.{MessageCounts}

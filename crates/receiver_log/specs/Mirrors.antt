@@ -3,8 +3,8 @@ use Rattle.std.specs.Prelude.{ℕ, min, ◌+◌, ◌*◌, ◌&&◌, Bool, if◌t
 use Rattle.std.specs.Prelude.{◌++◌, length, map, Option, Some, None}
 use Rattle.framing.specs.Headings.{Heading, format_of}
 use Rattle.framing.specs.Messages.{messages_past}
-use Rattle.receiver_messages.specs.declared.said.Said.{Said}
-use Rattle.receiver_messages.specs.declared.said.Said.TheVariants.{Other, Time, Heard, Dated}
+use Rattle.receiver_log.specs.declared.said.Said.{Said}
+use Rattle.receiver_log.specs.declared.said.Said.TheVariants.{Other, Time, Heard, Dated}
 use Rattle.receiver_log.specs.declared.queue.Pending.{Pending}
 use Rattle.receiver_log.specs.declared.reception.Reception.{Reception}
 use Rattle.receiver_log.specs.declared.state.MessageCounts.{MessageCounts}

@@ -1,9 +1,9 @@
 -- The report of a log.
 use Rattle.std.specs.Prelude.{ℕ, ◌-◌, List, ◌++◌, codes}
 use Rattle.one_run.specs.Reports.{count_line}
-use Rattle.receiver_messages.specs.declared.said.Reason.{Reason}
-use Rattle.receiver_messages.specs.declared.said.Reason.TheVariants.{Length, Satellite, Untimed}
-use Rattle.receiver_messages.specs.declared.said.Reason.TheVariants.{Late, Far}
+use Rattle.receiver_log.specs.declared.said.Reason.{Reason}
+use Rattle.receiver_log.specs.declared.said.Reason.TheVariants.{Length, Satellite, Untimed}
+use Rattle.receiver_log.specs.declared.said.Reason.TheVariants.{Late, Far}
 use Rattle.receiver_log.specs.declared.state.LogCounts.{LogCounts}
 
 -- the report's word for a reason

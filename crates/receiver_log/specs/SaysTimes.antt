@@ -1,11 +1,11 @@
 -- In each format the messages have times of their own, or else time messages come between them.
 use Rattle.std.specs.Prelude.{◌==◌, ◌&&◌, ◌%◌, ℕ, Bool, true, false, refl, if◌then◌else◌}
 use Rattle.std.specs.Prelude.{nat_lt, nat_le, List, length, slice_index}
-use Rattle.receiver_messages.specs.Numbers.{two_at}
-use Rattle.receiver_messages.specs.Sbf.{block_said, pages_said, sbf_said, subframe_said}
-use Rattle.receiver_messages.specs.Systems.{SaysTimes}
-use Rattle.receiver_messages.specs.Ubx.{payload_of, payload_said, ubx_said, words_said}
-use Rattle.receiver_messages.specs.declared.said.Said.{Said}
+use Rattle.receiver_log.specs.Numbers.{two_at}
+use Rattle.receiver_log.specs.Sbf.{block_said, pages_said, sbf_said, subframe_said}
+use Rattle.receiver_log.specs.Systems.{SaysTimes}
+use Rattle.receiver_log.specs.Ubx.{payload_of, payload_said, ubx_said, words_said}
+use Rattle.receiver_log.specs.declared.said.Said.{Said}
 
 says_if : (has_times b : Bool) (x y : Said) → SaysTimes has_times x → SaysTimes has_times y
     → SaysTimes has_times (if b then x else y)

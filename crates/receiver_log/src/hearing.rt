@@ -5,8 +5,8 @@ ghost use Rattle.std.specs.Prelude.{◌^◌, ◌<◌, ◌≤◌, ◌++◌};
 ghost use Rattle.arrayvec.specs.ArrayVec.{array_vec_len};
 ghost use Rattle.std.specs.Prelude.{ℕ, Some, IfNone};
 ghost use Rattle.nav_eph.specs.declared.sat.System.TheVariants.{Gps, Gal};
-ghost use Rattle.receiver_messages.specs.declared.said.Content.TheVariants.{Subframe, Page};
-ghost use Rattle.receiver_messages.specs.Systems.{IsOfSystem};
+ghost use Rattle.receiver_log.specs.declared.said.Content.TheVariants.{Subframe, Page};
+ghost use Rattle.receiver_log.specs.Systems.{IsOfSystem};
 ghost use Rattle.receiver_log.specs.Capture.{given};
 ghost use Rattle.receiver_log.specs.Log.{Gives, given_at, head_text, refused_by};
 ghost use Rattle.receiver_log.specs.Log.{reason_in as reason_of, week_of as head_week};
@@ -17,7 +17,7 @@ use crate::state::LogState;
 use gnss_week::Moment;
 use nav_bits::{Bits, U};
 use nav_eph::{Sat, Signal};
-use receiver_messages::{Content, Reason, read_words, subframe_bits};
+use crate::{Content, Reason, read_words, subframe_bits};
 
 // The seconds of a week.
 const WEEK: u64 = 604_800;

@@ -1,3 +1,19 @@
+//! Decoding of GNSS receiver messages for a capture: times, GPS LNAV subframes and Galileo I/NAV
+//! pages, from u-blox UBX and Septentrio SBF.
+//!
+//! - [`ubx_said`] and [`sbf_said`], the content of a complete message ([`Said`]): a time, a
+//!   subframe or a page ([`Content`]), or nothing that is used;
+//! - [`read_words`], the ten words of a subframe as sent, in whichever of three ways the receiver
+//!   logged them (IS-GPS-200, 20.3.5.2), and [`subframe_bits`], their 300 bits.
+//!
+//! ```rust
+//! match ubx_said(message) {
+//!     Said::Time(time) => set_time(time),
+//!     Said::Heard(Content::Subframe { sat, words }) => use_bits(sat, &subframe_bits(&words)),
+//!     _ => {}
+//! }
+//! ```
+//!
 //! Captures of GNSS receiver logs.
 //!
 //! A receiver's log has UBX messages or SBF blocks, with any other bytes between them. Its GPS LNAV
@@ -19,22 +35,35 @@
 //! ```
 #![tactic(auto)]
 
+mod halves;
 mod hearing;
+mod laws;
 mod lines;
 mod log;
+mod numbers;
 mod queue;
 mod receiver;
 mod reception;
 mod report;
 mod run;
+mod said;
+mod sbf;
 mod source;
 mod state;
+mod times;
+mod ubx;
+mod words;
 
 pub use crate::hearing::hear;
+pub use crate::laws::{one_reading_is_good, sent_words_are_read};
 pub use crate::lines::LineBuffer;
 pub use crate::receiver::Receiver;
 pub use crate::reception::Reception;
 pub use crate::report::{Nobody, Refused, counts_text, refusal};
 pub use crate::run::run_log;
+pub use crate::said::{Content, Reason, Said};
+pub use crate::sbf::sbf_said;
 pub use crate::source::{LogParts, LogSource};
 pub use crate::state::{CaptureCounts, LogCounts, LogState, MessageCounts};
+pub use crate::ubx::ubx_said;
+pub use crate::words::{ReadWords, read_words, subframe_bits};

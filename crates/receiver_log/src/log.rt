@@ -9,7 +9,7 @@ ghost use Rattle.nav_io.specs.Prefix.{AppendsPrefix};
 ghost use Rattle.framing.specs.Headings.{format_of};
 ghost use Rattle.framing.specs.MessageState.{MayFeed};
 ghost use Rattle.receiver_log.specs.Capture.{refusal_line};
-ghost use Rattle.receiver_messages.specs.declared.said.Said.{Said as SaidNow};
+ghost use Rattle.receiver_log.specs.declared.said.Said.{Said as SaidNow};
 ghost use Rattle.receiver_log.specs.Log.{counted};
 ghost use Rattle.receiver_log.specs.Mirrors.{to_come, work_left};
 ghost use Rattle.receiver_log.specs.Steps.{Advances, Breaks, BreaksLast, HearsLast, HearsOne};
@@ -25,7 +25,7 @@ use arrayvec::ArrayVec;
 use nav_io::{Failed, Source};
 use one_run::{BridgeFault, read_piece};
 use framing::MessageDeframer;
-use receiver_messages::{Reason, Said};
+use crate::{Reason, Said};
 
 // The most bytes of one read.
 const PIECE: usize = 16_384;

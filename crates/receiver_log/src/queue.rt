@@ -3,9 +3,9 @@
 ghost use Rattle.std.specs.Prelude.{◌≡◌, ℕ, Bool, List, ◌∷◌, [], Some, None, ◌≤◌, ◌<◌, ◌+◌, ◌-◌};
 ghost use Rattle.arrayvec.specs.ArrayVec.{array_vec_len};
 ghost use Rattle.std.specs.Prelude.{◌++◌, IfSome, IfNone, ◌⊎◌, All, length, drop, true, false};
-ghost use Rattle.receiver_messages.specs.Systems.{IsOfSystem};
-ghost use Rattle.receiver_messages.specs.declared.said.Said.{Said};
-ghost use Rattle.receiver_messages.specs.declared.said.Said.TheVariants.{Time, Heard, Dated};
+ghost use Rattle.receiver_log.specs.Systems.{IsOfSystem};
+ghost use Rattle.receiver_log.specs.declared.said.Said.{Said};
+ghost use Rattle.receiver_log.specs.declared.said.Said.TheVariants.{Time, Heard, Dated};
 ghost use Rattle.receiver_log.specs.Log.{one_more};
 ghost use Rattle.receiver_log.specs.Mirrors.{to_come, empty_queue};
 ghost use Rattle.receiver_log.specs.Receptions.{between as time_between};
@@ -13,7 +13,7 @@ ghost use Rattle.receiver_log.specs.Receptions.{between as time_between};
 use crate::reception::Reception;
 use arrayvec::ArrayVec;
 use gnss_week::Moment;
-use receiver_messages::{Content, Reason};
+use crate::{Content, Reason};
 use std::marker::Model;
 
 // The most subframes and pages between two time messages.
@@ -55,7 +55,7 @@ pub struct Queue {
 
 impl Model for Queue {
     ghost use Rattle.std.specs.Prelude.{◌≡◌, ◌≤◌, [], None, All, length, drop};
-    ghost use Rattle.receiver_messages.specs.Systems.{IsOfSystem};
+    ghost use Rattle.receiver_log.specs.Systems.{IsOfSystem};
     ghost use Rattle.receiver_log.specs.Mirrors.{QueueState};
 
     ghost Value = { QueueState };

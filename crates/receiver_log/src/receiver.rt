@@ -1,14 +1,14 @@
 //! Formats of receivers.
 
 ghost use Rattle.std.specs.Prelude.{◌≡◌, List, ℕ, Bool, true, false};
-ghost use Rattle.receiver_messages.specs.declared.said.Said.{Said as WhatIsSaid};
-ghost use Rattle.receiver_messages.specs.Sbf.{sbf_said as sbf_says};
-ghost use Rattle.receiver_messages.specs.Ubx.{ubx_said as ubx_says};
-ghost use Rattle.receiver_messages.specs.Systems.{SaysOfSystem, SaysTimes};
+ghost use Rattle.receiver_log.specs.declared.said.Said.{Said as WhatIsSaid};
+ghost use Rattle.receiver_log.specs.Sbf.{sbf_said as sbf_says};
+ghost use Rattle.receiver_log.specs.Ubx.{ubx_said as ubx_says};
+ghost use Rattle.receiver_log.specs.Systems.{SaysOfSystem, SaysTimes};
 ghost use Rattle.receiver_log.specs.SaysTimes.{sbf_says_times, ubx_says_times};
 
 use framing::{Judge, SbfJudge, UbxJudge};
-use receiver_messages::{Said, sbf_said, ubx_said};
+use crate::{Said, sbf_said, ubx_said};
 
 /// A format of messages, and their content.
 pub trait Receiver: Judge {

@@ -1,7 +1,7 @@
 //! Subframes and pages as they were received.
 
 use gnss_week::Moment;
-use receiver_messages::Content;
+use crate::Content;
 
 /// A subframe or a page of a log, or the reason why a message gives none.
 #[derive(Clone, Copy, PartialEq, Eq)]

@@ -11,7 +11,7 @@ ghost use Rattle.receiver_log.specs.Report.{counts_report, reason_word};
 use crate::state::LogCounts;
 use nav_io::{Failed, Sink};
 use one_run::{Text, append_count, report_text};
-use receiver_messages::Reason;
+use crate::Reason;
 
 /// Who is notified of rejected messages: any sink, as lines of a report, or [`Nobody`].
 pub trait Refused {

@@ -15,7 +15,7 @@ use crate::report::Refused;
 use crate::state::{Log, LogCounts};
 use nav_io::{Failed, Source};
 use one_run::BridgeFault;
-use receiver_messages::Reason;
+use crate::Reason;
 
 // Tells another of rejected messages, whether or not it can take note: that changes nothing of what
 // is read.

@@ -7,7 +7,7 @@ use crate::lines::LineBuffer;
 use crate::queue::Queue;
 use crate::receiver::Receiver;
 use framing::MessageDeframer;
-use receiver_messages::Said;
+use crate::Said;
 
 /// LogCounts of a log's messages. Each saturates at 18,446,744,073,709,551,615.
 #[derive(Clone, Copy, PartialEq, Eq)]

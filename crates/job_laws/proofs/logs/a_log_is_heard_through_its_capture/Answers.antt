@@ -1,7 +1,7 @@
 use Rattle.framing.specs.UbxForm.{ubx}
 use Rattle.framing.specs.SbfForm.{sbf}
-use Rattle.receiver_messages.specs.Sbf.{sbf_said}
-use Rattle.receiver_messages.specs.Ubx.{ubx_said}
+use Rattle.receiver_log.specs.Sbf.{sbf_said}
+use Rattle.receiver_log.specs.Ubx.{ubx_said}
 use Rattle.job_laws.proofs.LogLines.{ChainLaws, heard_through}
 use Rattle.job_laws.proofs.SaidRanges.{sbf_said_is, ubx_said_is}
 use Rattle.job_laws.proofs.logs.a_log_is_heard_through_its_capture.Goals as goal
