@@ -3,7 +3,7 @@ use Rattle.std.specs.Prelude.{ℕ, ◌+◌, ◌*◌, ◌==◌, bytes_eq, if◌th
 use Rattle.std.specs.Cmp.Lexicographic.{slice_cmp}
 use Rattle.std.specs.Ordering.{int_cmp, nat_cmp, on, then_cmp}
 use Rattle.std.specs.declared.cmp.Ordering.{Ordering}
-use Rattle.carried_records.specs.CarriedLines.{record_text}
+use Rattle.rinex_lines.specs.CarriedLines.{record_text}
 use Rattle.rinex_read.specs.Judging.{moment_at}
 use Rattle.rinex_read.specs.Lines.{columns}
 use Rattle.rinex_read.specs.declared.reason.Reason.{Reason}

@@ -1,7 +1,7 @@
 -- What a run over a navigation file of all systems writes and counts.
 use Rattle.std.specs.Prelude.{ℕ, not, Bool, true, false, List, [], ◌∷◌, ◌++◌, codes, length, filter, map, sum, if◌then◌else◌, Option, None, Ok, Err}
 use Rattle.std.proofs.Common.{inl, inr}
-use Rattle.carried_records.specs.CarriedLines.{record_text}
+use Rattle.rinex_lines.specs.CarriedLines.{record_text}
 use Rattle.std.specs.List.{flat_map}
 use Rattle.nav_eph.specs.declared.items.NavItem.TheVariants.{Gps, Gal, Ion}
 use Rattle.nav_files.specs.Files.{file_meaning}

@@ -15,7 +15,7 @@ ghost use Rattle.all_systems.specs.Merging.{record_part};
 ghost use Rattle.all_systems.specs.Selecting.{digit};
 
 use crate::select::digit;
-use carried_records::record_text;
+use rinex_lines::record_text;
 use gnss_week::Moment;
 use nav_io::{Failed, Sink};
 use outlets::Target;

@@ -14,7 +14,7 @@ ghost use Rattle.all_systems.specs.FileMirrors.{HasFields, view_given};
 
 use crate::held::Held;
 use crate::file_read::Given;
-use carried_records::record_text;
+use rinex_lines::record_text;
 use nav_eph::NavItem;
 use nav_io::{Failed, Sink};
 use nav_rows::{Kind, Row};

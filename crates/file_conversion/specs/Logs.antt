@@ -5,7 +5,7 @@ use Rattle.framing.specs.SbfForm.{sbf}
 use Rattle.receiver_log.specs.Sbf.{sbf_said}
 use Rattle.receiver_log.specs.Ubx.{ubx_said}
 use Rattle.receiver_log.specs.Capture.{capture_of}
-use Rattle.rinex2_lines.specs.Files.{rinex3_of}
+use Rattle.rinex_lines.specs.Files.{rinex3_of}
 use Rattle.whole_file.specs.declared.kinds.Kind.{Kind}
 use Rattle.whole_file.specs.declared.kinds.Kind.TheVariants as kinds
 

@@ -10,7 +10,7 @@ use file_diff::{FileItems, ReadCounts, read_items, write_differences};
 use nav_io::{Failed, WriteSink};
 use one_run::BridgeFault;
 use rinex_read::{Rinex3, Rinex4};
-use rinex2_lines::Rinex2Source;
+use rinex_lines::Rinex2Source;
 use std::io::ErrorKind;
 use std::slice::from_ref;
 use whole_file::{FileFault, Kind, PeekFault, Peeked, fault_of, look};
