@@ -3,8 +3,8 @@ use Rattle.std.proofs.Common.{◌≡◌, ℕ, Bool, true, false, not, if◌then�
 use Rattle.std.specs.Prelude.{filter}
 use Rattle.std.specs.List.{flat_map}
 use Rattle.std.proofs.lemmas.Grind.{flat_map-append}
-use Rattle.outlets.specs.Targets.{back_text, prefix_text}
-use Rattle.outlets.specs.declared.target.Target.{Target}
+use Rattle.streams.specs.Targets.{back_text, prefix_text}
+use Rattle.streams.specs.declared.target.Target.{Target}
 use Rattle.all_systems.specs.Streams.{Numbered, text_of}
 use Rattle.all_systems.specs.Files.{carried_in, carried_lines, counts_of, counts_text, early_items, first_text, held_by, held_text, is_last, is_late, items_in, last_text, lasts_in, late_items, nav_items, numbered, read_text, reading_text, whole_by, whole_text}
 use Rattle.all_systems.specs.FileReadings.{LineRead, Reading, refused, carried, passed}

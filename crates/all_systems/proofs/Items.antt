@@ -3,8 +3,8 @@ use Rattle.std.proofs.Common.{◌≡◌, ℕ, ◌+◌, Bool, true, false, if◌t
 use Rattle.std.specs.Prelude.{IsOk, Option, None, Some, Result}
 use Rattle.std.specs.List.{flat_map}
 use Rattle.nav_files.specs.Files.{convert_text, read_text as nav_text, text_in}
-use Rattle.outlets.specs.Targets.{item_text, prefix_text}
-use Rattle.outlets.specs.declared.target.Target.{Target}
+use Rattle.streams.specs.Targets.{item_text, prefix_text}
+use Rattle.streams.specs.declared.target.Target.{Target}
 use Rattle.nav_eph.specs.declared.items.NavItem.{NavItem}
 use Rattle.nav_rows.specs.Rows.{RowValue}
 use Rattle.nav_rows.specs.declared.kind.Kind.{Kind}

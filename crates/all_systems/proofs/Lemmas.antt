@@ -12,10 +12,10 @@ use Rattle.nav_rows.specs.declared.kind.Kind.{Kind}
 use Rattle.nav_rows.specs.declared.row.RowFault.{RowFault}
 use Rattle.nav_rows.specs.Order.{KindRow, rank}
 use Rattle.nav_rows.specs.Rows.{RowValue, row_in}
-use Rattle.outlets.specs.Targets.{prefix_text}
-use Rattle.outlets.specs.Times.{with_time}
-use Rattle.outlets.specs.declared.target.Target.{Target}
-use Rattle.outlets.specs.declared.times.Times.{Times}
+use Rattle.streams.specs.Targets.{prefix_text}
+use Rattle.streams.specs.Times.{with_time}
+use Rattle.streams.specs.declared.target.Target.{Target}
+use Rattle.streams.specs.declared.times.Times.{Times}
 use Rattle.rtcm_eph.specs.Reading.{item_in}
 use Rattle.rtcm_eph.specs.declared.fault.MessageFault.{MessageFault}
 use Rattle.rtcm_eph.specs.declared.fault.MessageFault.TheVariants.{NoNumber, OtherMessage, Short, BadSat, BadTime, SpareSisa}

@@ -9,7 +9,7 @@ use Rattle.std.specs.declared.cmp.Ordering.{Ordering}
 use Rattle.std.specs.declared.cmp.Ordering.TheVariants.{Less, Equal, Greater}
 use Rattle.nav_eph.specs.declared.items.NavItem.{NavItem}
 use Rattle.nav_rows.specs.Order.{KindRow, by_place, by_rank}
-use Rattle.outlets.specs.declared.target.Target.{Target}
+use Rattle.streams.specs.declared.target.Target.{Target}
 use Rattle.nav_lists.specs.Ranks.{first_of, ranked_of, with_value}
 use Rattle.all_systems.specs.Readings.{Item}
 use Rattle.all_systems.specs.MergeMirrors.{held}

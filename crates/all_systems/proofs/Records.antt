@@ -4,8 +4,8 @@ use Rattle.std.specs.Prelude.{Option, None}
 use Rattle.std.specs.List.{sum_by}
 use Rattle.std.proofs.lemmas.List.{map-append}
 use Rattle.std.proofs.lemmas.List.Sums.{sum-map, sum_by-append}
-use Rattle.outlets.specs.declared.target.Target.{Target}
-use Rattle.outlets.specs.declared.times.Times.{Times}
+use Rattle.streams.specs.declared.target.Target.{Target}
+use Rattle.streams.specs.declared.times.Times.{Times}
 use Rattle.all_systems.specs.Files.{counts_by, counts_of, is_unwritten, first_text, times_after, times_over}
 use Rattle.all_systems.specs.FileMirrors.{counted}
 use Rattle.all_systems.specs.FileReadings.{LineRead, Reading, is_carried, is_item, is_passed, is_refused, reading_report, readings}

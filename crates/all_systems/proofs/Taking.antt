@@ -12,7 +12,7 @@ use Rattle.one_run.specs.Runs.{AppendsBetween}
 use Rattle.one_run.proofs.Surface.{between_behind, between_whole, between_within, prefix_same, prefix_trans}
 use Rattle.nav_eph.specs.declared.items.NavItem.{NavItem}
 use Rattle.nav_rows.specs.Order.{KindRow, rank}
-use Rattle.outlets.specs.declared.target.Target.{Target}
+use Rattle.streams.specs.declared.target.Target.{Target}
 use Rattle.rtcm_eph.specs.Reading.{item_in}
 use Rattle.rtcm_eph.specs.declared.fault.MessageFault.{MessageFault}
 use Rattle.framing.specs.State.{payload_of}

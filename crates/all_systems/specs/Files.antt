@@ -8,11 +8,11 @@ use Rattle.nav_files.specs.Files.{file_meaning}
 use Rattle.nav_rows.specs.Encoding.{message_of}
 use Rattle.one_run.specs.Reports.{count_line}
 use Rattle.one_run.specs.Runs.{Meaning}
-use Rattle.outlets.specs.Targets.{back_text, prefix_text}
-use Rattle.outlets.specs.Times.{with_time}
-use Rattle.outlets.specs.declared.target.Target.{Target}
-use Rattle.outlets.specs.declared.target.Target.TheVariants.{Rinex, Rinex3, Rtcm, ToList, Count}
-use Rattle.outlets.specs.declared.times.Times.{Times}
+use Rattle.streams.specs.Targets.{back_text, prefix_text}
+use Rattle.streams.specs.Times.{with_time}
+use Rattle.streams.specs.declared.target.Target.{Target}
+use Rattle.streams.specs.declared.target.Target.TheVariants.{Rinex, Rinex3, Rtcm, ToList, Count}
+use Rattle.streams.specs.declared.times.Times.{Times}
 use Rattle.rinex_read.specs.Files.{file_reads, records_in}
 use Rattle.rinex_read.specs.Form3.{rinex3}
 use Rattle.rinex_read.specs.Forms.{Form, rinex4}

@@ -10,9 +10,9 @@ use Rattle.nav_files.specs.Files.{file_meaning}
 use Rattle.nav_rows.specs.Order.{KindRow, by_place, by_rank, front_of}
 use Rattle.one_run.specs.Reports.{count_line}
 use Rattle.one_run.specs.Runs.{Meaning}
-use Rattle.outlets.specs.Targets.{prefix_text}
-use Rattle.outlets.specs.declared.target.Target.{Target}
-use Rattle.outlets.specs.declared.target.Target.TheVariants.{Rinex, Rinex3, Rtcm, ToList, Count}
+use Rattle.streams.specs.Targets.{prefix_text}
+use Rattle.streams.specs.declared.target.Target.{Target}
+use Rattle.streams.specs.declared.target.Target.TheVariants.{Rinex, Rinex3, Rtcm, ToList, Count}
 use Rattle.nav_lists.specs.Ranks.{ranked_of}
 use Rattle.rinex_read.specs.Files.{file_reads, records_in}
 use Rattle.rinex_write.specs.declared.words.HeaderWords.{HeaderWords}

@@ -10,11 +10,11 @@ use Rattle.nav_rows.specs.Encoding.{message_of}
 use Rattle.nav_rows.specs.Order.{KindRow, by_rank}
 use Rattle.nav_rows.specs.Rows.{body_text, record_text}
 use Rattle.one_run.specs.Runs.{Meaning}
-use Rattle.outlets.specs.Targets.{back_text, item_text, prefix_text}
-use Rattle.outlets.specs.Times.{with_time}
-use Rattle.outlets.specs.declared.target.Target.{Target}
-use Rattle.outlets.specs.declared.target.Target.TheVariants.{Rinex, Rinex3, Rtcm, ToList, Count}
-use Rattle.outlets.specs.declared.times.Times.{Times}
+use Rattle.streams.specs.Targets.{back_text, item_text, prefix_text}
+use Rattle.streams.specs.Times.{with_time}
+use Rattle.streams.specs.declared.target.Target.{Target}
+use Rattle.streams.specs.declared.target.Target.TheVariants.{Rinex, Rinex3, Rtcm, ToList, Count}
+use Rattle.streams.specs.declared.times.Times.{Times}
 use Rattle.rinex_write.specs.Fields.{epoch_of}
 use Rattle.framing.specs.Writing.{frame_bytes}
 use Rattle.streams.specs.Streams.{stream_counts_text}

@@ -18,7 +18,7 @@ use crate::select::digit;
 use rinex_lines::record_text;
 use gnss_week::Moment;
 use nav_io::{Failed, Sink};
-use outlets::Target;
+use streams::Target;
 use nav_lists::Ranked;
 use rinex_read::{columns, read_row_lines};
 use rinex_write::{Column, RecordLayout};

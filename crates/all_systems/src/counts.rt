@@ -1,13 +1,13 @@
 //! What a run over a navigation file of all systems counts.
 
 ghost use Rattle.std.specs.Prelude.{◌≡◌, ◌+◌, ◌^◌, ◌<◌, []};
-ghost use Rattle.outlets.specs.declared.target.Target.{Target};
+ghost use Rattle.streams.specs.declared.target.Target.{Target};
 ghost use Rattle.all_systems.specs.Files.{counts_by, counts_text, times_after};
 ghost use Rattle.all_systems.specs.FileMirrors.{AreCounted, counted, view_given};
 
 use crate::file_read::Given;
 use one_run::{Text, append_count};
-use outlets::{Times, with_item, with_time};
+use streams::{Times, with_item, with_time};
 
 /// What a run over a navigation file counts.
 #[derive(Clone, Copy, PartialEq, Eq)]

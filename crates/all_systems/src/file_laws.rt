@@ -4,8 +4,8 @@
 ghost use Rattle.std.specs.Prelude.{◌≡◌, ◌++◌, ℕ, List, [], IsOk};
 ghost use Rattle.std.specs.List.{flat_map};
 ghost use Rattle.nav_files.specs.Files.{convert_meaning};
-ghost use Rattle.outlets.specs.Targets.{back_text, prefix_text};
-ghost use Rattle.outlets.specs.declared.target.Target.{Target};
+ghost use Rattle.streams.specs.Targets.{back_text, prefix_text};
+ghost use Rattle.streams.specs.declared.target.Target.{Target};
 ghost use Rattle.rinex_read.specs.Files.{file_reads, list_by};
 ghost use Rattle.all_systems.specs.Streams.{Numbered, navs, text_of};
 ghost use Rattle.all_systems.specs.declared.kinds.Kinds.{Kinds};

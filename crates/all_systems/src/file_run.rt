@@ -19,7 +19,7 @@ use crate::version::Version;
 use nav_files::{Taker, reason_word, run_file};
 use nav_io::{Failed, Sink, Source};
 use one_run::{BridgeFault, Text, report_text};
-use outlets::Target;
+use streams::Target;
 use std::alloc::Global;
 use crate::Kinds;
 

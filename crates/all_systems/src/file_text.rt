@@ -3,7 +3,7 @@
 ghost use Rattle.std.specs.Prelude.{◌≡◌, ◌≤◌, ◌++◌, IfErr, IfOk, Ok, OnOk, length};
 ghost use Rattle.std.proofs.Common.{inl, inr};
 ghost use Rattle.nav_io.specs.Writes.{Writes};
-ghost use Rattle.outlets.specs.Targets.{back_text};
+ghost use Rattle.streams.specs.Targets.{back_text};
 ghost use Rattle.rinex_write.specs.Columns.{AreFields};
 ghost use Rattle.nav_rows.specs.Kinds.{IsKind};
 ghost use Rattle.nav_rows.specs.Rows.{value};
@@ -19,7 +19,7 @@ use nav_eph::NavItem;
 use nav_io::{Failed, Sink};
 use nav_rows::{Kind, Row};
 use one_run::BridgeFault;
-use outlets::Target;
+use streams::Target;
 use crate::{put_message, put_row};
 
 // Whether an item is an ephemeris.

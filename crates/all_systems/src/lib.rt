@@ -6,7 +6,7 @@
 //! the same order; the others come from the tables of [`nav_rows`].
 //!
 //! ```rust
-//! use outlets::Target;
+//! use streams::Target;
 //! use all_systems::{Kinds, run_systems};
 //!
 //! let kinds = Kinds::all();
@@ -25,7 +25,7 @@
 //! writes each ephemeris and each carried record once, in order of time.
 //!
 //! ```rust
-//! use outlets::Target;
+//! use streams::Target;
 //! use all_systems::{Version, run_system_file};
 //! use all_systems::Kinds;
 //!

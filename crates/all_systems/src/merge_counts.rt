@@ -4,7 +4,7 @@ ghost use Rattle.std.specs.Prelude.{◌≡◌};
 ghost use Rattle.all_systems.specs.Merging.{merge_counts_text};
 
 use one_run::{Text, append_count};
-use outlets::Times;
+use streams::Times;
 
 /// What a run that merges navigation files counts.
 #[derive(Clone, Copy, PartialEq, Eq)]

@@ -10,7 +10,7 @@ use crate::carried_key::CarriedKey;
 use crate::nav_key::NavKey;
 use crate::row_key::RowKey;
 use nav_io::{Failed, Sink};
-use outlets::Target;
+use streams::Target;
 use nav_lists::RankedList;
 
 // What comes next.

@@ -21,7 +21,7 @@ use crate::nav_key::NavKey;
 use arrayvec::ArrayVec;
 use nav_io::{Failed, Sink};
 use nav_rows::{Kind, Row, compare_rows, rank_of};
-use outlets::Target;
+use streams::Target;
 use nav_lists::Ranked;
 use std::alloc::{AllocError, Global};
 use std::cmp::Ordering;

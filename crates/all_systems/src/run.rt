@@ -27,13 +27,12 @@ use nav_eph::{NavItem, equality_is_decided};
 use nav_io::{Failed, Sink, Source};
 use nav_rows::{Kind, Row, rank_of, row_of_message};
 use one_run::{BridgeFault, Text, append, append_decimal, report_prefix};
-use outlets::{Target, with_item, with_time};
+use streams::{FrameTaker, StreamCounts, Target, run_taker, stream_counts_text, with_item, with_time};
 use rtcm_eph::{
     MessageFault, item_function, message_bytes, read_item, sent_1019_is_read, sent_1046_is_read,
 };
 use framing::Frame;
 use std::alloc::Global;
-use streams::{FrameTaker, StreamCounts, run_taker, stream_counts_text};
 
 // What is done with the frames of a stream.
 #[derive(Drop)]

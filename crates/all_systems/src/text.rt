@@ -2,7 +2,7 @@
 
 ghost use Rattle.std.specs.Prelude.{◌≡◌, ◌≤◌, IfOk, length};
 ghost use Rattle.nav_io.specs.Writes.{Writes};
-ghost use Rattle.outlets.specs.Targets.{item_text};
+ghost use Rattle.streams.specs.Targets.{item_text};
 ghost use Rattle.rinex_write.specs.Columns.{AreFields};
 ghost use Rattle.nav_rows.specs.Encoding.{message_of};
 ghost use Rattle.nav_rows.specs.Kinds.{IsKind};
@@ -13,7 +13,7 @@ use nav_eph::NavItem;
 use nav_io::{Failed, Sink};
 use nav_rows::{Kind, Row, message_of_row, write_body, write_record};
 use one_run::{Text, append, append_decimal};
-use outlets::{Target, item_line, write_payload};
+use streams::{Target, item_line, write_payload};
 
 // The most bytes of a message of a kind.
 const MOST: usize = 192;

@@ -22,8 +22,8 @@ use Rattle.one_run.proofs.Surface.{accepted_of, done_by, end_of, no_prefix, noth
 use Rattle.captures.specs.Captures.{Capture as CaptureOf, capture_meaning, capture_of, counts_in, output_of, periods as periods_in, target_of}
 use Rattle.captures.specs.Converts.{CapturePrefix, CountsLast}
 use Rattle.captures.specs.declared.target.CaptureTo.TheVariants as captures
-use Rattle.outlets.specs.declared.target.Target.{Target}
-use Rattle.outlets.specs.declared.target.Target.TheVariants as targets
+use Rattle.streams.specs.declared.target.Target.{Target}
+use Rattle.streams.specs.declared.target.Target.TheVariants as targets
 use Rattle.bridge_engine.specs.declared.job.Job.{Job}
 use Rattle.bridge_engine.specs.declared.job.Job.TheVariants.{StreamToFrames, Capture, Stream, Rinex, Rinex3, SendRinex, SendRinex3, Merge, Cover, Seed}
 use Rattle.bridge_engine.specs.CaptureBytes.{IsCapture, StandFor}

@@ -52,5 +52,5 @@ pub use nav_files::{
 };
 pub use nav_vectors::Sats;
 pub use one_run::{BridgeFault, Status};
-pub use outlets::Times;
+pub use streams::Times;
 pub use streams::{FrameCounts, StreamCounts, StreamTo, run_frames, run_stream};

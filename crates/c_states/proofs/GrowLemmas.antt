@@ -3,11 +3,11 @@ use Rattle.std.proofs.Common.{◌≡◌, ℕ, List, [], ◌++◌, sym, ap, ◌�
 use Rattle.std.specs.Prelude.{Option}
 use Rattle.nav_io.specs.Prefix.{IsPrefix}
 use Rattle.nav_eph.specs.declared.items.NavItem.{NavItem}
-use Rattle.outlets.specs.Targets.{prefix_text, item_text}
-use Rattle.outlets.specs.declared.target.Target.{Target}
+use Rattle.streams.specs.Targets.{prefix_text, item_text}
+use Rattle.streams.specs.declared.target.Target.{Target}
 use Rattle.captures.specs.Captures.{flushed_output, flushed_report, output_of, report_of_capture, target_of}
 use Rattle.streams.specs.Streams.{flushed_output_by, flushed_readings, readings_report, stream_output_by, stream_report}
-use Rattle.streams.specs.Targets.{target_of_stream}
+use Rattle.streams.specs.StreamTargets.{target_of_stream}
 use Rattle.bridge_engine.specs.Meanings.{meaning_of}
 use Rattle.bridge_engine.specs.declared.job.Job.{Job}
 use Rattle.bridge_engine.specs.declared.job.Job.TheVariants as jobs

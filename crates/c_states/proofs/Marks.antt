@@ -7,8 +7,8 @@ use Rattle.nav_io.specs.Lines.{Line}
 use Rattle.one_run.specs.Runs.{AppendsAll, AppendsBetween, StopAtOnePlace, Texts}
 use Rattle.one_run.specs.declared.fault.BridgeFault.{BridgeFault}
 use Rattle.one_run.specs.declared.fault.BridgeFault.TheVariants.{ReportFault}
-use Rattle.outlets.specs.Targets.{prefix_text}
-use Rattle.outlets.specs.declared.target.Target.{Target}
+use Rattle.streams.specs.Targets.{prefix_text}
+use Rattle.streams.specs.declared.target.Target.{Target}
 use Rattle.streams.specs.Pushed.{IsCutShort, IsPushed, IsWhole, StreamRunState}
 use Rattle.captures.specs.Captures.{accepted_line}
 use Rattle.captures.specs.Hearings.{Stands}

@@ -7,7 +7,7 @@ use Rattle.one_run.specs.declared.fault.BridgeFault.TheVariants.{NotThisForm, Re
 use Rattle.captures.specs.Captures.{target_of}
 use Rattle.captures.specs.Pushed.{CaptureRunState, IsPushed as IsCapturePushed}
 use Rattle.streams.specs.Pushed.{IsPushed, StreamRunState}
-use Rattle.streams.specs.Targets.{target_of_stream}
+use Rattle.streams.specs.StreamTargets.{target_of_stream}
 use Rattle.bridge_engine.specs.Meanings.{meaning_of}
 use Rattle.bridge_engine.specs.declared.job.CaptureJob.{CaptureJob}
 use Rattle.bridge_engine.specs.declared.job.Job.{Job}

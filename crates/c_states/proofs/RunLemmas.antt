@@ -6,15 +6,15 @@ use Rattle.nav_io.specs.Prefix.{AppendsPrefix, IsPrefix}
 use Rattle.one_run.specs.Runs.{StopAtOnePlace, Texts}
 use Rattle.one_run.specs.declared.fault.BridgeFault.{BridgeFault}
 use Rattle.one_run.specs.declared.fault.BridgeFault.TheVariants.{NoMemory, NotThisForm, ReadFault, ReportFault, TooLong, WriteFault}
-use Rattle.outlets.specs.Targets.{prefix_text, item_text}
-use Rattle.outlets.specs.declared.target.Target.{Target}
+use Rattle.streams.specs.Targets.{prefix_text, item_text}
+use Rattle.streams.specs.declared.target.Target.{Target}
 use Rattle.captures.specs.Captures.{Capture as OfLines, capture_of, counts_in, flushed_output, flushed_report, flushed_texts, output_of, refusals_text, report_of_capture, target_of}
 use Rattle.captures.specs.Pushed.{CaptureRunState, CutSays, IsCutShort as IsCaptureCut, IsPushed as IsCapturePushed, IsWhole as IsCaptureWhole}
 use Rattle.captures.specs.declared.counts.CaptureCounts.{CaptureCounts}
 use Rattle.streams.specs.Mirrors.{IsStreamFault}
 use Rattle.streams.specs.Pushed.{IsCutShort, IsPushFault, IsPushed, IsWhole, StreamRunState}
 use Rattle.streams.specs.Streams.{flushed_output_by, flushed_readings, readings_report, stream_output_by, stream_readings, stream_report}
-use Rattle.streams.specs.Targets.{target_of_stream}
+use Rattle.streams.specs.StreamTargets.{target_of_stream}
 use Rattle.bridge_engine.specs.Meanings.{meaning_of}
 use Rattle.bridge_engine.specs.declared.done.Done.{Done}
 use Rattle.bridge_engine.specs.declared.done.Done.TheVariants as dones

@@ -5,7 +5,7 @@ use Rattle.one_run.specs.Runs.{StopAtOnePlace}
 use Rattle.captures.specs.Captures.{target_of}
 use Rattle.captures.specs.Pushed.{IsPushed as IsCapturePushed}
 use Rattle.streams.specs.Pushed.{IsPushed}
-use Rattle.streams.specs.Targets.{target_of_stream}
+use Rattle.streams.specs.StreamTargets.{target_of_stream}
 use Rattle.bridge_engine.specs.Job.{GivesJob, IsJob}
 use Rattle.bridge_engine.specs.Meanings.{meaning_of}
 use Rattle.bridge_engine.specs.declared.job.Job.{Job}

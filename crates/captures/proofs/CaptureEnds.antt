@@ -13,14 +13,14 @@ use Rattle.nav_io.proofs.Surface.{ended_before, lines_length, no_pieces, reads_m
 use Rattle.periods.specs.PeriodsOf.{closed_of, periods_of}
 use Rattle.capture_log.specs.Log.{log_of, watermark_after, parts_of}
 use Rattle.captures.specs.declared.accept.Accepted.{Accepted}
-use Rattle.outlets.specs.declared.target.Target.{Target}
+use Rattle.streams.specs.declared.target.Target.{Target}
 use Rattle.captures.specs.declared.target.CaptureTo.{CaptureTo}
 use Rattle.captures.specs.declared.counts.CaptureCounts.{CaptureCounts}
 use Rattle.captures.specs.declared.counts.Tally.{Tally}
 use Rattle.captures.specs.declared.counts.Said.{Said}
 use Rattle.one_run.specs.declared.fault.BridgeFault.{BridgeFault}
 use Rattle.one_run.specs.declared.fault.BridgeFault.TheVariants.{ReadFault, WriteFault, ReportFault, TooLong, NoMemory, NotThisForm}
-use Rattle.outlets.specs.Targets.{back_text, prefix_text}
+use Rattle.streams.specs.Targets.{back_text, prefix_text}
 use Rattle.captures.specs.Captures.{Capture, accepted_line, capture_in, capture_meaning, capture_of, capture_with, counts_in, counts_of, counts_text, least_output, least_report, output_of, periods, refusals_text, report_of_capture, flushed_output, flushed_report, flushed_text, flushed_texts, target_meaning, target_of, texts_of}
 use Rattle.captures.specs.declared.hearing.Hearing.{Hearing}
 use Rattle.captures.specs.Conversions.{ConvertsAll, ConversionBroke, ConversionSays}

@@ -25,7 +25,7 @@ use Rattle.one_run.specs.Causes.{Faults, HasItsCause, fault_by, faults_of}
 use Rattle.one_run.specs.Runs.{AppendsBetween}
 use Rattle.one_run.specs.declared.fault.BridgeFault.{BridgeFault}
 use Rattle.one_run.specs.declared.fault.BridgeFault.TheVariants.{ReadFault, WriteFault, ReportFault, TooLong, NoMemory, NotThisForm}
-use Rattle.outlets.specs.declared.target.Target.{Target}
+use Rattle.streams.specs.declared.target.Target.{Target}
 use Rattle.captures.specs.declared.accept.Accepted.{Accepted}
 use Rattle.captures.specs.declared.hearing.Hearing.{Hearing}
 use Rattle.captures.specs.Captures.{texts_of}

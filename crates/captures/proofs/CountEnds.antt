@@ -9,7 +9,7 @@ use Rattle.one_run.specs.Runs.{Broke, Done, World}
 use Rattle.one_run.specs.declared.fault.BridgeFault.{BridgeFault}
 use Rattle.one_run.specs.declared.fault.BridgeFault.TheVariants.{ReadFault, WriteFault, ReportFault, TooLong, NoMemory, NotThisForm}
 use Rattle.one_run.proofs.Surface.{counts_of, taken_all, told_of, text_of}
-use Rattle.outlets.specs.declared.target.Target.TheVariants.{Count}
+use Rattle.streams.specs.declared.target.Target.TheVariants.{Count}
 use Rattle.captures.specs.declared.counts.CaptureCounts.{CaptureCounts}
 use Rattle.captures.specs.Captures.{Capture, capture_of, counts_in, output_of, refusals_text, report_of_capture, target_meaning}
 use Rattle.captures.specs.Converts.{CaptureAhead}

@@ -14,7 +14,7 @@ use Rattle.periods.specs.PeriodLists.{IsPeriodPrefix}
 use Rattle.periods.specs.PeriodsOf.{closed_of, insert, insert_at, periods_ending, periods_of, place_at, quiet, closed_with, verdict_at, is_before}
 use Rattle.periods.specs.Verdicts.{closed_place}
 use Rattle.capture_log.specs.Log.{watermark_after, parts_of}
-use Rattle.outlets.specs.declared.target.Target.{Target}
+use Rattle.streams.specs.declared.target.Target.{Target}
 use Rattle.captures.specs.Captures.{texts_of}
 use Rattle.one_run.specs.Runs.{AppendsBetween}
 use Rattle.captures.proofs.Writing.{texts_prefix}

@@ -15,8 +15,8 @@ use Rattle.capture_log.specs.Log.{log_of, watermark_after, parts_of}
 use Rattle.one_run.specs.Causes.{HasItsCause, faults_of}
 use Rattle.one_run.specs.declared.fault.BridgeFault.{BridgeFault}
 use Rattle.one_run.specs.declared.fault.BridgeFault.TheVariants.{ReadFault, WriteFault, ReportFault, TooLong, NoMemory, NotThisForm}
-use Rattle.outlets.specs.declared.target.Target.{Target}
-use Rattle.outlets.specs.Targets.{back_text, prefix_text}
+use Rattle.streams.specs.declared.target.Target.{Target}
+use Rattle.streams.specs.Targets.{back_text, prefix_text}
 use Rattle.captures.specs.declared.accept.Accepted.{Accepted}
 use Rattle.captures.specs.declared.counts.CaptureCounts.{CaptureCounts}
 use Rattle.captures.specs.declared.hearing.Hearing.{Hearing}

@@ -11,7 +11,7 @@ use Rattle.one_run.specs.Runs.{Broke, Done, Ended, Says, World, faults_in}
 use Rattle.one_run.proofs.Surface.{between, none_failed, report_failed, write_failed}
 use Rattle.one_run.specs.declared.fault.BridgeFault.{BridgeFault}
 use Rattle.one_run.specs.declared.fault.BridgeFault.TheVariants.{ReadFault, WriteFault, ReportFault, TooLong, NoMemory, NotThisForm}
-use Rattle.outlets.specs.declared.target.Target.TheVariants.{Count}
+use Rattle.streams.specs.declared.target.Target.TheVariants.{Count}
 use Rattle.captures.specs.declared.counts.CaptureCounts.{CaptureCounts}
 use Rattle.captures.specs.Captures.{Capture, capture_of, counts_in, counts_of, output_of, refusals_text, report_of_capture}
 use Rattle.captures.specs.declared.seed_target.SeedTo.{SeedTo}

@@ -23,7 +23,7 @@ use Rattle.captures.specs.declared.accept.Accepted.{Accepted}
 use Rattle.captures.specs.declared.counts.Said.{Said}
 use Rattle.captures.specs.declared.counts.Tally.{Tally}
 use Rattle.captures.specs.declared.hearing.Hearing.{Hearing}
-use Rattle.outlets.specs.declared.target.Target.{Target}
+use Rattle.streams.specs.declared.target.Target.{Target}
 use Rattle.captures.specs.Captures.{texts_of}
 use Rattle.captures.specs.Converts.{Counted, closed_texts, no_tally, period_texts}
 use Rattle.captures.specs.Hearings.{Finished, IsOpenAt, IsStepFault, Stands, StandsAt, StepBroke, Takes, Unheard}

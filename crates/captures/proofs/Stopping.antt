@@ -12,8 +12,8 @@ use Rattle.capture_log.specs.Log.{log_of, watermark_after, parts_of}
 use Rattle.one_run.specs.Runs.{AppendsAll, AppendsBetween, StopAtOnePlace}
 use Rattle.one_run.specs.declared.fault.BridgeFault.{BridgeFault}
 use Rattle.one_run.proofs.Surface.{BeginsWith, all_of, all_stopped, all_whole, all_within, no_more_or_beyond, prefix_of}
-use Rattle.outlets.specs.declared.target.Target.{Target}
-use Rattle.outlets.specs.Targets.{prefix_text}
+use Rattle.streams.specs.declared.target.Target.{Target}
+use Rattle.streams.specs.Targets.{prefix_text}
 use Rattle.captures.specs.declared.accept.Accepted.{Accepted}
 use Rattle.captures.specs.declared.hearing.Hearing.{Hearing}
 use Rattle.captures.specs.Captures.{accepted_line, capture_in, capture_with, flushed_output, flushed_report, flushed_text, flushed_texts, refusals_text}

@@ -17,12 +17,12 @@ use Rattle.periods.specs.declared.closed.Verdict.TheVariants.{Whole, Partial, Co
 use Rattle.periods.proofs.Surface.{closed_of-prefix}
 use Rattle.slot_assembly.specs.Standing.{Standing, Tells, Carries, IsNext, NoneDue, giving, reaching}
 use Rattle.slot_assembly.proofs.Surface.{Gives, HasValues, gives_start, gives_more, gives_all, gives_prefix}
-use Rattle.outlets.specs.declared.target.Target.{Target}
+use Rattle.streams.specs.declared.target.Target.{Target}
 use Rattle.captures.specs.declared.counts.Said.{Said}
-use Rattle.outlets.specs.Targets.{period_text}
-use Rattle.outlets.specs.Times.{times_with}
-use Rattle.outlets.specs.declared.times.Times.{Times}
-use Rattle.outlets.proofs.Surface.{times_behind}
+use Rattle.streams.specs.Targets.{period_text}
+use Rattle.streams.specs.Times.{times_with}
+use Rattle.streams.specs.declared.times.Times.{Times}
+use Rattle.streams.proofs.Surface.{times_behind}
 use Rattle.captures.specs.Captures.{texts_of, verdicts, is_whole, is_partial, is_contradicted, is_nohealth, is_again}
 use Rattle.one_run.specs.Runs.{AppendsBetween}
 use Rattle.captures.specs.Flushed.{HasRoom, Flushed, said, said_of, total_said}

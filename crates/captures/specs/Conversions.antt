@@ -8,7 +8,7 @@ use Rattle.capture_log.specs.Log.{log_of, parts_of}
 use Rattle.one_run.specs.Runs.{AppendsBetween}
 use Rattle.one_run.specs.declared.fault.BridgeFault.{BridgeFault}
 use Rattle.one_run.specs.declared.fault.BridgeFault.TheVariants.{ReadFault, WriteFault, ReportFault, TooLong, NoMemory, NotThisForm}
-use Rattle.outlets.specs.declared.target.Target.{Target}
+use Rattle.streams.specs.declared.target.Target.{Target}
 use Rattle.captures.specs.declared.accept.Accepted.{Accepted}
 use Rattle.captures.specs.declared.counts.Tally.{Tally}
 use Rattle.captures.specs.declared.counts.Said.{Said}

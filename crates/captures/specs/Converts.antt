@@ -8,8 +8,8 @@ use Rattle.inav.specs.Keeping.{Keeping}
 use Rattle.periods.specs.PeriodsOf.{periods_of, closed_of}
 use Rattle.capture_log.specs.Events.{nothing_known}
 use Rattle.capture_log.specs.Log.{line_items_of, known_from, log_of, watermark_after, parts_of}
-use Rattle.outlets.specs.declared.target.Target.{Target}
-use Rattle.outlets.specs.declared.target.Target.TheVariants.{Count}
+use Rattle.streams.specs.declared.target.Target.{Target}
+use Rattle.streams.specs.declared.target.Target.TheVariants.{Count}
 use Rattle.captures.specs.declared.counts.Tally.{Tally}
 use Rattle.one_run.specs.declared.fault.BridgeFault.{BridgeFault}
 use Rattle.one_run.specs.declared.fault.BridgeFault.TheVariants.{ReadFault, WriteFault, ReportFault, TooLong, NoMemory, NotThisForm}

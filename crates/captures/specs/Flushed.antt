@@ -9,8 +9,8 @@ use Rattle.periods.specs.declared.closed.Closed.{Closed}
 use Rattle.periods.specs.declared.closed.Verdict.{Verdict}
 use Rattle.slot_assembly.specs.Standing.{Standing}
 use Rattle.slot_assembly.specs.Given.{flushed}
-use Rattle.outlets.specs.Times.{times_of, times_with}
-use Rattle.outlets.specs.declared.target.Target.{Target}
+use Rattle.streams.specs.Times.{times_of, times_with}
+use Rattle.streams.specs.declared.target.Target.{Target}
 use Rattle.captures.specs.declared.counts.CaptureCounts.{CaptureCounts}
 use Rattle.captures.specs.declared.counts.Tally.{Tally}
 use Rattle.captures.specs.declared.counts.Said.{Said}

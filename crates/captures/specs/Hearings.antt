@@ -18,7 +18,7 @@ use Rattle.one_run.specs.declared.fault.BridgeFault.TheVariants.{WriteFault, Rep
 use Rattle.captures.specs.declared.accept.Accepted.{Accepted}
 use Rattle.captures.specs.declared.ear.Ear.{Ear}
 use Rattle.captures.specs.declared.hearing.Hearing.{Hearing}
-use Rattle.outlets.specs.declared.target.Target.{Target}
+use Rattle.streams.specs.declared.target.Target.{Target}
 use Rattle.captures.specs.Converts.{Counted, closed_texts, no_tally, period_texts}
 use Rattle.captures.specs.Notes.{AreFrom, KeepsHalves, Notes, line_report, total}
 use Rattle.captures.specs.Flushed.{IsWriting, Flushed, said_of}

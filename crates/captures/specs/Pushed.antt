@@ -4,8 +4,8 @@ use Rattle.std.specs.Io.KnownBytes.{Appends}
 use Rattle.nav_io.specs.Prefix.{AppendsPrefix}
 use Rattle.nav_io.specs.Lines.{Line, ends, lines_by}
 use Rattle.nav_io.specs.LinesState.{LinesState, Reads}
-use Rattle.outlets.specs.Targets.{prefix_text}
-use Rattle.outlets.specs.declared.target.Target.{Target}
+use Rattle.streams.specs.Targets.{prefix_text}
+use Rattle.streams.specs.declared.target.Target.{Target}
 use Rattle.one_run.specs.Runs.{AppendsBetween, StopAtOnePlace}
 use Rattle.one_run.specs.declared.fault.BridgeFault.{BridgeFault}
 use Rattle.one_run.specs.declared.fault.BridgeFault.TheVariants.{ReadFault, TooLong, NotThisForm, WriteFault, ReportFault, NoMemory}

@@ -6,7 +6,7 @@ ghost use Rattle.std.specs.Io.KnownBytes.{Appends};
 ghost use Rattle.nav_io.specs.Causes.{Rose};
 ghost use Rattle.nav_io.specs.Prefix.{AppendsPrefix};
 ghost use Rattle.one_run.specs.Causes.{HasItsCause, fault_by, faults_of};
-ghost use Rattle.outlets.specs.Targets.{back_text};
+ghost use Rattle.streams.specs.Targets.{back_text};
 ghost use Rattle.captures.specs.Captures.{counts_text};
 ghost use Rattle.captures.specs.Converts.{GivesHead, GivesNoHead};
 ghost use Rattle.captures.specs.Conversions.{Converts, HoldsPast};
@@ -20,7 +20,7 @@ use capture_log::{parts_of_lines_are_values, what_is_closed_stays};
 use gnss_week::RefWeek;
 use nav_io::{Failed, LineFault, LineKind, Lines, Sink, Source};
 use one_run::BridgeFault;
-use outlets::Target;
+use streams::Target;
 
 // The fault of a run whose reading of lines failed so.
 fn fault_of(fault: LineFault) -> BridgeFault

@@ -7,7 +7,7 @@ ghost use Rattle.captures.specs.Converts.{no_tally};
 ghost use Rattle.captures.specs.Flushed.{said, said_of, total_said, with_counts};
 
 use one_run::{Text, append_count};
-use outlets::{Times, with_item};
+use streams::{Times, with_item};
 use periods::Verdict;
 
 /// What a run over a capture counts.

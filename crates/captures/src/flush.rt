@@ -12,7 +12,7 @@ ghost use Rattle.captures.specs.Flushed.{HasRoom, IsWriting, Flushed};
 use crate::counts::Said;
 use nav_io::{Failed, Sink};
 use one_run::BridgeFault;
-use outlets::Target;
+use streams::Target;
 use periods::Closed;
 use slot_assembly::SlotAssembly;
 

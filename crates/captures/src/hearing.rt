@@ -21,7 +21,7 @@ use nav_bits::Bits;
 use nav_eph::{Sat, Signal};
 use nav_io::Sink;
 use one_run::BridgeFault;
-use outlets::Target;
+use streams::Target;
 use slot_assembly::SlotAssembly;
 use std::alloc::Global;
 

@@ -16,7 +16,7 @@ use capture_log::{parts_of_lines_are_values, what_is_closed_stays};
 use gnss_week::RefWeek;
 use nav_io::{Failed, Lines, Sink, Source};
 use one_run::BridgeFault;
-use outlets::Target;
+use streams::Target;
 use std::alloc::Global;
 use std::marker::Model;
 

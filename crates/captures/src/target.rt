@@ -1,7 +1,7 @@
 ghost use Rattle.std.specs.Prelude.{◌≡◌};
 ghost use Rattle.captures.specs.Captures.{target_of};
 
-use outlets::Target;
+use streams::Target;
 use rinex_write::HeaderWords;
 
 /// What a capture is converted to.

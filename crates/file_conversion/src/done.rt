@@ -3,8 +3,7 @@
 ghost use Rattle.std.specs.Prelude.{◌≡◌};
 ghost use Rattle.file_conversion.specs.Counted.{times_in};
 
-use outlets::Times;
-use streams::StreamCounts;
+use streams::{StreamCounts, Times};
 use all_systems::{SystemCounts, SystemMergeCounts};
 
 /// What a conversion that is done has counted.

@@ -10,7 +10,7 @@ use Rattle.nav_eph.specs.declared.items.NavItem.{NavItem}
 use Rattle.nav_eph.specs.declared.items.NavItem.TheVariants.{Gps, Gal, Ion}
 use Rattle.nav_lists.specs.Fronts.{satellite_of}
 use Rattle.nav_lists.specs.Merging.{moment_of}
-use Rattle.outlets.specs.ItemTexts.{satellite_text}
+use Rattle.streams.specs.ItemTexts.{satellite_text}
 use Rattle.file_diff.specs.Numbers.{by_key, by_numbers, names_of, numbers_of}
 use Rattle.file_diff.specs.declared.difference.Difference.{Difference}
 use Rattle.file_diff.specs.declared.difference.Difference.TheVariants.{OnlyFirst, OnlySecond, Both}

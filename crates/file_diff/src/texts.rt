@@ -18,7 +18,7 @@ use itoa::Buffer;
 use nav_eph::NavItem;
 use nav_io::{Failed, Sink};
 use one_run::{Text, append, append_decimal};
-use outlets::append_satellite;
+use streams::append_satellite;
 
 // Appends a separator and two digits.
 fn append_two(text: &mut Text, separator: u8, number: u8)

@@ -19,7 +19,7 @@ use Rattle.rinex_read.specs.Files.{rinex_list}
 use Rattle.rinex_read.specs.Form3.{rinex3_list}
 use Rattle.rinex_read.specs.RoundTrip.{AreItems}
 use Rattle.framing.specs.Frames.{frames}
-use Rattle.outlets.specs.declared.target.Target.TheVariants.{Rinex, Rinex3, Rtcm}
+use Rattle.streams.specs.declared.target.Target.TheVariants.{Rinex, Rinex3, Rtcm}
 use Rattle.captures.specs.Captures.{Capture, capture_of, items, output_of, periods}
 use Rattle.job_laws.specs.Converted.{ArePeriodsHeard, IsConverted, IsConverted3, IsFramed}
 use Rattle.job_laws.proofs.CaptureTexts.{rinex_written, rinex3_written, rtcm_written}

@@ -23,7 +23,7 @@ use Rattle.rtcm_eph.specs.Writing.{bytes_1019, bytes_1046, message_1019, message
 use Rattle.framing.specs.Frames.{frames}
 use Rattle.framing.specs.State.{payload_of}
 use Rattle.framing.specs.Writing.{frame_bytes}
-use Rattle.outlets.specs.ItemTexts.{rtcm_item}
+use Rattle.streams.specs.ItemTexts.{rtcm_item}
 use Rattle.job_laws.specs.Converted.{AreSent, IsNear}
 
 -- what the crates below say of messages and frames

@@ -16,7 +16,7 @@ use Rattle.capture_log.specs.Heard.{NoneLate, SameItems}
 use Rattle.capture_log.specs.Log.{line_items_of, parts_of}
 use Rattle.rinex_write.specs.Texts.{text_of}
 use Rattle.rinex_write.specs.Texts3.{header3_lines, item3_lines}
-use Rattle.outlets.specs.ItemTexts.{rtcm_item}
+use Rattle.streams.specs.ItemTexts.{rtcm_item}
 use Rattle.rinex_read.specs.Files.{file_reads, items_read, list_by, rinex_list}
 use Rattle.rinex_read.specs.Form3.{rinex3, rinex3_list}
 use Rattle.rinex_read.specs.Forms.{rinex4}

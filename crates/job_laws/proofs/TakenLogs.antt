@@ -5,8 +5,8 @@ use Rattle.std.specs.Prelude.{Option, Some, None}
 use Rattle.nav_eph.specs.declared.part.Part.{Part}
 use Rattle.periods.specs.PeriodsOf.{periods_of}
 use Rattle.periods.specs.declared.closed.Closed.{Closed}
-use Rattle.outlets.specs.declared.target.Target.{Target}
-use Rattle.outlets.specs.Targets.{back_text, prefix_text}
+use Rattle.streams.specs.declared.target.Target.{Target}
+use Rattle.streams.specs.Targets.{back_text, prefix_text}
 use Rattle.captures.specs.Captures.{Capture, accepted_line, capture_of, counts_of, counts_text}
 use Rattle.captures.specs.Captures.{output_of, periods, texts_of, whole_text}
 use Rattle.job_laws.specs.LogHeard.{IsHeardAs, IsHeardBy, parts_heard}

@@ -15,7 +15,7 @@ use Rattle.rinex_read.specs.Form3.{rinex3_list}
 use Rattle.framing.specs.Frames.{frames}
 use Rattle.framing.specs.State.{payload_of}
 use Rattle.rtcm_eph.specs.Reading.{item_in}
-use Rattle.outlets.specs.ItemTexts.{rtcm_item}
+use Rattle.streams.specs.ItemTexts.{rtcm_item}
 use Rattle.capture_log.specs.Heard.{IsPartHeard}
 use Rattle.capture_log.specs.Log.{line_items_of}
 use Rattle.captures.specs.Captures.{Capture}

@@ -2,8 +2,8 @@
 use Rattle.std.specs.Prelude.{◌≡◌, ◌++◌, ℕ, List, Option, Some, None}
 use Rattle.capture_log.specs.Log.{line_items_of, parts_of}
 use Rattle.periods.specs.PeriodsOf.{periods_of}
-use Rattle.outlets.specs.declared.target.Target.{Target}
-use Rattle.outlets.specs.Targets.{back_text, prefix_text}
+use Rattle.streams.specs.declared.target.Target.{Target}
+use Rattle.streams.specs.Targets.{back_text, prefix_text}
 use Rattle.captures.specs.declared.counts.CaptureCounts.{CaptureCounts}
 use Rattle.captures.specs.Captures.{Capture, capture_of, counts_of, counts_text, output_of, periods}
 use Rattle.captures.specs.Captures.{texts_of}

@@ -8,7 +8,7 @@ use Rattle.rinex_write.specs.Texts3.{rinex3_text}
 use Rattle.rinex_read.specs.Files.{file_reads, rinex_list}
 use Rattle.rinex_read.specs.Form3.{rinex3, rinex3_list}
 use Rattle.rinex_read.specs.Forms.{rinex4}
-use Rattle.outlets.specs.ItemTexts.{rtcm_item}
+use Rattle.streams.specs.ItemTexts.{rtcm_item}
 use Rattle.capture_log.specs.Heard.{NoneLate, SameItems}
 use Rattle.capture_log.specs.Log.{line_items_of}
 use Rattle.captures.specs.Captures.{Capture, capture_of}

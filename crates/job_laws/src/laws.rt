@@ -8,7 +8,7 @@ ghost use Rattle.periods.specs.declared.closed.Closed.{Closed};
 ghost use Rattle.gnss_week.specs.Weeks.{IsReference};
 ghost use Rattle.rinex_write.specs.Texts.{IsHeader};
 ghost use Rattle.rinex_write.specs.declared.words.HeaderWords.{HeaderWords};
-ghost use Rattle.outlets.specs.declared.target.Target.TheVariants as targets;
+ghost use Rattle.streams.specs.declared.target.Target.TheVariants as targets;
 ghost use Rattle.capture_log.specs.Heard.{IsPartHeard, SameItems};
 ghost use Rattle.capture_log.specs.Log.{line_items_of};
 ghost use Rattle.job_laws.specs.Counted.{ArePairsHeard, Pair};

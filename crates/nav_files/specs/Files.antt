@@ -9,9 +9,9 @@ use Rattle.rinex_read.specs.declared.judged.ItemRead.{ItemRead}
 use Rattle.rinex_read.specs.declared.judged.ItemRead.TheVariants.{Item, Refused, PassedOver}
 use Rattle.rinex_read.specs.declared.reason.Reason.{Reason}
 use Rattle.rinex_read.specs.declared.reason.Reason.TheVariants.{BadSat, Short, NotANumber, Blank, OutOfRange, NoSuchDate, Week, Fit, EpochStep, EpochFar}
-use Rattle.outlets.specs.Targets.{prefix_text, item_text}
-use Rattle.outlets.specs.Times.{times_of}
-use Rattle.outlets.specs.declared.target.Target.{Target}
+use Rattle.streams.specs.Targets.{prefix_text, item_text}
+use Rattle.streams.specs.Times.{times_of}
+use Rattle.streams.specs.declared.target.Target.{Target}
 use Rattle.one_run.specs.Reports.{report_line, count_line}
 use Rattle.one_run.specs.Runs.{Meaning}
 use Rattle.nav_files.specs.declared.counts.RinexCounts.{RinexCounts}

@@ -20,7 +20,7 @@ use nav_eph::NavItem;
 use nav_io::{Failed, Sink};
 use nav_lists::{Cover, CoverRange, covering};
 use one_run::{BridgeFault, Text, append, append_decimal};
-use outlets::append_satellite;
+use streams::append_satellite;
 use rinex_read::ItemRead;
 use std::alloc::AllocError;
 

@@ -11,7 +11,7 @@ use crate::taker::run_file;
 use crate::target::RinexTo;
 use nav_io::{Sink, Source};
 use one_run::BridgeFault;
-use outlets::Target;
+use streams::Target;
 use rinex_read::{ItemRead, Rinex3, Rinex4};
 
 /// Reads a navigation file of RINEX 4 to its end, and writes what it is converted to while it

@@ -11,7 +11,7 @@ ghost use Rattle.nav_files.specs.Mirrors.{AreCounted, BreaksRead, counted};
 use crate::counts::RinexCounts;
 use nav_io::{LineFault, Source};
 use one_run::BridgeFault;
-use outlets::with_item;
+use streams::with_item;
 use rinex_read::{FileForm, ItemRead, Reason, RecordReader};
 
 /// The error of a run whose reading of lines failed so.

@@ -3,7 +3,7 @@
 ghost use Rattle.std.specs.Prelude.{◌≡◌};
 ghost use Rattle.nav_files.specs.Targets.{target_of_file};
 
-use outlets::Target;
+use streams::Target;
 use rinex_write::HeaderWords;
 
 /// What a navigation file is converted to.

@@ -16,7 +16,7 @@ use nav_io::{MemSink, MemSource};
 use nav_laws::PlainAssembly;
 use nav_vectors::{Sats, make_capture};
 use one_run::{Text, append, append_decimal, append_hex};
-use outlets::append_issue;
+use streams::append_issue;
 use periods::{Closed, Key, Verdict};
 use slot_assembly::add_periods;
 use std::alloc::{AllocError, Global};

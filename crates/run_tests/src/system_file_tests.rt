@@ -3,7 +3,7 @@
 
 use nav_io::{MemSink, MemSource};
 use one_run::BridgeFault;
-use outlets::{Target, Times};
+use streams::{Target, Times};
 use rinex_write::{HeaderWords, write_header, write_header3};
 use std::alloc::{AllocError, Global};
 use std::test::Fail;

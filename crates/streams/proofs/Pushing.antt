@@ -6,7 +6,7 @@ use Rattle.std.proofs.KnownBytes.{Appends-nil, Appends-trans}
 use Rattle.nav_io.specs.Prefix.{AppendsPrefix, IsPrefix}
 use Rattle.framing.specs.Frames.{decided, frames, undecided}
 use Rattle.framing.specs.State.{DeframerState, IsWaiting}
-use Rattle.outlets.specs.Targets.{prefix_text, item_text}
+use Rattle.streams.specs.Targets.{prefix_text, item_text}
 use Rattle.one_run.specs.declared.fault.BridgeFault.{BridgeFault}
 use Rattle.one_run.specs.Runs.{AppendsBetween}
 use Rattle.one_run.proofs.Surface.{all_of, all_whole, between_behind, between_whole, between_within, prefix_of, prefix_same, prefix_trans, prefix_within}

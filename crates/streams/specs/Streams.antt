@@ -10,11 +10,11 @@ use Rattle.rtcm_eph.specs.declared.fault.MessageFault.{MessageFault}
 use Rattle.rtcm_eph.specs.declared.fault.MessageFault.TheVariants.{NoNumber, OtherMessage, Short, BadSat, BadTime, SpareSisa}
 use Rattle.one_run.specs.Reports.{report_line, count_line}
 use Rattle.one_run.specs.Runs.{Meaning}
-use Rattle.streams.specs.declared.target.StreamTo.{StreamTo}
+use Rattle.streams.specs.declared.stream_target.StreamTo.{StreamTo}
 use Rattle.streams.specs.declared.counts.StreamCounts.{StreamCounts}
-use Rattle.outlets.specs.Targets.{prefix_text, item_text}
-use Rattle.outlets.specs.Times.{times_of}
-use Rattle.streams.specs.Targets.{target_of_stream}
+use Rattle.streams.specs.Targets.{prefix_text, item_text}
+use Rattle.streams.specs.Times.{times_of}
+use Rattle.streams.specs.StreamTargets.{target_of_stream}
 
 -- the reading of a frame: its item for the reference week r, or the first error
 abbrev pub Reading : Type 0

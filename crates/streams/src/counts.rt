@@ -4,7 +4,7 @@ ghost use Rattle.std.specs.Prelude.{◌≡◌, []};
 ghost use Rattle.streams.specs.Streams.{counts_of_readings, stream_counts_text};
 
 use one_run::{Text, append_count};
-use outlets::Times;
+use crate::Times;
 
 /// What a run over a stream counts.
 #[derive(Clone, Copy, PartialEq, Eq)]

@@ -8,7 +8,7 @@ ghost use Rattle.std.specs.Io.KnownBytes.{Appends};
 ghost use Rattle.nav_eph.specs.declared.items.NavItem.{NavItem};
 ghost use Rattle.nav_io.specs.Prefix.{AppendsPrefix};
 ghost use Rattle.framing.specs.State.{MayFeed, IsWaiting, payload_of};
-ghost use Rattle.outlets.specs.Targets.{prefix_text, item_text};
+ghost use Rattle.streams.specs.Targets.{prefix_text, item_text};
 ghost use Rattle.rtcm_eph.specs.declared.fault.MessageFault.{MessageFault};
 ghost use Rattle.one_run.specs.Causes.{HasItsCause, faults_of};
 ghost use Rattle.one_run.specs.Reports.{report_line};
@@ -24,7 +24,7 @@ use gnss_week::RefWeek;
 use nav_eph::{NavItem, equality_is_decided};
 use nav_io::{Failed, Sink};
 use one_run::{BridgeFault, report_text};
-use outlets::{Target, with_item};
+use crate::{Target, with_item};
 use rtcm_eph::{
     MessageFault, item_function, message_bytes, read_item, sent_1019_is_read, sent_1046_is_read,
 };

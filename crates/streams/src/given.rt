@@ -9,7 +9,7 @@ ghost use Rattle.streams.specs.Mirrors.{StandsIn, has_key, is_given, sent_alike}
 
 use crate::messages::Messages;
 use crate::seen::{RecentMessages, place_of};
-use crate::sent::{sent_1019, sent_1046};
+use crate::stream_sent::{sent_1019, sent_1046};
 use nav_eph::NavItem;
 use std::alloc::{AllocError, Global};
 use std::marker::Model;

@@ -2,7 +2,7 @@
 
 ghost use Rattle.std.specs.Prelude.{◌≡◌, ◌⊎◌, ◌+◌, ◌^◌, ◌<◌, ◌≤◌};
 ghost use Rattle.std.specs.Prelude.{[], false, length, IsTrue, IsErrOf, IfErr, OnOk};
-ghost use Rattle.outlets.specs.Targets.{prefix_text, item_text};
+ghost use Rattle.streams.specs.Targets.{prefix_text, item_text};
 ghost use Rattle.one_run.specs.Causes.{HasItsCause, faults_of};
 ghost use Rattle.streams.specs.Mirrors.{StreamAll, StreamPart};
 ghost use Rattle.streams.specs.Streams.{counts_of_readings};
@@ -13,7 +13,7 @@ use crate::given::ItemsGiven;
 use gnss_week::RefWeek;
 use nav_io::{Failed, MOST_TAKEN, Sink, Source, read_piece};
 use one_run::BridgeFault;
-use outlets::Target;
+use crate::Target;
 use framing::Deframer;
 
 // The number of bytes that one read asks for.

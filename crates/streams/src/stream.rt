@@ -1,6 +1,6 @@
 //! The run over a stream.
 
-ghost use Rattle.outlets.specs.Targets.{prefix_text, item_text};
+ghost use Rattle.streams.specs.Targets.{prefix_text, item_text};
 ghost use Rattle.one_run.specs.Runs.{Ran};
 ghost use Rattle.streams.specs.Streams.{stream_meaning_by};
 
@@ -10,7 +10,7 @@ use crate::pieces::process_pieces;
 use gnss_week::RefWeek;
 use nav_io::{Failed, Sink, Source};
 use one_run::BridgeFault;
-use outlets::Target;
+use crate::Target;
 use framing::decided_frames_stay;
 use std::alloc::Global;
 

@@ -1,7 +1,7 @@
 use Rattle.std.proofs.Common.{◌≡◌, List, ap}
 use Rattle.periods.specs.PeriodLists.{items_in}
 use Rattle.periods.specs.declared.closed.Closed.{Closed}
-use Rattle.outlets.specs.Times.{times_of}
+use Rattle.streams.specs.Times.{times_of}
 use Rattle.captures.specs.Captures.{is_again, is_contradicted, is_nohealth, is_partial, is_whole, periods, verdicts}
 use Rattle.job_laws.proofs.laws.counts_are_of_periods.Goals as goal
 

@@ -1,4 +1,4 @@
-use Rattle.outlets.specs.Targets.{prefix_text}
+use Rattle.streams.specs.Targets.{prefix_text}
 use Rattle.one_run.proofs.Surface.{prefix_after, prefix_more, prefix_trans}
 use Rattle.nav_files.proofs.Surface.{texts_prefix}
 use Rattle.all_systems.specs.Files.{read_report, read_text}

@@ -1,5 +1,5 @@
 use Rattle.std.proofs.Common.{◌++◌, ap, ◌∙◌}
-use Rattle.outlets.specs.Targets.{back_text}
+use Rattle.streams.specs.Targets.{back_text}
 use Rattle.nav_files.proofs.Surface.{finish_as}
 use Rattle.all_systems.specs.Files.{counts_text}
 use Rattle.all_systems.proofs.file_run.SystemsTakerRecordRead.finish.Goals as goal

@@ -2,7 +2,7 @@ use Rattle.std.proofs.Common.{[], ◌∷◌, List, ℕ, ap, subst, ◌∙◌}
 use Rattle.std.proofs.lemmas.Result.{err_from_is_err_and}
 use Rattle.std.specs.Io.KnownBytes.{Appends}
 use Rattle.nav_io.specs.Prefix.{AppendsPrefix}
-use Rattle.outlets.specs.Targets.{prefix_text}
+use Rattle.streams.specs.Targets.{prefix_text}
 use Rattle.one_run.proofs.Surface.{prefix_after}
 use Rattle.nav_files.proofs.Surface.{grew_between, grew_more, texts_prefix}
 use Rattle.all_systems.specs.Files.{is_unwritten, read_report, read_text}

@@ -1,6 +1,6 @@
 use Rattle.std.proofs.Common.{[], ap, ◌∙◌}
 use Rattle.std.proofs.lemmas.Result.{err_from_is_err_and}
-use Rattle.outlets.specs.Targets.{prefix_text, item_text}
+use Rattle.streams.specs.Targets.{prefix_text, item_text}
 use Rattle.nav_files.specs.Files.{read_report, read_text}
 use Rattle.nav_files.specs.Mirrors.{counted}
 use Rattle.nav_files.proofs.ConvertLemmas.{grew_between, grew_more}

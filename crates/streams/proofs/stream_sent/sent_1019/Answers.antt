@@ -2,7 +2,7 @@ use Rattle.std.proofs.Common.{◌∙◌, arith}
 use Rattle.rtcm_eph.specs.RoundTrip.{Begins1019}
 use Rattle.rtcm_eph.specs.Writing.{bytes_1019}
 use Rattle.streams.proofs.SentLemmas.{whole}
-use Rattle.streams.proofs.sent.sent_1019.Goals as goal
+use Rattle.streams.proofs.stream_sent.sent_1019.Goals as goal
 
 pub returns : goal.returns
 returns c =

@@ -2,7 +2,7 @@
 
 ghost use Rattle.std.specs.Prelude.{◌≡◌, ◌+◌, ◌≤◌, ◌++◌, length};
 ghost use Rattle.arrayvec.specs.ArrayVec.{array_vec_len};
-ghost use Rattle.outlets.specs.PeriodLines.{key_text, list_period, verdict_text};
+ghost use Rattle.streams.specs.PeriodLines.{key_text, list_period, verdict_text};
 
 use crate::append_issue;
 use one_run::{Text, append, append_decimal, append_hex};

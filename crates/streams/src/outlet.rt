@@ -1,7 +1,7 @@
 //! The output of items and periods: a first text, one for each, and a last one.
 
 ghost use Rattle.nav_io.specs.Writes.{Writes};
-ghost use Rattle.outlets.specs.Targets.{back_text, prefix_text, item_text, period_text};
+ghost use Rattle.streams.specs.Targets.{back_text, prefix_text, item_text, period_text};
 
 use crate::listed::append_period;
 use crate::target::Target;

@@ -1,7 +1,7 @@
 //! The times of ephemerides.
 
 ghost use Rattle.std.specs.Prelude.{◌≡◌, Some, min, max};
-ghost use Rattle.outlets.specs.Times.{times_with, with_item, with_time};
+ghost use Rattle.streams.specs.Times.{times_with, with_item, with_time};
 
 use gnss_week::Moment;
 use nav_eph::NavItem;

@@ -1,8 +1,8 @@
 -- What proofs of other crates cite: the times of more items.
 use Rattle.std.proofs.Common.{◌≡◌, List, [], ◌∷◌, ◌++◌, Option, refl}
 use Rattle.nav_eph.specs.declared.items.NavItem.{NavItem}
-use Rattle.outlets.specs.Times.{times_of, times_with, with_item}
-use Rattle.outlets.specs.declared.times.Times.{Times}
+use Rattle.streams.specs.Times.{times_of, times_with, with_item}
+use Rattle.streams.specs.declared.times.Times.{Times}
 
 -- the times of items and then of others
 pub times_behind : (times : Option Times) (items more : List NavItem) → times_with times (items ++ more) ≡ times_with (times_with times items) more

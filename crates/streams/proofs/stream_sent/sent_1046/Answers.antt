@@ -3,7 +3,7 @@ use Rattle.nav_bits.specs.Bits.{Puts}
 use Rattle.rtcm_eph.specs.RoundTrip.{Begins1046}
 use Rattle.rtcm_eph.specs.Writing.{bytes_1046}
 use Rattle.streams.proofs.SentLemmas.{same_message}
-use Rattle.streams.proofs.sent.sent_1046.Goals as goal
+use Rattle.streams.proofs.stream_sent.sent_1046.Goals as goal
 
 pub returns : goal.returns
 returns c =

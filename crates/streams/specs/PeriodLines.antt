@@ -6,7 +6,7 @@ use Rattle.periods.specs.declared.key.Key.TheVariants.{Gps, Gal, GpsIon, GalIon}
 use Rattle.periods.specs.declared.closed.Closed.{Closed}
 use Rattle.periods.specs.declared.closed.Verdict.{Verdict}
 use Rattle.periods.specs.declared.closed.Verdict.TheVariants.{Whole, Partial, Contradicted, NoHealth, Again}
-use Rattle.outlets.specs.ItemTexts.{issue_text}
+use Rattle.streams.specs.ItemTexts.{issue_text}
 use Rattle.one_run.specs.Texts.{hex_digits}
 
 -- the key of a period: an ephemeris by satellite and issue of data, ionosphere parameters by system and their bits

@@ -2,7 +2,7 @@
 use Rattle.std.specs.Prelude.{ℕ, List, [], ◌∷◌, Option, None, Some, min, max}
 use Rattle.nav_eph.specs.declared.items.NavItem.{NavItem}
 use Rattle.rinex_write.specs.Fields.{epoch_of}
-use Rattle.outlets.specs.declared.times.Times.{Times}
+use Rattle.streams.specs.declared.times.Times.{Times}
 
 -- the times together with one more
 abbrev pub with_time : Option Times → Option ℕ → Option Times

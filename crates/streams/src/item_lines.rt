@@ -3,8 +3,8 @@
 ghost use Rattle.std.specs.Prelude.{◌≡◌, ◌+◌, ◌*◌, ◌<◌};
 ghost use Rattle.std.specs.Prelude.{◌≤◌, ◌^◌, ◌++◌};
 ghost use Rattle.arrayvec.specs.ArrayVec.{array_vec_len};
-ghost use Rattle.outlets.specs.ItemTexts.{ephemeris_text, issue_text, list_item};
-ghost use Rattle.outlets.specs.ItemTexts.{named_text, satellite_text};
+ghost use Rattle.streams.specs.ItemTexts.{ephemeris_text, issue_text, list_item};
+ghost use Rattle.streams.specs.ItemTexts.{named_text, satellite_text};
 
 use nav_eph::{NavItem, Sat, System};
 use one_run::{Text, append, append_decimal};
