@@ -11,7 +11,7 @@ use crate::{Found, options_of};
 use captures::{CaptureTo, SeedTo};
 use gnss_week::RefWeek;
 use nav_files::RinexTo;
-use nav_vectors::Sats;
+use sent_captures::Sats;
 use rinex_write::HeaderWords;
 use std::alloc::{AllocError, Global};
 use streams::StreamTo;

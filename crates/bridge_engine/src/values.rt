@@ -11,7 +11,7 @@ ghost use Rattle.bridge_engine.specs.WordsFound.{given_of};
 
 use crate::Found;
 use gnss_week::RefWeek;
-use nav_vectors::Sats;
+use sent_captures::Sats;
 
 /// The values of the options other than `--from` and `--to`; `None` if the option is absent.
 #[derive(Clone, Copy)]

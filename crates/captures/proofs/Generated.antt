@@ -1,8 +1,8 @@
 -- The generated text is a capture.
 use Rattle.std.proofs.Common.{◌≡◌, ◌∷◌, ◌++◌, ℕ, Bool, false, List, [], Some, None, codes, refl, ap, ◌∙◌, arith}
 use Rattle.nav_io.specs.Lines.{IsOneLine, Line, lines_by}
-use Rattle.nav_vectors.specs.Capture.{lines_of}
-use Rattle.nav_vectors.specs.Text.{capture_text, text_of_lines}
+use Rattle.sent_captures.specs.Capture.{lines_of}
+use Rattle.sent_captures.specs.Text.{capture_text, text_of_lines}
 use Rattle.capture_lines.specs.Heads.{head_of, plain_head}
 use Rattle.periods.specs.declared.closed.Closed.{Closed}
 use Rattle.streams.specs.declared.target.Target.TheVariants.{Count}

@@ -5,7 +5,7 @@ use Rattle.std.proofs.lemmas.Bool.{true≢false}
 use Rattle.std.specs.Io.KnownBytes.{Appends}
 use Rattle.std.proofs.KnownBytes.{Appends-nil}
 use Rattle.nav_io.specs.Prefix.{AppendsPrefix}
-use Rattle.nav_vectors.specs.Text.{capture_text}
+use Rattle.sent_captures.specs.Text.{capture_text}
 use Rattle.one_run.specs.Causes.{Faults, HasItsCause, faults_of}
 use Rattle.one_run.specs.Runs.{Broke, Done, Ended, Says, World, faults_in}
 use Rattle.one_run.proofs.Surface.{between, none_failed, report_failed, write_failed}

@@ -9,7 +9,7 @@ use crate::laws::generated_captures_are_accepted;
 use crate::seed_target::{SeedCounts, SeedTo};
 use gnss_week::RefWeek;
 use nav_io::Sink;
-use nav_vectors::{Sats, captures_are_short, make_capture};
+use sent_captures::{Sats, captures_are_short, make_capture};
 use one_run::BridgeFault;
 use std::alloc::Global;
 

@@ -3,7 +3,7 @@ use Rattle.std.proofs.Common.{◌≡◌, ℕ, ◌+◌, ◌-◌, ◌*◌, ◌/◌
 use Rattle.std.proofs.lemmas.Bool.{le-ltb, lt-leb}
 use Rattle.std.specs.Prelude.{Option, Some, None}
 use Rattle.gnss_week.specs.Weeks.{IsReference}
-use Rattle.page_send.specs.Slots.{text_of_items}
+use Rattle.sent_captures.specs.Slots.{text_of_items}
 use Rattle.capture_lines.specs.Texts.{half_text}
 use Rattle.receiver_log.specs.declared.said.Content.{Content}
 use Rattle.receiver_log.specs.declared.said.Content.TheVariants.{Refused, Subframe, Page}

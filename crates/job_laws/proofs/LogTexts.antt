@@ -5,7 +5,7 @@ use Rattle.nav_eph.specs.Satellite.{Satellite}
 use Rattle.nav_eph.specs.declared.signal.Signal.{Signal}
 use Rattle.capture_lines.specs.Texts.{half_text}
 use Rattle.capture_lines.specs.declared.item.LineItem.{LineItem}
-use Rattle.page_send.specs.Slots.{text_of_item, text_of_items}
+use Rattle.sent_captures.specs.Slots.{text_of_item, text_of_items}
 use Rattle.receiver_log.specs.declared.said.Content.{Content}
 use Rattle.receiver_log.specs.declared.said.Content.TheVariants.{Refused, Subframe, Page}
 use Rattle.receiver_log.specs.declared.said.Reason.{Reason}

@@ -25,8 +25,8 @@ use Rattle.rinex_read.specs.declared.judged.HeaderFault.{HeaderFault}
 use Rattle.rinex_read.specs.declared.judged.ItemRead.{ItemRead}
 use Rattle.nav_files.specs.Files.{text_in}
 use Rattle.nav_files.specs.Sends.{sends_text}
-use Rattle.page_send.specs.Sendable.{is_ephemeris, sent_text}
-use Rattle.page_send.specs.SentItems.{sent_items}
+use Rattle.sent_captures.specs.Sendable.{is_ephemeris, sent_text}
+use Rattle.sent_captures.specs.SentItems.{sent_items}
 use Rattle.captures.specs.Captures.{Capture, accepted_head, accepted_line, capture_in, capture_of, capture_with, items, output_of, target_of}
 use Rattle.captures.specs.declared.target.CaptureTo.{CaptureTo}
 use Rattle.captures.specs.declared.target.CaptureTo.TheVariants.{Rinex, Rinex3, Rtcm, ToList, Count}

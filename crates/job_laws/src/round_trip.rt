@@ -3,7 +3,7 @@
 
 ghost use Rattle.std.specs.Prelude.{◌≡◌, ℕ, List, Some};
 ghost use Rattle.nav_eph.specs.declared.items.NavItem.{NavItem};
-ghost use Rattle.page_send.specs.SentItems.{sent_items};
+ghost use Rattle.sent_captures.specs.SentItems.{sent_items};
 ghost use Rattle.capture_log.specs.Log.{parts_of};
 ghost use Rattle.nav_laws.specs.SentAgain.{AreRepeats, AreTurned, IsHeardAgain, SameByType};
 ghost use Rattle.nav_laws.specs.SentCapture.{sent_capture};

@@ -10,7 +10,7 @@ use Rattle.one_run.specs.Runs.{AppendsBetween}
 use Rattle.one_run.proofs.Surface.{prefix_after}
 use Rattle.nav_files.specs.declared.counts.RinexCounts.{RinexCounts}
 use Rattle.nav_files.proofs.Surface.{grew_between, grew_more}
-use Rattle.page_send.specs.Sendable.{sent_head, sent_text}
+use Rattle.sent_captures.specs.Sendable.{sent_head, sent_text}
 use Rattle.nav_files.specs.declared.told.Told.{Told}
 use Rattle.nav_files.specs.Following.{counted}
 use Rattle.nav_files.specs.Sends.{counts_of_tolds, sends_text, slot_behind, slots_behind, told, told_text, tolds}

@@ -7,10 +7,10 @@ use Rattle.rinex_read.specs.Files.{items_of}
 use Rattle.rinex_read.specs.declared.judged.ItemRead.{ItemRead}
 use Rattle.rinex_read.specs.declared.judged.ItemRead.TheVariants as reads
 use Rattle.nav_files.specs.declared.counts.RinexCounts.{RinexCounts}
-use Rattle.page_send.specs.declared.fault.SendFault.{SendFault}
-use Rattle.page_send.specs.Slots.{slot_items, slot_text, text_of_items}
-use Rattle.page_send.specs.Sendable.{first_fault, has_other_issue, is_ephemeris, is_far, is_full, no_fault, send_fault, sendable, slots_items}
-use Rattle.page_send.proofs.Surface.{texts_append}
+use Rattle.sent_captures.specs.declared.fault.SendFault.{SendFault}
+use Rattle.sent_captures.specs.Slots.{slot_items, slot_text, text_of_items}
+use Rattle.sent_captures.specs.Sendable.{first_fault, has_other_issue, is_ephemeris, is_far, is_full, no_fault, send_fault, sendable, slots_items}
+use Rattle.sent_captures.proofs.Surface.{texts_append}
 use Rattle.nav_files.specs.declared.told.Told.{Told}
 use Rattle.nav_files.specs.Following.{counted}
 use Rattle.nav_files.specs.Sends.{counts_of_tolds, is_item, is_passed, is_refused_told, slot_behind, slots_behind, told, told_item, told_text, tolds}

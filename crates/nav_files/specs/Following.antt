@@ -3,7 +3,7 @@ use Rattle.std.specs.Prelude.{◌≡◌, ◌+◌, ℕ, None}
 use Rattle.nav_eph.specs.Ranges.{IsItem}
 use Rattle.nav_eph.specs.declared.items.NavItem.{NavItem}
 use Rattle.nav_files.specs.declared.counts.RinexCounts.{RinexCounts}
-use Rattle.page_send.specs.Sendable.{IsEphemeris, send_fault}
+use Rattle.sent_captures.specs.Sendable.{IsEphemeris, send_fault}
 use Rattle.nav_files.specs.declared.told.Told.{Told}
 use Rattle.nav_files.specs.declared.told.Told.TheVariants.{Sent, NotSent, Withheld, Refused, PassedOver}
 use Rattle.nav_files.specs.Sends.{is_item, is_passed, is_refused_told}

@@ -11,10 +11,10 @@ use Rattle.one_run.specs.Reports.{report_line}
 use Rattle.nav_files.specs.declared.counts.RinexCounts.{RinexCounts}
 use Rattle.one_run.specs.Runs.{Meaning}
 use Rattle.nav_files.specs.Files.{file_counts_text, file_meaning, reason_text}
-use Rattle.page_send.specs.declared.fault.SendFault.{SendFault}
-use Rattle.page_send.specs.declared.fault.SendFault.TheVariants as faults
-use Rattle.page_send.specs.Slots.{slot_text}
-use Rattle.page_send.specs.Sendable.{is_ephemeris, send_fault, sent_head, sent_text}
+use Rattle.sent_captures.specs.declared.fault.SendFault.{SendFault}
+use Rattle.sent_captures.specs.declared.fault.SendFault.TheVariants as faults
+use Rattle.sent_captures.specs.Slots.{slot_text}
+use Rattle.sent_captures.specs.Sendable.{is_ephemeris, send_fault, sent_head, sent_text}
 use Rattle.nav_files.specs.declared.told.Told.{Told}
 use Rattle.nav_files.specs.declared.told.Told.TheVariants.{Sent, NotSent, Withheld, Refused, PassedOver}
 

@@ -13,8 +13,8 @@ ghost use Rattle.streams.specs.declared.target.Target.TheVariants as targets;
 ghost use Rattle.nav_files.specs.Archives.{cover_meaning, cover_text, merge_meaning};
 ghost use Rattle.nav_files.specs.Files.{convert_meaning};
 ghost use Rattle.rinex_read.specs.declared.judged.ItemRead.{ItemRead};
-ghost use Rattle.page_send.specs.Sendable.{sendable, slots_items};
-ghost use Rattle.page_send.specs.Slots.{text_of_items};
+ghost use Rattle.sent_captures.specs.Sendable.{sendable, slots_items};
+ghost use Rattle.sent_captures.specs.Slots.{text_of_items};
 ghost use Rattle.nav_files.specs.Sends.{told_text, tolds};
 
 /// What is written record by record is the capture that transmits the items of the records.

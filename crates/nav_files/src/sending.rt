@@ -3,7 +3,7 @@
 ghost use Rattle.std.specs.Prelude.{◌≡◌, ◌++◌, false};
 ghost use Rattle.std.specs.List.{flat_map};
 ghost use Rattle.nav_io.specs.Writes.{Writes};
-ghost use Rattle.page_send.specs.Sendable.{sent_head};
+ghost use Rattle.sent_captures.specs.Sendable.{sent_head};
 ghost use Rattle.rinex_read.specs.RoundTrip.{IsWholeRead};
 ghost use Rattle.nav_files.specs.Following.{AreCounted};
 ghost use Rattle.nav_files.specs.Sends.{counts_of_tolds, sends_report, sends_text, slots_behind};

@@ -14,7 +14,7 @@ use crate::told::{Told, fault_word};
 use gnss_week::RefWeek;
 use nav_io::{Failed, Sink};
 use one_run::{BridgeFault, report_text};
-use page_send::send_item;
+use sent_captures::send_item;
 
 // Reports a record by its first line and a word.
 fn report_word<U: Sink>(line: u32, word: &[u8], report: &mut U) -> Result<(), BridgeFault>

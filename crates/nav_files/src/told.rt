@@ -3,13 +3,13 @@
 ghost use Rattle.std.specs.Prelude.{◌≡◌, ◌≤◌, length, true};
 ghost use Rattle.nav_eph.specs.Ranges.{IsItem};
 ghost use Rattle.rinex_read.specs.RoundTrip.{IsWholeRead};
-ghost use Rattle.page_send.specs.Sendable.{IsEphemeris, is_ephemeris, send_fault};
+ghost use Rattle.sent_captures.specs.Sendable.{IsEphemeris, is_ephemeris, send_fault};
 ghost use Rattle.nav_files.specs.Following.{IsTold};
 ghost use Rattle.nav_files.specs.Sends.{fault_text, slot_behind, told as told_by, told_item};
 
 use gnss_week::RefWeek;
 use nav_eph::NavItem;
-use page_send::{SendFault, can_send};
+use sent_captures::{SendFault, can_send};
 use rinex_read::{ItemRead, Reason};
 
 /// The outcome of a record of a navigation file whose ephemerides are transmitted.

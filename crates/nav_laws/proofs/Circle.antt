@@ -19,9 +19,9 @@ use Rattle.periods.specs.PeriodsOf.{end_place, periods_of}
 use Rattle.periods.specs.DigestsOf.{verdict_of}
 use Rattle.periods.specs.Verdicts.{IsClosed, IsComplete, IsFound, IsOfEphemeris, Repeats, closed_place}
 use Rattle.periods.proofs.Surface.{All-in, In, In-from_contains, Splits, all_of, before_trans, compares_known, contains_from_In, covered, found_left, found_right, items_append, judged_by, known_parts, left_low, left_period, period_cases, periods_of-only, right_high, right_period, some_is}
-use Rattle.page_send.specs.Slots.{galileo_second, galileo_week_number, slot_stamp}
-use Rattle.page_send.specs.Sendable.{is_ephemeris}
-use Rattle.page_send.specs.SentItems.{as_sent, ionosphere_with, items_back, repeats_latest}
+use Rattle.sent_captures.specs.Slots.{galileo_second, galileo_week_number, slot_stamp}
+use Rattle.sent_captures.specs.Sendable.{is_ephemeris}
+use Rattle.sent_captures.specs.SentItems.{as_sent, ionosphere_with, items_back, repeats_latest}
 use Rattle.nav_laws.specs.SentAgain.{AreSentAgain, AreTurned, IsInSlot, IsIonosphere, IsSentAgain, IsWord, SameByType}
 use Rattle.nav_laws.specs.SlotParts.{part, parts_at, slots_parts}
 use Rattle.nav_laws.proofs.AppendLemmas.{In-append_left, In-append_right, In-append_cases}

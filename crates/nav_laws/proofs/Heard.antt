@@ -26,7 +26,7 @@ use Rattle.capture_log.specs.Events.{half_of, is_alert, of_subframe, of_word}
 use Rattle.capture_log.specs.Heard.{IsHalfHeard, IsPartHeard}
 use Rattle.capture_log.specs.declared.event.Event.{Event}
 use Rattle.capture_log.specs.declared.event.Event.TheVariants.{Heard}
-use Rattle.page_send.specs.Slots.{half_item, subframe_item}
+use Rattle.sent_captures.specs.Slots.{half_item, subframe_item}
 
 -- ---- what is sent
 

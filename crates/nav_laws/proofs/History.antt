@@ -15,7 +15,7 @@ use Rattle.periods.specs.DigestsOf.{verdict_of}
 use Rattle.periods.specs.PeriodLists.{item_in}
 use Rattle.periods.specs.Verdicts.{IsComplete, IsOfEphemeris}
 use Rattle.periods.proofs.Surface.{IsKnownBefore, is-same_key, none_some, same_key-is, some_is}
-use Rattle.page_send.specs.SentItems.{as_sent, have_one_key, repeats_latest}
+use Rattle.sent_captures.specs.SentItems.{as_sent, have_one_key, repeats_latest}
 use Rattle.nav_laws.proofs.Slots.{gal_key, gps_key}
 use Rattle.nav_laws.proofs.Slots.{key_of_item}
 

@@ -21,8 +21,8 @@ use Rattle.inav.specs.Pages.{bytes_of_half, even_of, odd_of}
 use Rattle.nav_eph.specs.declared.signal.Signal.TheVariants.{E1b}
 use Rattle.periods.proofs.Surface.{In}
 use Rattle.nav_laws.proofs.AppendLemmas.{In-append_cases}
-use Rattle.page_send.specs.Slots.{count_of, galileo_second, galileo_week_number, gps_week_number, half_item, items_at, no_ionosphere, slot_stamp, subframe_item}
-use Rattle.page_send.specs.Sendable.{first_fault, has_other_issue, is_far, is_full, is_sent, no_fault, sendable, slots_items}
+use Rattle.sent_captures.specs.Slots.{count_of, galileo_second, galileo_week_number, gps_week_number, half_item, items_at, no_ionosphere, slot_stamp, subframe_item}
+use Rattle.sent_captures.specs.Sendable.{first_fault, has_other_issue, is_far, is_full, is_sent, no_fault, sendable, slots_items}
 use Rattle.nav_laws.specs.SlotParts.{parts_at, slots_parts}
 use Rattle.nav_laws.proofs.Slots.{IsSent}
 use Rattle.nav_laws.proofs.SentTexts.{AreSpelt, IsSpelt, spelt_append}

@@ -40,8 +40,8 @@ use Rattle.capture_log.specs.Events.{of_subframe, of_word}
 use Rattle.capture_log.specs.Heard.{IsPartHeard}
 use Rattle.capture_log.specs.declared.event.Event.{Event}
 use Rattle.capture_log.specs.declared.event.Event.TheVariants.{Heard}
-use Rattle.page_send.specs.Slots.{count_of, galileo_items, galileo_second, galileo_week_number, gps_transmission, gps_week_number, half_item, items_at, no_ionosphere, slot_stamp, subframe_item}
-use Rattle.page_send.specs.Sendable.{slots_items}
+use Rattle.sent_captures.specs.Slots.{count_of, galileo_items, galileo_second, galileo_week_number, gps_transmission, gps_week_number, half_item, items_at, no_ionosphere, slot_stamp, subframe_item}
+use Rattle.sent_captures.specs.Sendable.{slots_items}
 use Rattle.nav_laws.specs.SlotParts.{part, parts_at, slots_parts}
 use Rattle.nav_laws.proofs.Slots.{IsSentGal, IsSentGps}
 use Rattle.nav_laws.proofs.Slots.{IsSent}

@@ -42,8 +42,8 @@ use Rattle.periods.specs.PeriodLists.{IsAscending, items_in}
 use Rattle.periods.specs.PeriodsOf.{end_place, finding_at}
 use Rattle.periods.specs.Verdicts.{IsComplete, IsFound, IsOfEphemeris, closed_place}
 use Rattle.periods.proofs.Surface.{In, In-from_contains, contains_from_In, covered, finding_at-is, is-same_sat, known_parts, none_some, reading_of, some_is}
-use Rattle.page_send.specs.Slots.{galileo_second, galileo_week_number, gps_second, gps_transmission, gps_week_number, no_ionosphere}
-use Rattle.page_send.specs.SentItems.{as_sent, ionosphere_with}
+use Rattle.sent_captures.specs.Slots.{galileo_second, galileo_week_number, gps_second, gps_transmission, gps_week_number, no_ionosphere}
+use Rattle.sent_captures.specs.SentItems.{as_sent, ionosphere_with}
 use Rattle.nav_laws.specs.SentAgain.{IsIonosphere, IsWord}
 use Rattle.nav_laws.specs.SlotParts.{parts_at}
 use Rattle.nav_laws.proofs.Slots.{IsSentGal, IsSentGps, gal_key, gps_key, ion_item, ion_key, sent_is, toe_week_is, IsSent, key_of_item}

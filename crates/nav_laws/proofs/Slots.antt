@@ -16,7 +16,7 @@ use Rattle.nav_eph.specs.declared.items.NavItem.TheVariants.{Gps as GpsItem, Gal
 use Rattle.periods.proofs.Surface.{In}
 use Rattle.periods.specs.declared.key.Key.{Key}
 use Rattle.periods.specs.declared.key.Key.TheVariants.{Gps, Gal, GalIon}
-use Rattle.page_send.specs.Slots.{no_ionosphere}
+use Rattle.sent_captures.specs.Slots.{no_ionosphere}
 use Rattle.nav_laws.specs.SlotParts.{parts_at}
 
 -- the GPS time with the second of week `toe` that is nearest to the transmission time

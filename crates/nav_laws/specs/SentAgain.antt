@@ -9,8 +9,8 @@ use Rattle.capture_lines.specs.Late.{stamp_of}
 use Rattle.capture_lines.specs.declared.item.LineItem.{LineItem}
 use Rattle.capture_lines.specs.declared.item.LineItem.TheVariants.{Pass, Lnav, Half, Frame, Malformed}
 use Rattle.capture_log.specs.Log.{line_items_of, parts_of}
-use Rattle.page_send.specs.Sendable.{is_ephemeris}
-use Rattle.page_send.specs.Slots.{slot_stamp}
+use Rattle.sent_captures.specs.Sendable.{is_ephemeris}
+use Rattle.sent_captures.specs.Slots.{slot_stamp}
 
 -- the second is one of the first two hours of the slot
 pub record IsInSlot (slot second : ℕ) : Type 0 where

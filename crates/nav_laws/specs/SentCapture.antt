@@ -6,7 +6,7 @@ use Rattle.nav_eph.specs.declared.items.NavItem.{NavItem}
 use Rattle.capture_lines.specs.Late.{stamp_of}
 use Rattle.capture_lines.specs.declared.item.LineItem.{LineItem}
 use Rattle.capture_log.specs.Log.{line_items_of, parts_of}
-use Rattle.page_send.specs.Sendable.{sent_text}
+use Rattle.sent_captures.specs.Sendable.{sent_text}
 
 -- the lines after the first of the capture that transmits a list of items, for the reference week r
 abbrev pub sent_capture : ℕ → List NavItem → List Line

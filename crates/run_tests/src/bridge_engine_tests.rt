@@ -14,7 +14,7 @@ use nav_eph::{
 };
 use nav_io::{MemSink, MemSource};
 use nav_laws::PlainAssembly;
-use nav_vectors::{Sats, make_capture};
+use sent_captures::{Sats, make_capture};
 use one_run::{Text, append, append_decimal, append_hex};
 use streams::append_issue;
 use periods::{Closed, Key, Verdict};

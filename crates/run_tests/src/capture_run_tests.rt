@@ -5,7 +5,7 @@ ghost use Rattle.std.specs.Prelude.{◌<◌};
 use captures::{CaptureRun, CaptureTo, run_capture};
 use gnss_week::RefWeek;
 use nav_io::{MemSink, MemSource};
-use nav_vectors::{Sats, make_capture};
+use sent_captures::{Sats, make_capture};
 use one_run::BridgeFault;
 use std::alloc::{AllocError, Global};
 use std::test::Fail;

@@ -12,8 +12,8 @@ use Rattle.periods.specs.PeriodLists.{items_in}
 use Rattle.periods.specs.PeriodsOf.{periods_of}
 use Rattle.capture_log.specs.Heard.{IsPartHeard, NoneLate, SameItems}
 use Rattle.capture_log.specs.Log.{line_items_of, parts_of}
-use Rattle.page_send.specs.Sendable.{sendable, sent_lines, slots_items}
-use Rattle.page_send.specs.SentItems.{sent_items}
+use Rattle.sent_captures.specs.Sendable.{sendable, sent_lines, slots_items}
+use Rattle.sent_captures.specs.SentItems.{sent_items}
 use Rattle.nav_laws.specs.SentAgain.{AreRepeats, AreSentAgain, AreTurned, IsHeardAgain, IsSentAgain, SameByType}
 use Rattle.nav_laws.specs.SentCapture.{IsOfLines, IsStillHeard, sent_capture}
 use Rattle.nav_laws.specs.SlotParts.{slots_parts}

@@ -10,8 +10,8 @@ use Rattle.inav.specs.Writing.{word1_bytes, word2_bytes, word3_bytes, word4_byte
 use Rattle.periods.proofs.Surface.{In, In-from_contains, contains_from_In}
 use Rattle.capture_log.specs.Heard.{IsPartHeard}
 use Rattle.capture_log.specs.Log.{line_items_of, parts_of}
-use Rattle.page_send.specs.Slots.{text_of_items}
-use Rattle.page_send.specs.Sendable.{sendable, sent_lines, sent_text, slots_items}
+use Rattle.sent_captures.specs.Slots.{text_of_items}
+use Rattle.sent_captures.specs.Sendable.{sendable, sent_lines, sent_text, slots_items}
 use Rattle.nav_laws.specs.SentAgain.{AreRepeats, IsSentAgain}
 use Rattle.nav_laws.specs.SentCapture.{sent_capture}
 use Rattle.nav_laws.specs.SlotParts.{slots_parts}

@@ -2,7 +2,7 @@ use Rattle.std.proofs.Common.{◌++◌}
 use Rattle.std.specs.List.{flat_map}
 use Rattle.one_run.proofs.Surface.{prefix_after, prefix_more, prefix_trans}
 use Rattle.nav_files.specs.Sends.{told_report, told_text, tolds}
-use Rattle.page_send.specs.Sendable.{sent_head}
+use Rattle.sent_captures.specs.Sendable.{sent_head}
 use Rattle.nav_files.proofs.SentLemmas.{sent_prefix, text_prefix}
 use Rattle.nav_files.proofs.sending.SendingTakerItemRead.begins.Goals as goal
 

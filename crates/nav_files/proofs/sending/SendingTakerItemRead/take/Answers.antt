@@ -1,6 +1,6 @@
 use Rattle.std.proofs.Common.{[], ◌∙◌}
 use Rattle.std.proofs.lemmas.Result.{err_from_is_err_and}
-use Rattle.page_send.specs.Sendable.{sent_head}
+use Rattle.sent_captures.specs.Sendable.{sent_head}
 use Rattle.nav_files.specs.Sends.{told_report, told_text}
 use Rattle.nav_files.proofs.SentLemmas.{counts_room, counts_with, slot_with, told_between, told_more}
 use Rattle.nav_files.proofs.Tolds.{room_for}
