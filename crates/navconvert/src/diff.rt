@@ -6,7 +6,7 @@ use crate::command::Asked;
 use crate::inputs::{Input, Inputs, opened};
 use crate::words::is_broken;
 use file_conversion::{Refusal, STANDARD_OUTPUT, Shown};
-use file_diff::{FileItems, ReadCounts, read_items, write_differences};
+use nav_files::{FileItems, ReadCounts, read_items, write_differences};
 use nav_io::{Failed, WriteSink};
 use one_run::BridgeFault;
 use rinex_read::{Rinex3, Rinex4};
