@@ -36,12 +36,12 @@ pub use denote.Triple.Table.{framed}
 pub use Rattle.framing.specs.State.{DeframerState}
 pub use Rattle.framing.specs.contracts.deframer.Deframer.{the_row as R}
 pub use Rattle.framing.proofs.deframer.Deframer.TheLaws.{the_row_laws}
-pub use Rattle.c_states.specs.Pushes.{PushState}
-pub use Rattle.c_states.specs.contracts.push.Conversion.{the_row as P}
-pub use Rattle.c_states.proofs.push.Conversion.TheLaws.{the_row_laws as push_laws}
-pub use Rattle.c_states.specs.PagePairs.{PagesState}
-pub use Rattle.c_states.specs.contracts.pages.PagePairs.{the_row as Q}
-pub use Rattle.c_states.proofs.pages.PagePairs.TheLaws.{the_row_laws as pages_laws}
+pub use Rattle.c_calls.specs.Pushes.{PushState}
+pub use Rattle.c_calls.specs.contracts.push.Conversion.{the_row as P}
+pub use Rattle.c_calls.proofs.push.Conversion.TheLaws.{the_row_laws as push_laws}
+pub use Rattle.c_calls.specs.PagePairs.{PagesState}
+pub use Rattle.c_calls.specs.contracts.pages.PagePairs.{the_row as Q}
+pub use Rattle.c_calls.proofs.state_pages.PagePairs.TheLaws.{the_row_laws as pages_laws}
 pub use Rattle.std.specs.contracts.alloc.Global.{the_row as Heap}
 pub use Rattle.std.proofs.alloc.Global.TheLaws.{the_row_laws as heap_laws}
 use mir.Val.{Val, vstruct, vnil, vcons}

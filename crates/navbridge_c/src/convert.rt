@@ -8,7 +8,7 @@ ghost use Rattle.navbridge_c.specs.Mirrors.{HasEndedInMemory, in_memory, in_room
 use crate::memory::Lent;
 use bridge_engine::run_job;
 use c_records::put;
-use c_states::{Kept, push};
+use c_calls::{Kept, push};
 use one_run::Status;
 use std::alloc::Global;
 

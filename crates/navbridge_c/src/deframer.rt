@@ -6,10 +6,10 @@
 ghost use Rattle.std.specs.Prelude.{◌≡◌, ◌≤◌, take};
 ghost use Rattle.std.specs.Borrow.{sem};
 ghost use Rattle.framing.specs.State.{DeframerState};
-ghost use Rattle.c_states.specs.Deframers.{Feeds, Gives, HasRoom, HoldsDeframer, deframer_size};
-ghost use Rattle.c_states.specs.Deframers.{ended, fed, fresh, left};
+ghost use Rattle.c_calls.specs.Deframers.{Feeds, Gives, HasRoom, HoldsDeframer, deframer_size};
+ghost use Rattle.c_calls.specs.Deframers.{ended, fed, fresh, left};
 
-use c_states::deframer;
+use c_calls::deframer;
 use framing::Deframer;
 
 /// How many bytes a deframer takes, at most 24,576.

@@ -5,11 +5,11 @@
 
 ghost use Rattle.std.specs.Prelude.{◌≡◌, ◌≤◌, map};
 ghost use Rattle.std.specs.Borrow.{sem};
-ghost use Rattle.c_states.specs.Places.{HasPushRoom, HoldsPush, HoldsPushThat, push_size};
-ghost use Rattle.c_states.specs.Pushes.{Finishes, Opens, PushState, Pushes, Takes};
-ghost use Rattle.c_states.specs.Pushes.{closed, taken_more, told_more};
+ghost use Rattle.c_calls.specs.Places.{HasPushRoom, HoldsPush, HoldsPushThat, push_size};
+ghost use Rattle.c_calls.specs.Pushes.{Finishes, Opens, PushState, Pushes, Takes};
+ghost use Rattle.c_calls.specs.Pushes.{closed, taken_more, told_more};
 
-use c_states::{Conversion, push};
+use c_calls::{Conversion, push};
 use std::alloc::Global;
 
 /// How many bytes a conversion takes, at most 65,536.

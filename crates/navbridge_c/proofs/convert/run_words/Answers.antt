@@ -1,5 +1,5 @@
 use Rattle.std.proofs.Common.{refl, sym, ap, ◌∙◌}
-use Rattle.c_states.specs.declared.kept.Kept.{Kept}
+use Rattle.c_calls.specs.declared.kept.Kept.{Kept}
 use Rattle.navbridge_c.specs.declared.memory.Lent.{Lent}
 use Rattle.navbridge_c.specs.Mirrors.{in_memory}
 use Rattle.navbridge_c.proofs.Endings.{ended_in_memory, no_job_made}

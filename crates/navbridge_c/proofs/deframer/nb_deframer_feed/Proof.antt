@@ -1,11 +1,11 @@
 -- What lies at the pointer is lent to `feed` with the piece, and comes back with what was taken of it.
 use Rattle.navbridge_c.proofs.Steps.{◌≡◌, ℕ, [], ◌∷◌, ◌++◌, take, refl, w64, proved, full_share, id⊢, Lft, GName, ftrue, flft, fres, flent, named, vptr, WpFn, fact, tables, ‵, raw, ◌⊛◌, some, later, prop, ◌$◌, ◌∵◌, !, qed, done, move, keep, drop, use1, use2, use3, split, join, fsplit, pick, await, rewrite, regoal, suffices, frame, group, enter, of_opd, addr, stop, no_more, and_then, returns, alloc_all, pass_all, free_all, look_at, get, through, sets, lands_as, Body, lft_new, lft_end, u8, usize, yes, Is, shows, lends_ref, ref_back, mem, part_at, uint_Lawful, Ptr, RawPtr, block_ptr, lies_at, in_a_block, rawptr_vals, rawptr_Tells, MutRef, plain, shr_slice_of, ShrSlice, shr_slice_vals, shr_slice_Tells, nothing, heard, peeks, calls_at, lasts, triple_of, Stays, walk_of, says, stay_dropped, Goes-dropped, ends_at, framed, DeframerState, R}
-use Rattle.c_states.specs.Deframers.{Feeds, fed}
+use Rattle.c_calls.specs.Deframers.{Feeds, fed}
 use Rattle.navbridge_c.specs.contracts.deframer.nb_deframer_feed as f
 use Rattle.navbridge_c.proofs.deframer.nb_deframer_feed.Statement.{statement}
 use Rattle.navbridge_c.proofs.deframer.nb_deframer_feed.Code as code
-use Rattle.c_states.specs.contracts.deframer.feed as g
-use Rattle.c_states.proofs.deframer.feed.Met.{met}
+use Rattle.c_calls.specs.contracts.deframer.feed as g
+use Rattle.c_calls.proofs.deframer.feed.Met.{met}
 
 abbrev stayed : Stays f.ended.signature.params f.ended.kept
 stayed = (stay_dropped _ yes, (stay_dropped _ yes, tt))

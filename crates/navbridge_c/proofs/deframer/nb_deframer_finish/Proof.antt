@@ -1,11 +1,11 @@
 -- What lies at the pointer is lent to `finish`, and comes back as it is left.
 use Rattle.navbridge_c.proofs.Steps.{◌≡◌, [], ◌∷◌, refl, ap, proved, full_share, id⊢, Lft, GName, ftrue, flft, fres, flent, named, vunit, vptr, WpFn, fact, tables, ‵, raw, ◌⊛◌, some, later, prop, ◌$◌, ◌∵◌, !, qed, done, move, keep, drop, use1, use2, use3, split, join, fsplit, feq_i, feq_l, pick, await, rewrite, regoal, suffices, group, enter, of_opd, unit_lit, addr, stop, no_more, and_then, returns, alloc_all, pass_all, free_all, look_at, get, through, sets, lands_as, Body, lft_new, lft_end, unit, yes, lends_ref, ref_back, mem, part_at, Ptr, RawPtr, block_ptr, lies_at, in_a_block, rawptr_vals, rawptr_Tells, MutRef, plain, nothing, heard, only, calls_at, lasts, on_entry, triple_of, Stays, walk_of, stay_dropped, Goes-dropped, ends_at, framed, DeframerState, R}
-use Rattle.c_states.specs.Deframers.{ended}
+use Rattle.c_calls.specs.Deframers.{ended}
 use Rattle.navbridge_c.specs.contracts.deframer.nb_deframer_finish as f
 use Rattle.navbridge_c.proofs.deframer.nb_deframer_finish.Statement.{statement}
 use Rattle.navbridge_c.proofs.deframer.nb_deframer_finish.Code as code
-use Rattle.c_states.specs.contracts.deframer.finish as g
-use Rattle.c_states.proofs.deframer.finish.Met.{met}
+use Rattle.c_calls.specs.contracts.deframer.finish as g
+use Rattle.c_calls.proofs.deframer.finish.Met.{met}
 
 abbrev stayed : Stays f.ended.signature.params f.ended.kept
 stayed = (stay_dropped _ yes, tt)

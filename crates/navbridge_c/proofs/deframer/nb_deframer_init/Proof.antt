@@ -1,11 +1,11 @@
 -- A deframer is made, and moved into the room.
 use Rattle.navbridge_c.proofs.Steps.{◌≡◌, [], ◌∷◌, refl, proved, id⊢, full_share, ftrue, vunit, WpFn, fact, tables, ‵, raw, ◌⊛◌, some, later, prop, ◌$◌, ◌∵◌, !, qed, done, move, drop, use1, use2, split, join, feq_i, pick, await, rewrite, regoal, suffices, group, enter, of_opd, unit_lit, stop, no_more, assigns, init, returns, alloc_all, pass_all, free_all, look_at, get, through, sets, lands_as, part_in, yes, Is, shows, part_at, Ptr, RawPtr, block_ptr, room_at, in_a_block, rawptr_vals, rawptr_Tells, plain, nothing, heard, peeks, calls_at, lasts, on_entry, triple_of, Stays, walk_of, stay_dropped, Goes-dropped, ends_at, framed, DeframerState, R, the_row_laws}
-use Rattle.c_states.specs.Deframers.{fresh}
+use Rattle.c_calls.specs.Deframers.{fresh}
 use Rattle.navbridge_c.specs.contracts.deframer.nb_deframer_init as f
 use Rattle.navbridge_c.proofs.deframer.nb_deframer_init.Statement.{statement}
 use Rattle.navbridge_c.proofs.deframer.nb_deframer_init.Code as code
-use Rattle.c_states.specs.contracts.deframer.new as g
-use Rattle.c_states.proofs.deframer.new.Met.{met}
+use Rattle.c_calls.specs.contracts.deframer.new as g
+use Rattle.c_calls.proofs.deframer.new.Met.{met}
 
 abbrev stayed : Stays f.ended.signature.params f.ended.kept
 stayed = (stay_dropped _ yes, tt)

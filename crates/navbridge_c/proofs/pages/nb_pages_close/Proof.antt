@@ -1,11 +1,11 @@
 -- What lies at the pointer is lent to `close`, and comes back as it is left.
 use Rattle.navbridge_c.proofs.Steps.{[], ◌∷◌, refl, ap, proved, full_share, id⊢, Lft, GName, ftrue, fsep, fex, flft, flent, named, vunit, vptr, WpFn, fact, tables, ‵, raw, ◌⊛◌, some, later, prop, ◌$◌, ◌∵◌, !, qed, done, move, keep, drop, use1, use2, use3, split, join, fsplit, fjoin, fpack, feq_i, feq_l, pick, await, regoal, suffices, group, enter, of_opd, unit_lit, addr, stop, no_more, and_then, returns, alloc_all, pass_all, free_all, look_at, get, through, sets, lands_as, Body, lft_new, lft_end, unit, yes, lends_ref, ref_back, mem, part_at, Ptr, RawPtr, block_ptr, lies_at, in_a_block, rawptr_vals, rawptr_Tells, MutRef, plain, nothing, heard, only, calls_at, lasts, on_entry, triple_of, Stays, walk_of, stay_dropped, Goes-dropped, ends_at, framed, PagesState, Q}
-use Rattle.c_states.specs.PagePairs.{IsEmpty}
+use Rattle.c_calls.specs.PagePairs.{IsEmpty}
 use Rattle.navbridge_c.specs.contracts.pages.nb_pages_close as f
 use Rattle.navbridge_c.proofs.pages.nb_pages_close.Statement.{statement}
 use Rattle.navbridge_c.proofs.pages.nb_pages_close.Code as code
-use Rattle.c_states.specs.contracts.pages.close as g
-use Rattle.c_states.proofs.pages.close.Met.{met}
+use Rattle.c_calls.specs.contracts.pages.close as g
+use Rattle.c_calls.proofs.state_pages.close.Met.{met}
 
 abbrev stayed : Stays f.ended.signature.params f.ended.kept
 stayed = (stay_dropped _ yes, tt)

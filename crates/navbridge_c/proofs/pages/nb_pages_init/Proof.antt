@@ -1,11 +1,11 @@
 -- Page parts are made, and moved into the room.
 use Rattle.navbridge_c.proofs.Steps.{[], ◌∷◌, ◌++◌, refl, w32, proved, full_share, id⊢, ftrue, fsep, fex, vunit, WpFn, fact, tables, ‵, raw, ◌⊛◌, some, later, prop, ◌$◌, ◌∵◌, !, qed, done, move, keep, drop, use1, use2, split, join, fjoin, fpack, feq_i, pick, await, regoal, suffices, group, enter, of_opd, unit_lit, stop, no_more, and_then, assigns, init, returns, alloc_all, pass_all, free_all, look_at, get, through, sets, lands_as, part_in, u32, yes, Is, shows, part_at, uint_vals, uint_Tells, Ptr, RawPtr, block_ptr, room_at, in_a_block, rawptr_vals, rawptr_Tells, plain, nothing, heard, peeks, calls_at, lasts, triple_of, Stays, walk_of, stay_dropped, Goes-dropped, ends_at, framed, heap_val, heap_Tells, Heap, heap_laws, PagesState, Q, pages_laws}
-use Rattle.c_states.specs.PagePairs.{IsEmpty}
+use Rattle.c_calls.specs.PagePairs.{IsEmpty}
 use Rattle.navbridge_c.specs.contracts.pages.nb_pages_init as f
 use Rattle.navbridge_c.proofs.pages.nb_pages_init.Statement.{statement}
 use Rattle.navbridge_c.proofs.pages.nb_pages_init.Code as code
-use Rattle.c_states.specs.contracts.pages.new as g
-use Rattle.c_states.proofs.pages.new.Met.{met}
+use Rattle.c_calls.specs.contracts.pages.new as g
+use Rattle.c_calls.proofs.state_pages.new.Met.{met}
 
 abbrev stayed : Stays f.ended.signature.params f.ended.kept
 stayed = (stay_dropped _ yes, (stay_dropped _ yes, (stay_dropped _ yes, tt)))

@@ -1,13 +1,13 @@
 -- What lies at the pointer is lent to `next`, which is handed the page, and comes back as it is left.
 use Rattle.navbridge_c.proofs.Steps.{ℕ, [], ◌∷◌, ◌++◌, refl, w32, proved, full_share, id⊢, Lft, GName, ftrue, fsep, fex, flft, flent, named, vptr, WpFn, fact, tables, ‵, raw, ◌⊛◌, some, later, prop, ◌$◌, ◌∵◌, !, qed, done, move, keep, drop, use1, use2, use3, split, join, fsplit, fjoin, fpack, pick, await, regoal, suffices, group, enter, of_opd, addr, stop, no_more, and_then, returns, alloc_all, pass_all, free_all, look_at, get, through, sets, lands_as, Body, lft_new, lft_end, u32, yes, Is, shows, lends_ref, ref_back, mem, part_at, uint_Lawful, Ptr, RawPtr, block_ptr, lies_at, in_a_block, rawptr_vals, rawptr_Tells, MutRef, mut_vals, mut_Tells, plain, nothing, heard, peeks, calls_at, lasts, triple_of, Stays, walk_of, stay_dropped, Goes-dropped, gave_ref, Goes-gave_ref, ends_at, framed, PagesState, Q}
-use Rattle.c_states.specs.PagePairs.{GivesPage}
+use Rattle.c_calls.specs.PagePairs.{GivesPage}
 use Rattle.navbridge_c.specs.contracts.pages.nb_pages_next as f
 use Rattle.navbridge_c.proofs.pages.nb_pages_next.Statement.{statement}
 use Rattle.navbridge_c.proofs.pages.nb_pages_next.Code as code
-use Rattle.c_states.specs.contracts.pages.next as g
-use Rattle.c_states.proofs.pages.next.Met.{met}
-use Rattle.c_states.specs.declared.pages.JoinedPage.{JoinedPage}
-use Rattle.c_states.specs.contracts.pages.JoinedPage.{the_row as J}
+use Rattle.c_calls.specs.contracts.pages.next as g
+use Rattle.c_calls.proofs.state_pages.next.Met.{met}
+use Rattle.c_calls.specs.declared.state_pages.JoinedPage.{JoinedPage}
+use Rattle.c_calls.specs.contracts.pages.JoinedPage.{the_row as J}
 
 abbrev stayed : Stays f.ended.signature.params f.ended.kept
 stayed = (stay_dropped _ yes, (gave_ref (0 ∷ []) tt (plain (λ _. J)), tt))

@@ -1,12 +1,12 @@
 -- What lies at the pointer is lent to `take` with the part, and comes back as it is left.
 use Rattle.navbridge_c.proofs.Steps.{ℕ, [], ◌∷◌, ◌++◌, refl, w32, proved, full_share, id⊢, Lft, GName, ftrue, fsep, fex, flft, flent, named, vptr, WpFn, fact, tables, ‵, raw, ◌⊛◌, some, later, prop, ◌$◌, ◌∵◌, !, qed, done, move, keep, drop, use1, use2, use3, split, join, fsplit, fjoin, fpack, pick, await, regoal, suffices, group, enter, of_opd, addr, stop, no_more, and_then, returns, alloc_all, pass_all, free_all, look_at, get, through, sets, lands_as, Body, lft_new, lft_end, u32, yes, Is, shows, lends_ref, ref_back, mem, part_at, uint_Lawful, uint_vals, uint_Tells, Ptr, RawPtr, block_ptr, lies_at, in_a_block, rawptr_vals, rawptr_Tells, MutRef, ShrRef, shr_vals, shr_Tells, shr_ref_to, plain, nothing, heard, peeks, calls_at, lasts, triple_of, Stays, walk_of, stay_dropped, Goes-dropped, ends_at, framed, PagesState, Q}
-use Rattle.c_states.specs.PagePairs.{TakesBits}
+use Rattle.c_calls.specs.PagePairs.{TakesBits}
 use Rattle.navbridge_c.specs.contracts.pages.nb_pages_take as f
 use Rattle.navbridge_c.proofs.pages.nb_pages_take.Statement.{statement}
 use Rattle.navbridge_c.proofs.pages.nb_pages_take.Code as code
-use Rattle.c_states.specs.contracts.pages.take as g
-use Rattle.c_states.proofs.pages.take.Met.{met}
-use Rattle.c_states.specs.contracts.pages.PartBits.{the_row as Part}
+use Rattle.c_calls.specs.contracts.pages.take as g
+use Rattle.c_calls.proofs.state_pages.take.Met.{met}
+use Rattle.c_calls.specs.contracts.pages.PartBits.{the_row as Part}
 
 abbrev stayed : Stays f.ended.signature.params f.ended.kept
 stayed = (stay_dropped _ yes, (stay_dropped _ yes, (stay_dropped _ yes, (stay_dropped _ yes, (stay_dropped _ yes, tt)))))

@@ -1,11 +1,11 @@
 -- What lies at the pointer is lent to `push` with the piece, and comes back as it is left.
 use Rattle.navbridge_c.proofs.Steps.{ℕ, [], ◌∷◌, ◌++◌, refl, proved, full_share, id⊢, Lft, GName, ftrue, flft, flent, named, vptr, WpFn, fact, tables, ‵, raw, ◌⊛◌, some, later, prop, ◌$◌, ◌∵◌, !, qed, done, move, keep, drop, use1, use2, use3, split, join, fsplit, pick, await, regoal, suffices, group, enter, of_opd, addr, stop, no_more, and_then, returns, alloc_all, pass_all, free_all, look_at, get, through, sets, lands_as, Body, lft_new, lft_end, u8, yes, Is, shows, lends_ref, ref_back, mem, part_at, uint_Lawful, Ptr, RawPtr, block_ptr, lies_at, in_a_block, rawptr_vals, rawptr_Tells, MutRef, plain, shr_slice_of, ShrSlice, shr_slice_vals, shr_slice_Tells, nothing, heard, peeks, calls_at, lasts, triple_of, Stays, walk_of, stay_dropped, Goes-dropped, ends_at, framed, PushState, P, fpack, fjoin, fsep, fex, u32, w32}
-use Rattle.c_states.specs.Pushes.{Pushes}
+use Rattle.c_calls.specs.Pushes.{Pushes}
 use Rattle.navbridge_c.specs.contracts.push.nb_push as f
 use Rattle.navbridge_c.proofs.push.nb_push.Statement.{statement}
 use Rattle.navbridge_c.proofs.push.nb_push.Code as code
-use Rattle.c_states.specs.contracts.push.push as g
-use Rattle.c_states.proofs.push.push.Met.{met}
+use Rattle.c_calls.specs.contracts.push.push as g
+use Rattle.c_calls.proofs.push.push.Met.{met}
 
 abbrev stayed : Stays f.ended.signature.params f.ended.kept
 stayed = (stay_dropped _ yes, (stay_dropped _ yes, tt))

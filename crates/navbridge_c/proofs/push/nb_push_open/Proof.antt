@@ -1,13 +1,13 @@
 -- A conversion is made, moved into the room, and lent to `open` with the words.
 use Rattle.navbridge_c.proofs.Steps.{◌≡◌, ℕ, [], ◌∷◌, ◌++◌, map, refl, w32, proved, full_share, id⊢, Lft, GName, ftrue, flft, flent, named, vptr, WpFn, fact, tables, ‵, raw, ◌⊛◌, some, later, prop, ◌$◌, ◌∵◌, !, qed, done, move, keep, drop, use1, use2, use3, split, join, fsplit, fjoin, fpack, pick, await, regoal, suffices, group, enter, of_opd, addr, stop, no_more, and_then, assigns, init, returns, alloc_all, pass_all, free_all, look_at, get, through, sets, lands_as, part_in, Body, lft_new, lft_end, u8, u32, yes, Is, shows, lends_ref, ref_back, mem, part_at, uint_Lawful, Ptr, RawPtr, block_ptr, room_at, in_a_block, rawptr_vals, rawptr_Tells, MutRef, plain, shr_slice_of, ShrSlice, shr_slice_vals, shr_slice_Tells, nothing, heard, peeks, calls_at, lasts, triple_of, Stays, walk_of, stay_dropped, Goes-dropped, ends_at, framed, heap_val, heap_Tells, Heap, heap_laws, PushState, P, push_laws, fsep, fex}
-use Rattle.c_states.specs.Pushes.{Opens, closed}
+use Rattle.c_calls.specs.Pushes.{Opens, closed}
 use Rattle.navbridge_c.specs.contracts.push.nb_push_open as f
 use Rattle.navbridge_c.proofs.push.nb_push_open.Statement.{statement}
 use Rattle.navbridge_c.proofs.push.nb_push_open.Code as code
-use Rattle.c_states.specs.contracts.push.new as made
-use Rattle.c_states.proofs.push.new.Met as new_met
-use Rattle.c_states.specs.contracts.push.open as g
-use Rattle.c_states.proofs.push.open.Met.{met}
+use Rattle.c_calls.specs.contracts.push.new as made
+use Rattle.c_calls.proofs.push.new.Met as new_met
+use Rattle.c_calls.specs.contracts.push.open as g
+use Rattle.c_calls.proofs.push.open.Met.{met}
 
 abbrev stayed : Stays f.ended.signature.params f.ended.kept
 stayed = (stay_dropped _ yes, (stay_dropped _ yes, (stay_dropped _ yes, tt)))

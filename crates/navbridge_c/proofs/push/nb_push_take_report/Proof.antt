@@ -1,12 +1,12 @@
 -- What lies at the pointer is lent to `take_report`, which is handed the room, and comes back as it is left.
 use Rattle.navbridge_c.proofs.Steps.{◌≡◌, ℕ, List, [], ◌∷◌, ◌++◌, refl, w64, proved, full_share, id⊢, Lft, GName, ftrue, flft, fres, flent, named, vptr, WpFn, fact, tables, ‵, raw, ◌⊛◌, some, later, prop, ◌$◌, ◌∵◌, !, qed, done, move, keep, drop, use1, use2, use3, split, join, fsplit, fjoin, feq_l, pick, await, rewrite, regoal, suffices, frame, group, enter, of_opd, addr, from, fld, hop, stop, no_more, and_then, returns, agg, whole, sub, alloc_all, pass_all, free_all, look_at, look_in_at, get, get_in, through, sets, lands_as, Body, lft_new, lft_end, u8, usize, yes, Is, shows, lends_ref, ref_back, mem, part_at, uint_Lawful, Ptr, RawPtr, block_ptr, lies_at, in_a_block, rawptr_vals, rawptr_Tells, MutRef, plain, MutSlice, mut_slice_vals, mut_slice_Tells, nothing, heard, peeks, calls_at, lasts, triple_of, Stays, walk_of, says, stay_dropped, Goes-dropped, gave_slice, Goes-gave_slice, ends_at, framed, PushState, P}
 use Rattle.std.specs.Prelude.{length}
-use Rattle.c_states.specs.Pushes.{RetainsFew, Takes, told_more}
+use Rattle.c_calls.specs.Pushes.{RetainsFew, Takes, told_more}
 use Rattle.navbridge_c.specs.contracts.push.nb_push_take_report as f
 use Rattle.navbridge_c.proofs.push.nb_push_take_report.Statement.{statement}
 use Rattle.navbridge_c.proofs.push.nb_push_take_report.Code as code
-use Rattle.c_states.specs.contracts.push.take_report as g
-use Rattle.c_states.proofs.push.take_report.Met.{met}
+use Rattle.c_calls.specs.contracts.push.take_report as g
+use Rattle.c_calls.proofs.push.take_report.Met.{met}
 
 abbrev stayed : Stays f.ended.signature.params f.ended.kept
 stayed = (stay_dropped _ yes, (gave_slice (0 ∷ []) tt (plain (λ _. u8)), tt))
