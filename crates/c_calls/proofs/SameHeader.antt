@@ -1,6 +1,6 @@
 -- A header is determined by its date and its leap seconds.
 use Rattle.std.proofs.Common.{◌≡◌, ℕ, List, refl, sym, ap, ◌∙◌, subst}
-use Rattle.c_records.specs.Rooms.{StandsIn}
+use Rattle.raw_values.specs.Rooms.{StandsIn}
 use Rattle.rinex_write.specs.declared.words.HeaderWords.{HeaderWords}
 use Rattle.rinex_write.specs.Texts.{header_lines_by, text_of}
 use Rattle.c_calls.specs.RecordWrites.{IsSaidBy, header_text, version_columns}

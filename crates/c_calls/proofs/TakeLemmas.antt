@@ -2,7 +2,7 @@
 use Rattle.std.proofs.Common.{◌≡◌, ℕ, ◌+◌, ◌-◌, ◌*◌, ◌≤◌, Bool, true, false, List, ◌++◌, length, take, drop, refl, sym, ap, ◌∙◌, subst, arith, length-append, drop-drop, drop_at}
 use Rattle.std.specs.Prelude.{min, nat_le, if◌then◌else◌}
 use Rattle.std.proofs.lemmas.Bool.{leb-false}
-use Rattle.c_records.specs.Rooms.{StandsIn}
+use Rattle.raw_values.specs.Rooms.{StandsIn}
 use Rattle.c_calls.specs.Pending.{all_of, released_by}
 use Rattle.c_calls.specs.Pushes.{PushState, RetainsFew, Takes, taken_more, told_more}
 use Rattle.c_calls.specs.declared.pending.Pending.{Pending}

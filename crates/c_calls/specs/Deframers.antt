@@ -7,7 +7,7 @@ use base.Fml.{Fml}
 use Rattle.framing.specs.Frames.{undecided, after_first}
 use Rattle.framing.specs.State.{DeframerState, MayFeed, TakesFrame, TakesNone}
 use Rattle.framing.specs.contracts.deframer.Deframer.{the_row}
-use Rattle.c_records.specs.Rooms.{StandsIn}
+use Rattle.raw_values.specs.Rooms.{StandsIn}
 
 -- a deframer in this state lies there, and nobody else has it
 abbrev pub HoldsDeframer : Ptr → DeframerState → Fml

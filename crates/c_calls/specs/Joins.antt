@@ -7,10 +7,10 @@ use Rattle.nav_eph.specs.declared.items.GpsEph.{GpsEph}
 use Rattle.nav_eph.specs.declared.tag.SentTag.{SentTag}
 use Rattle.nav_eph.specs.declared.tag.SentTag.TheVariants.{Sent}
 use Rattle.periods.specs.Items.{gal_moment, gps_moment, sent_second, toe_week_of}
-use Rattle.c_records.specs.Gal.{gal_in}
-use Rattle.c_records.specs.Gps.{gps_in}
-use Rattle.c_records.specs.declared.gal_raw.GalRaw.{GalRaw}
-use Rattle.c_records.specs.declared.gps_raw.GpsRaw.{GpsRaw}
+use Rattle.raw_values.specs.Gal.{gal_in}
+use Rattle.raw_values.specs.Gps.{gps_in}
+use Rattle.raw_values.specs.declared.gal_raw.GalRaw.{GalRaw}
+use Rattle.raw_values.specs.declared.gps_raw.GpsRaw.{GpsRaw}
 use Rattle.c_calls.specs.declared.page_raw.WordsRaw.{WordsRaw}
 use Rattle.c_calls.specs.declared.subframe_raw.SubframesRaw.{SubframesRaw}
 

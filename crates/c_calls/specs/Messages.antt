@@ -7,9 +7,9 @@ use Rattle.framing.specs.Writing.{frame_bytes}
 use Rattle.rtcm_eph.specs.declared.fault.MessageFault.{MessageFault}
 use Rattle.rtcm_eph.specs.declared.fault.MessageFault.TheVariants.{NoNumber, OtherMessage, Short, BadSat, BadTime, SpareSisa}
 use Rattle.rtcm_eph.specs.Writing.{bytes_1019, bytes_1046}
-use Rattle.c_records.specs.declared.item_raw.ItemRaw.{ItemRaw}
-use Rattle.c_records.specs.Items.{raw_item}
-use Rattle.c_records.specs.Rooms.{IsLeft, StandsIn}
+use Rattle.raw_values.specs.declared.item_raw.ItemRaw.{ItemRaw}
+use Rattle.raw_values.specs.Items.{raw_item}
+use Rattle.raw_values.specs.Rooms.{IsLeft, StandsIn}
 
 -- the bytes are one complete frame with a right checksum, and nothing else
 abbrev pub IsFrame : List ℕ → Type 0

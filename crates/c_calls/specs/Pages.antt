@@ -16,8 +16,8 @@ use Rattle.inav.specs.Writing.{word1_bytes, word2_bytes, word3_bytes, word4_byte
 use Rattle.inav.specs.declared.word_fault.WordFault.{WordFault}
 use Rattle.inav.specs.declared.word_fault.WordFault.TheVariants.{OtherWord, WrongSat, BadTime, SpareSisa}
 use Rattle.inav.specs.declared.parts.WordParts.{WordParts}
-use Rattle.c_records.specs.Gal.{health_in, raw_health, raw_word1, raw_word2, raw_word3, raw_word4, word1_in, word2_in, word3_in, word4_in}
-use Rattle.c_records.specs.Ion.{gal_ion_in, raw_gal_ion}
+use Rattle.raw_values.specs.Gal.{health_in, raw_health, raw_word1, raw_word2, raw_word3, raw_word4, word1_in, word2_in, word3_in, word4_in}
+use Rattle.raw_values.specs.Ion.{gal_ion_in, raw_gal_ion}
 use Rattle.c_calls.specs.Tags.{second_of}
 use Rattle.c_calls.specs.declared.page_raw.PageBits.{PageBits}
 use Rattle.c_calls.specs.declared.page_raw.WordRaw.{WordRaw}

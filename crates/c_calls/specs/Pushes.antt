@@ -10,7 +10,7 @@ use Rattle.bridge_engine.specs.Job.{GivesJob, IsJob}
 use Rattle.bridge_engine.specs.Meanings.{meaning_of}
 use Rattle.bridge_engine.specs.declared.job.Job.{Job}
 use Rattle.bridge_engine.specs.declared.job.Job.TheVariants as jobs
-use Rattle.c_records.specs.Rooms.{StandsIn}
+use Rattle.raw_values.specs.Rooms.{StandsIn}
 use Rattle.c_calls.specs.Pending.{released_by}
 use Rattle.c_calls.specs.declared.push.Run.{Run}
 use Rattle.c_calls.specs.declared.push.Run.TheVariants.{Capture, Idle, Stream}

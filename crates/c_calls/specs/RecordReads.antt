@@ -7,8 +7,8 @@ use Rattle.rinex_read.specs.declared.judged.ItemRead.{ItemRead}
 use Rattle.rinex_read.specs.declared.judged.ItemRead.TheVariants.{Item, Refused, PassedOver}
 use Rattle.rinex_read.specs.declared.reason.Reason.{Reason}
 use Rattle.rinex_read.specs.declared.reason.Reason.TheVariants.{BadSat, Short, NotANumber, Blank, OutOfRange, NoSuchDate, Week, Fit, EpochStep, EpochFar}
-use Rattle.c_records.specs.declared.item_raw.ItemRaw.{ItemRaw}
-use Rattle.c_records.specs.Items.{raw_item}
+use Rattle.raw_values.specs.declared.item_raw.ItemRaw.{ItemRaw}
+use Rattle.raw_values.specs.Items.{raw_item}
 
 -- the versions of navigation files
 abbrev pub IsVersion : ℕ → Type 0

@@ -5,7 +5,7 @@ use Rattle.nav_eph.specs.declared.items.NavItem.{NavItem}
 use Rattle.rinex_write.specs.declared.words.HeaderWords.{HeaderWords}
 use Rattle.rinex_write.specs.Texts.{header_lines_by, item_lines, text_of}
 use Rattle.rinex_write.specs.Texts3.{item3_lines}
-use Rattle.c_records.specs.Rooms.{StandsIn}
+use Rattle.raw_values.specs.Rooms.{StandsIn}
 use Rattle.c_calls.specs.declared.record_writes.HeaderRaw.{HeaderRaw}
 
 -- a byte of a text, and no control character

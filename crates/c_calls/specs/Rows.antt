@@ -17,7 +17,7 @@ use Rattle.nav_rows.specs.declared.kind.Kind.{Kind}
 use Rattle.nav_rows.specs.declared.row.Row.{Row}
 use Rattle.nav_rows.specs.declared.row.RowFault.{RowFault}
 use Rattle.nav_rows.specs.declared.row.RowFault.TheVariants.{Message, SpareSisa, Day}
-use Rattle.c_records.specs.Rooms.{IsLeft, StandsIn}
+use Rattle.raw_values.specs.Rooms.{IsLeft, StandsIn}
 use Rattle.c_calls.specs.RecordReads.{reason_status}
 use Rattle.c_calls.specs.Kinds.{IsKindOf}
 use Rattle.c_calls.specs.declared.row_raw.ColumnRaw.{ColumnRaw}

@@ -9,8 +9,8 @@ use Rattle.lnav_subframe.specs.declared.out.SubframeOut.{SubframeOut}
 use Rattle.lnav_subframe.specs.declared.out.SubframeOut.TheVariants.{Clock, OrbitA, OrbitB, Ion}
 use Rattle.lnav_subframe.specs.declared.fault.LnavFault.{LnavFault}
 use Rattle.lnav_subframe.specs.declared.fault.LnavFault.TheVariants.{Preamble, Parity, BadTow, Unused, BadTime}
-use Rattle.c_records.specs.Gps.{clock_in, orbit_a_in, orbit_b_in, raw_clock, raw_orbit_a, raw_orbit_b, raw_side, side_in}
-use Rattle.c_records.specs.Ion.{gps_ion_in, raw_gps_ion}
+use Rattle.raw_values.specs.Gps.{clock_in, orbit_a_in, orbit_b_in, raw_clock, raw_orbit_a, raw_orbit_b, raw_side, side_in}
+use Rattle.raw_values.specs.Ion.{gps_ion_in, raw_gps_ion}
 use Rattle.c_calls.specs.Tags.{second_of}
 use Rattle.c_calls.specs.declared.subframe_raw.SubframeRaw.{SubframeRaw}
 use Rattle.c_calls.specs.declared.subframe_raw.SubframeBits.{SubframeBits}

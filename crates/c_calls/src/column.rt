@@ -6,7 +6,7 @@ ghost use Rattle.c_calls.specs.Rows.{rule_number};
 
 use crate::kinds::kind_for;
 use crate::row_raw::{ColumnRaw, RowRaw};
-use c_records::reasons::NO_ITEM;
+use raw_values::reasons::NO_ITEM;
 use rinex_write::{Column, Rule};
 
 // The number of a rule.

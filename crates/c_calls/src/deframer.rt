@@ -3,7 +3,7 @@
 ghost use Rattle.std.specs.Prelude.{◌≡◌, take};
 ghost use Rattle.c_calls.specs.Deframers.{Feeds, Gives, ended, fed, fresh, left};
 
-use c_records::put;
+use raw_values::put;
 use framing::Deframer;
 
 /// A deframer that has been fed no byte.

@@ -2,11 +2,11 @@
 
 ghost use Rattle.std.specs.Prelude.{◌≡◌, ◌<◌, ◌≤◌, ◌↔◌, length, IsTrue};
 ghost use Rattle.framing.specs.Writing.{frame_bytes};
-ghost use Rattle.c_records.specs.Rooms.{IsLeft, StandsIn};
+ghost use Rattle.raw_values.specs.Rooms.{IsLeft, StandsIn};
 ghost use Rattle.c_calls.specs.Messages.{IsFrame};
 
 use arrayvec::ArrayVec;
-use c_records::put;
+use raw_values::put;
 use framing::{frame_of, write_frame};
 
 /// Whether these bytes are one complete frame with a right checksum, and nothing else.

@@ -7,14 +7,14 @@ ghost use Rattle.nav_eph.specs.Satellite.{IsSat};
 ghost use Rattle.nav_eph.specs.declared.sat.System.TheVariants.{Gal, Gps};
 ghost use Rattle.nav_eph.specs.declared.items.NavItem.TheVariants.{Gal as GalItem, Gps as GpsItem};
 ghost use Rattle.periods.specs.declared.closed.Finding.TheVariants.{Complete};
-ghost use Rattle.c_records.specs.Items.{raw_item};
+ghost use Rattle.raw_values.specs.Items.{raw_item};
 ghost use Rattle.c_calls.specs.Joins.{AreOfIssue, AreWords, gal_dated, gal_joined, gal_tag};
 ghost use Rattle.c_calls.specs.Joins.{gal_undated, gps_dated, gps_joined, gps_tag, gps_undated};
 
 use crate::page_raw::WordsRaw;
 use crate::subframe_raw::SubframesRaw;
-use c_records::reasons::{NO_ITEM, NO_SATELLITE, NO_WEEK};
-use c_records::{GalRaw, GpsRaw, ItemRaw, SentRaw, gal_of, gps_of, put_item, sat_of};
+use raw_values::reasons::{NO_ITEM, NO_SATELLITE, NO_WEEK};
+use raw_values::{GalRaw, GpsRaw, ItemRaw, SentRaw, gal_of, gps_of, put_item, sat_of};
 use gnss_week::{RefWeek, Second};
 use nav_bits::U;
 use nav_eph::{GalEph, GpsEph, NavItem, SentTag, System};

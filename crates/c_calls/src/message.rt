@@ -11,7 +11,7 @@ use crate::kinds::kind_for;
 use crate::row_raw::RowRaw;
 use crate::write::row_in;
 use crate::make_frame;
-use c_records::reasons::NO_ITEM;
+use raw_values::reasons::NO_ITEM;
 use nav_tables::TimeFault;
 use nav_rows::{EncodeFault, Kind, Row, message_of_row};
 use rinex_read::Reason;

@@ -4,14 +4,14 @@ ghost use Rattle.std.specs.Prelude.{◌≡◌};
 ghost use Rattle.gnss_week.specs.Weeks.{IsReference};
 ghost use Rattle.framing.specs.State.{payload_of};
 ghost use Rattle.rtcm_eph.specs.Reading.{item_in as item_of_payload};
-ghost use Rattle.c_records.specs.Items.{IsItemIn, item_in};
-ghost use Rattle.c_records.specs.Rooms.{IsLeft};
+ghost use Rattle.raw_values.specs.Items.{IsItemIn, item_in};
+ghost use Rattle.raw_values.specs.Rooms.{IsLeft};
 ghost use Rattle.c_calls.specs.Messages.{IsFrame, PutsMessage, WritesFrame, WritesMessage};
 ghost use Rattle.c_calls.specs.Messages.{message_status};
 
 use crate::frames::make_frame;
-use c_records::reasons::{NO_FRAME, NO_ITEM, NO_MESSAGE, NO_WEEK};
-use c_records::{ItemRaw, item_of, put_item};
+use raw_values::reasons::{NO_FRAME, NO_ITEM, NO_MESSAGE, NO_WEEK};
+use raw_values::{ItemRaw, item_of, put_item};
 use gnss_week::RefWeek;
 use nav_eph::NavItem;
 use rtcm_eph::{MessageFault, read_item, write_1019, write_1046};

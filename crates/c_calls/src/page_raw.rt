@@ -1,6 +1,6 @@
 //! I/NAV pages and their words as raw integers.
 
-use c_records::{GalHealthRaw, GalIonRaw, GalWord1Raw, GalWord2Raw, GalWord3Raw, GalWord4Raw};
+use raw_values::{GalHealthRaw, GalIonRaw, GalWord1Raw, GalWord2Raw, GalWord3Raw, GalWord4Raw};
 
 /// The even and the odd part of a page, 120 bits each (Galileo OS SIS ICD, 4.3.2.3), most
 /// significant bit first.

@@ -9,7 +9,7 @@ ghost use Rattle.c_calls.specs.Rows.{IsRowOf, ReadsRow, row_status};
 
 use crate::kinds::kind_for;
 use crate::row_raw::RowRaw;
-use c_records::reasons::NO_WEEK;
+use raw_values::reasons::NO_WEEK;
 use gnss_week::RefWeek;
 use nav_bits::number_in_bytes;
 use nav_rows::{Kind, Row, RowFault, row_of_message};

@@ -5,8 +5,8 @@ ghost use Rattle.rinex_read.specs.Lines.{lines_of};
 ghost use Rattle.c_calls.specs.RecordReads.{IsVersion, PutsRead, read_in, reason_status};
 
 use crate::text_lines::lines_in;
-use c_records::reasons::NO_VERSION;
-use c_records::{ItemRaw, put_item};
+use raw_values::reasons::NO_VERSION;
+use raw_values::{ItemRaw, put_item};
 use rinex_read::{FileForm, ItemRead, Reason, Rinex3, Rinex4};
 
 // The record is of another kind.

@@ -5,15 +5,15 @@ ghost use Rattle.std.specs.List.{list_all};
 ghost use Rattle.rinex_write.specs.declared.words.HeaderWords.{HeaderWords};
 ghost use Rattle.rinex_write.specs.Texts.{item_lines, text_of};
 ghost use Rattle.rinex_write.specs.Texts3.{item3_lines};
-ghost use Rattle.c_records.specs.Items.{IsItemIn, item_in};
-ghost use Rattle.c_records.specs.Rooms.{IsLeft, StandsIn};
+ghost use Rattle.raw_values.specs.Items.{IsItemIn, item_in};
+ghost use Rattle.raw_values.specs.Rooms.{IsLeft, StandsIn};
 ghost use Rattle.c_calls.specs.RecordReads.{IsVersion};
 ghost use Rattle.c_calls.specs.RecordWrites.{IsHeader, IsSaidBy, PutsRecord, header_text};
 ghost use Rattle.c_calls.specs.RecordWrites.{is_shown, record_text, version_columns};
 
 use crate::fixed::Fixed;
-use c_records::reasons::{NO_HEADER, NO_ITEM, NO_VERSION};
-use c_records::{ItemRaw, item_of, put};
+use raw_values::reasons::{NO_HEADER, NO_ITEM, NO_VERSION};
+use raw_values::{ItemRaw, item_of, put};
 use nav_eph::NavItem;
 use rinex_write::{HeaderWords, write_header_of, write_item, write_item3};
 

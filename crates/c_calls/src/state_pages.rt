@@ -5,8 +5,8 @@ ghost use Rattle.c_calls.specs.Pages.{page_bits};
 ghost use Rattle.c_calls.specs.PagePairs.{GivesPage, IsEmpty, TakesBits, signal_in};
 
 use crate::PageBits;
-use c_records::reasons::{ALERT, NO_MEMORY, NO_SATELLITE};
-use c_records::sat_of;
+use raw_values::reasons::{ALERT, NO_MEMORY, NO_SATELLITE};
+use raw_values::sat_of;
 use inav::{Halves, Joined, read_half, split, write_half};
 use nav_bits::Bits;
 use nav_eph::{Signal, System};

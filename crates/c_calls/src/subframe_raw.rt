@@ -1,6 +1,6 @@
 //! LNAV subframes as raw integers.
 
-use c_records::{GpsClockRaw, GpsIonRaw, GpsOrbitARaw, GpsOrbitBRaw, GpsSideRaw};
+use raw_values::{GpsClockRaw, GpsIonRaw, GpsOrbitARaw, GpsOrbitBRaw, GpsSideRaw};
 
 /// The 300 bits of a subframe with parity (IS-GPS-200, 20.3), most significant bit first, and four
 /// bits that are ignored.

@@ -10,8 +10,8 @@ ghost use Rattle.c_calls.specs.Subframes.{raw_subframe, subframe_status};
 
 use crate::subframe_raw::{SubframeBits, SubframeRaw};
 use crate::tags::{second_of, wn_of};
-use c_records::reasons::{NO_ITEM, NO_SATELLITE};
-use c_records::{
+use raw_values::reasons::{NO_ITEM, NO_SATELLITE};
+use raw_values::{
     clock_of, gps_ion_of, orbit_a_of, orbit_b_of, raw_clock, raw_gps_ion, raw_orbit_a, raw_orbit_b,
     raw_side, sat_of, side_of,
 };

@@ -5,7 +5,7 @@ ghost use Rattle.nav_eph.specs.declared.sat.System.TheVariants.{Gal};
 ghost use Rattle.c_calls.specs.Pages.{IsContent, content_in, word_bytes};
 
 use crate::page_raw::WordRaw;
-use c_records::{gal_ion_of, health_of, word1_of, word2_of, word3_of, word4_of};
+use raw_values::{gal_ion_of, health_of, word1_of, word2_of, word3_of, word4_of};
 use gnss_week::Second;
 use inav::{write_word1, write_word2, write_word3, write_word4, write_word5};
 use nav_bits::{Bits, U};

@@ -3,7 +3,7 @@
 use arrayvec::ArrayVec;
 use gnss_week::RefWeek;
 use nav_eph::{NavItem, SentSecond};
-use nav_samples::{
+use raw_values::{
     ClockNumbers, E01_OF_ISSUE_0, E01_OF_ISSUE_378, G01_OF_WEEK_1783, G32_OF_WEEK_2294, GalNumbers,
     GpsNumbers, HealthNumbers, MESSAGE_1019_OF_G05, OrbitANumbers, OrbitBNumbers, SideNumbers,
     Word1Numbers, Word2Numbers, Word3Numbers, Word4Numbers,

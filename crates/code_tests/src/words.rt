@@ -7,7 +7,7 @@ use inav::{
 };
 use nav_bits::Bits;
 use nav_eph::{Body, Part, Sat, SentTag, System};
-use nav_samples::{
+use raw_values::{
     GalIonNumbers, HealthNumbers, Word1Numbers, Word2Numbers, Word3Numbers, Word4Numbers,
 };
 

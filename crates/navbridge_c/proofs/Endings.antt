@@ -13,7 +13,7 @@ use Rattle.bridge_engine.specs.Job.{GivesJob, IsJob}
 use Rattle.bridge_engine.specs.Meanings.{meaning_of}
 use Rattle.bridge_engine.proofs.Surface.{limit_of}
 use Rattle.bridge_engine.specs.declared.job.Job.{Job}
-use Rattle.c_records.specs.Rooms.{StandsIn}
+use Rattle.raw_values.specs.Rooms.{StandsIn}
 use Rattle.navbridge_c.specs.Conversions.{Converts, ForJob, HasEnded, IsBegun, IsWhole, Made, made_of, nothing, read_by}
 use Rattle.navbridge_c.specs.Mirrors.{HasEndedInMemory, in_memory, in_room}
 

@@ -7,7 +7,7 @@ ghost use Rattle.navbridge_c.specs.Mirrors.{HasEndedInMemory, in_memory, in_room
 
 use crate::memory::Lent;
 use bridge_engine::run_job;
-use c_records::put;
+use raw_values::put;
 use c_calls::{Kept, push};
 use one_run::Status;
 use std::alloc::Global;

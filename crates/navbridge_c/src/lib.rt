@@ -34,8 +34,8 @@ ghost use Rattle.rtcm_eph.specs.Reading.{item_in as item_of_payload};
 ghost use Rattle.rinex_read.specs.Form3.{rinex3};
 ghost use Rattle.rinex_read.specs.Forms.{rinex4};
 ghost use Rattle.rinex_write.specs.declared.words.HeaderWords.{HeaderWords};
-ghost use Rattle.c_records.specs.Items.{IsItemIn, item_in, raw_item};
-ghost use Rattle.c_records.specs.Rooms.{IsLeft, StandsIn};
+ghost use Rattle.raw_values.specs.Items.{IsItemIn, item_in, raw_item};
+ghost use Rattle.raw_values.specs.Rooms.{IsLeft, StandsIn};
 ghost use Rattle.c_calls.specs.Joins.{AreOfIssue, AreWords, gal_joined, gps_joined};
 ghost use Rattle.c_calls.specs.Messages.{IsFrame, PutsMessage, WritesMessage};
 ghost use Rattle.c_calls.specs.Subframes.{IsContent, IsSubframeOf, PutsSubframe, content_in};
@@ -49,7 +49,7 @@ ghost use Rattle.c_calls.specs.Rows.{GivesColumn, ReadsRow, WritesFrame, WritesR
 ghost use Rattle.navbridge_c.specs.Conversions.{Converts};
 
 use c_calls::{ColumnRaw, HeaderRaw, PageBits, RowRaw, SubframeBits, SubframeRaw, SubframesRaw, WordRaw, WordsRaw};
-use c_records::ItemRaw;
+use raw_values::ItemRaw;
 use std::alloc::Global;
 
 /// Does the conversion that the arguments name, as the program `navbridge` does it, from an input

@@ -7,7 +7,7 @@ use nav_eph::{
     NavItem, Part, Sat, SentSecond, SentTag, Sisa, Step16, Step60, System, gal_transmission_number,
     gps_transmission_number,
 };
-use nav_samples::{
+use raw_values::{
     galileo_word1, galileo_word2, galileo_word3, galileo_word4, gps_clock, gps_orbit_a, gps_orbit_b,
 };
 

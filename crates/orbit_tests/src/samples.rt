@@ -3,7 +3,7 @@
 use gnss_week::{Moment, Week};
 use nav_bits::{S, U};
 use nav_eph::{GpsEph, IonContent, IonEph, NavItem, Sat, SentSecond, Step16, System};
-use nav_samples::{gps_clock, gps_ionosphere, gps_orbit_a, gps_orbit_b, gps_side};
+use raw_values::{gps_clock, gps_ionosphere, gps_orbit_a, gps_orbit_b, gps_side};
 
 pub(crate) fn gps(number: u8) -> Option<Sat> {
     Sat::new(System::Gps, number)

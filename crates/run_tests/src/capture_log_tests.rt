@@ -8,7 +8,7 @@ use inav::WordFault;
 use lnav_subframe::LnavFault;
 use nav_bits::U;
 use nav_eph::{Body, Part, Sat, System};
-use nav_samples::gps_orbit_b;
+use raw_values::gps_orbit_b;
 use rtcm_eph::MessageFault;
 use std::test::Fail;
 

@@ -9,7 +9,7 @@ use nav_eph::{
     GalEph, GpsEph, IonContent, IonEph, NavItem, Sat, SentSecond, Sisa, Step16, Step60, System,
 };
 use nav_io::MemSink;
-use nav_samples::{
+use raw_values::{
     galileo_health, galileo_word1, galileo_word2, galileo_word3, galileo_word4, gps_clock,
     gps_orbit_a, gps_orbit_b, gps_side,
 };

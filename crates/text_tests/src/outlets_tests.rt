@@ -2,7 +2,7 @@
 
 use gnss_week::RefWeek;
 use nav_io::MemSink;
-use nav_samples::MESSAGE_1019_OF_G05;
+use raw_values::MESSAGE_1019_OF_G05;
 use one_run::{Text, append_count, report_text};
 use streams::{item_line, write_message};
 use rtcm_eph::read_item;

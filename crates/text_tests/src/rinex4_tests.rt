@@ -5,7 +5,7 @@ use gnss_week::Moment;
 use nav_bits::{S, U};
 use nav_eph::{GalIon, IonContent, IonEph, NavItem, Sat, SentSecond, System};
 use nav_io::{Failed, LineFault, MemSink, MemSource};
-use nav_samples::{
+use raw_values::{
     ClockNumbers, E01_OF_ISSUE_0, E01_OF_ISSUE_378, E11_OF_ZEROES, G01_OF_WEEK_1783, G05_OF_ZEROES,
     G32_OF_WEEK_2294, GalIonNumbers, GalNumbers, GpsIonNumbers, GpsNumbers, OrbitANumbers,
     OrbitBNumbers, SideNumbers,

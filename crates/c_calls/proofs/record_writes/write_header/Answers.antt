@@ -1,5 +1,5 @@
 use Rattle.std.proofs.Common.{◌∙◌, subst}
-use Rattle.c_records.specs.Rooms.{StandsIn}
+use Rattle.raw_values.specs.Rooms.{StandsIn}
 use Rattle.c_calls.proofs.SameHeader.{stands_too}
 use Rattle.c_calls.proofs.record_writes.write_header.Goals as goal
 
