@@ -6,8 +6,8 @@ use Rattle.std.specs.Int.{bit_at}
 use Rattle.nav_bits.specs.Bits.{bit, number_at}
 use Rattle.nav_bits.specs.Laws.{number_at-append, number_at-part, number_at-byte, number_at-same}
 use Rattle.byteorder.specs.Endian.{big_number}
-use Rattle.crc24q.specs.Division.{IsCrc}
-use Rattle.crc24q.specs.Register.{crc_from}
+use Rattle.nav_bits.specs.Division.{IsCrc}
+use Rattle.nav_bits.specs.Register.{crc_from}
 use Rattle.framing.specs.Frames.{announced, frame_size, is_right}
 use Rattle.framing.proofs.FormCases.{announced_by, size_few, size_many, size_within}
 use Rattle.framing.specs.Standard.{AreBytes, BeginsFrame}

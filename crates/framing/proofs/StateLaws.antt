@@ -3,8 +3,8 @@
 use Rattle.std.proofs.Common.{◌≡◌, ℕ, zero, suc, ◌+◌, ◌-◌, ◌^◌, ◌<◌, ◌≤◌, List, [], ◌∷◌, ◌++◌, length, get_or, take, drop, sym, ap, subst, ◌∙◌, arith, add-zero, length-drop, ◌⊎◌, inl, inr}
 use Rattle.std.proofs.lemmas.Bool.{cases_lt}
 use Rattle.std.proofs.lemmas.List.{take-take, length-take-le, take_more, get_or-drop, get_or_append_left, get_or_push, length_push}
-use Rattle.crc24q.specs.Register.{with_byte_of, crc_from}
-use Rattle.crc24q.proofs.Surface.{with_byte_of-lt, crc_from-append}
+use Rattle.nav_bits.specs.Register.{with_byte_of, crc_from}
+use Rattle.nav_bits.proofs.Surface.{with_byte_of-lt, crc_from-append}
 use Rattle.framing.specs.States.{AreStates}
 
 pub state-lt : (bytes states : List ℕ) → AreStates bytes states → (i : ℕ) → i < length states → get_or states i 0 < 2 ^ 24

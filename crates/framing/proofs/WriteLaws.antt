@@ -3,8 +3,8 @@ use Rattle.std.proofs.Common.{◌≡◌, ℕ, ◌+◌, ◌-◌, ◌/◌, ◌%◌
 use Rattle.std.proofs.lemmas.Bool.{eq-eqb, lt-ltb}
 use Rattle.std.proofs.lemmas.List.{take_at, drop_at, take_all}
 use Rattle.byteorder.specs.Endian.{big_number}
-use Rattle.crc24q.specs.Register.{crc_from}
-use Rattle.crc24q.proofs.Surface.{crc_from-lt}
+use Rattle.nav_bits.specs.Register.{crc_from}
+use Rattle.nav_bits.proofs.Surface.{crc_from-lt}
 use Rattle.framing.specs.Frames.{frame_size, frames, frames_past, is_open, is_right}
 use Rattle.framing.specs.State.{payload_of}
 use Rattle.framing.specs.Writing.{three_bytes, body_of, frame_bytes}

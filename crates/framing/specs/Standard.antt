@@ -1,7 +1,7 @@
 -- A frame in the standard's own terms: numbers at bit offsets (RTCM 10403.3, the transport layer).
 use Rattle.std.specs.Prelude.{◌≡◌, ℕ, ◌+◌, ◌-◌, ◌*◌, ◌<◌, ◌≤◌, List, length, slice_index}
 use Rattle.nav_bits.specs.Bits.{number_at}
-use Rattle.crc24q.specs.Division.{IsCrc}
+use Rattle.nav_bits.specs.Division.{IsCrc}
 
 -- each number is a byte
 abbrev pub AreBytes : List ℕ → Type 0

@@ -1,6 +1,6 @@
 -- CRC registers for some bytes; only the contracts of the window's parts cite it.
 use Rattle.std.specs.Prelude.{◌≡◌, ℕ, ◌+◌, ◌^◌, ◌<◌, ◌≤◌, List, length, slice_index}
-use Rattle.crc24q.specs.Register.{with_byte_of}
+use Rattle.nav_bits.specs.Register.{with_byte_of}
 
 -- Each register is the one before it advanced by one byte. The first may be any register; the last may be before any byte.
 pub record AreStates (bytes states : List ℕ) : Type 0 where

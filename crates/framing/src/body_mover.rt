@@ -1,9 +1,9 @@
 //! Advances a CRC register over the body of a frame, by tables for a size that comes repeatedly.
 
 ghost use Rattle.std.specs.Prelude.{◌≡◌, ◌*◌, ◌^◌, ◌<◌};
-ghost use Rattle.crc24q.specs.Register.{shift};
+ghost use Rattle.nav_bits.specs.Register.{shift};
 
-use crc24q::{Mover, shifted};
+use nav_bits::{Mover, shifted};
 
 // After how many occurrences of a size in a row its tables are made. Making them costs about as
 // much as twenty moves without tables.

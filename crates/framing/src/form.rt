@@ -10,7 +10,7 @@ ghost use Rattle.framing.specs.State.{IsWaiting};
 ghost use Rattle.framing.specs.Mirrors.{from_first, Promises};
 
 use byteorder::{BigEndian, ByteOrder};
-use crc24q::crc_bytes;
+use nav_bits::crc_bytes;
 
 // The preamble of each frame.
 pub const PREAMBLE: u8 = 0xD3;

@@ -16,8 +16,8 @@ pub fn frames_are_those_of_the_standard()
     ensures { (bytes : List ℕ) (n : ℕ) → AreBytes bytes
         → ((0 < n) × (frame_size bytes ≡ n)) ↔ BeginsFrame bytes n }
 {
-    crc24q::one_crc();
-    crc24q::the_register_holds_the_crc();
+    nav_bits::one_crc();
+    nav_bits::the_register_holds_the_crc();
 }
 
 /// Decided frames stay whatever bytes follow; the frames after them are those of the undecided

@@ -4,14 +4,14 @@
 ghost use Rattle.std.specs.Prelude.{◌≡◌, ℕ, ◌-◌, ◌^◌, ◌<◌};
 ghost use Rattle.std.specs.Prelude.{◌≤◌, List, length, take, drop};
 ghost use Rattle.arrayvec.specs.ArrayVec.{array_vec_len};
-ghost use Rattle.crc24q.specs.Register.{crc_from};
+ghost use Rattle.nav_bits.specs.Register.{crc_from};
 ghost use Rattle.framing.specs.Frames.{is_right};
 ghost use Rattle.framing.specs.States.{AreStates};
 
 use crate::body_mover::BodyMover;
 use arrayvec::ArrayVec;
 use byteorder::{BigEndian, ByteOrder};
-use crc24q::with_byte;
+use nav_bits::with_byte;
 
 // Computes the registers up to the one before offset `end`.
 pub fn extend(bytes: &[u8], states: &mut ArrayVec<u32, 4097>, end: usize)

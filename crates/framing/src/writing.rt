@@ -7,7 +7,7 @@ ghost use Rattle.framing.specs.Writing.{body_of, frame_bytes, three_bytes};
 
 use crate::form::PREAMBLE;
 use arrayvec::ArrayVec;
-use crc24q::crc_bytes;
+use nav_bits::crc_bytes;
 
 /// Writes the frame of a payload of at most 1,023 bytes: the preamble, six reserved bits 0, the
 /// payload's length, the payload, and the CRC-24Q of all these (RTCM 10403.3, the transport layer).

@@ -7,9 +7,9 @@ use Rattle.std.specs.Int.{byte_at, bytes_high_first}
 use Rattle.nav_bits.specs.Bits.{number_at}
 use Rattle.nav_bits.specs.Laws.{number_at-append, number_at-lt}
 use Rattle.nav_bits.specs.Packed.{AreBytes}
-use Rattle.crc24q.specs.Division.{IsCrc}
-use Rattle.crc24q.specs.Register.{crc_from}
-use Rattle.crc24q.proofs.Surface.{crc_of_bytes, one_remainder}
+use Rattle.nav_bits.specs.Division.{IsCrc}
+use Rattle.nav_bits.specs.Register.{crc_from}
+use Rattle.nav_bits.proofs.Surface.{crc_of_bytes, one_remainder}
 use Rattle.inav.specs.declared.half.HalfKind.TheVariants.{Even, Odd}
 use Rattle.inav.specs.Pages.{bits_at, kind_of, kept_of, protected_of, data_of, word_of, HasRightCrc, has_right_crc, page_crc, IsHalf, IsSplit, bytes_of_half, even_of, odd_of, odd_before_crc}
 use Rattle.nav_bits.proofs.Surface.{number_at-of_whole, number_at-bytes_of, bytes_of-length, bytes_of-lt, same_from_number}

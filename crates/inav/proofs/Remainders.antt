@@ -4,8 +4,8 @@ use Rattle.std.proofs.lemmas.Bool.{eqb-true, eq-eqb}
 use Rattle.std.proofs.lemmas.Nat.{xor_comm, xor_lt}
 use Rattle.std.specs.Int.Bits.{bit_xor, xor_assoc, xor_self, xor_zero_l}
 use lib.Bits.{xor_shifted}
-use Rattle.crc24q.specs.Division.{IsCrc}
-use Rattle.crc24q.proofs.Surface.{crc_of_sum, one_remainder}
+use Rattle.nav_bits.specs.Division.{IsCrc}
+use Rattle.nav_bits.proofs.Surface.{crc_of_sum, one_remainder}
 use Rattle.inav.specs.declared.half.HalfKind.{HalfKind}
 use Rattle.inav.specs.declared.half.HalfKind.TheVariants.{Even, Odd}
 use Rattle.inav.specs.Pages.{bits_at, protected_of, page_crc, has_right_crc}

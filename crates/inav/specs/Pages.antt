@@ -3,8 +3,8 @@
 use Rattle.std.specs.Prelude.{◌≡◌, ℕ, ◌+◌, ◌-◌, ◌*◌, ◌/◌, ◌%◌, ◌^◌, ◌<◌, ◌==◌, Bool, List, nat_lt, if◌then◌else◌}
 use Rattle.std.specs.Int.{bytes_high_first}
 use Rattle.nav_bits.specs.Bits.{number_at}
-use Rattle.crc24q.specs.Division.{IsCrc}
-use Rattle.crc24q.specs.Register.{crc_from}
+use Rattle.nav_bits.specs.Division.{IsCrc}
+use Rattle.nav_bits.specs.Register.{crc_from}
 use Rattle.inav.specs.declared.half.HalfKind.{HalfKind}
 use Rattle.inav.specs.declared.half.HalfKind.TheVariants.{Even, Odd}
 

@@ -10,8 +10,7 @@ ghost use Rattle.inav.specs.Heard.{word_by};
 ghost use Rattle.inav.specs.Mirrors.{is_right_by, remainder_of};
 
 use crate::half::{Half, HalfKind, ODD};
-use crc24q::crc_bytes;
-use nav_bits::Bits;
+use nav_bits::{Bits, crc_bytes};
 
 // States to contracts that each byte is below 256.
 fn are_bytes(bytes: &[u8])

@@ -1,7 +1,7 @@
 use Rattle.std.proofs.Common.{◌≡◌, ◌+◌, ◌<◌, ◌^◌, length, get_or, ap, sym, ◌∙◌, subst, arith}
 use Rattle.std.proofs.lemmas.List.{get_or_push, length_push}
 use Rattle.framing.specs.States.{AreStates}
-use Rattle.crc24q.specs.Register.{with_byte_of}
+use Rattle.nav_bits.specs.Register.{with_byte_of}
 use Rattle.framing.proofs.StateLaws.{state-lt, states_more}
 use Rattle.framing.proofs.states.extend.Goals as goal
 

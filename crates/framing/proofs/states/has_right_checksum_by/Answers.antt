@@ -2,8 +2,8 @@ use Rattle.std.proofs.Common.{◌≡◌, ℕ, ◌-◌, ◌*◌, ◌^◌, ◌<◌
 use Rattle.std.proofs.lemmas.List.{length-take-le, take_rest}
 use Rattle.std.specs.Int.Bits.{bit_xor}
 use Rattle.byteorder.specs.Endian.{big_number}
-use Rattle.crc24q.specs.Register.{crc_from, shift}
-use Rattle.crc24q.proofs.Surface.{crc_of_part}
+use Rattle.nav_bits.specs.Register.{crc_from, shift}
+use Rattle.nav_bits.proofs.Surface.{crc_of_part}
 use Rattle.framing.specs.Frames.{is_right}
 use Rattle.framing.proofs.states.has_right_checksum_by.Goals as goal
 
