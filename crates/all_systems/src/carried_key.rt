@@ -16,7 +16,7 @@ ghost use Rattle.all_systems.specs.Selecting.{digit};
 
 use crate::select::digit;
 use rinex_lines::record_text;
-use gnss_week::Moment;
+use nav_eph::Moment;
 use nav_io::{Failed, Sink};
 use streams::Target;
 use nav_lists::Ranked;

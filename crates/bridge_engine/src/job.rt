@@ -9,7 +9,7 @@ use crate::table::job_in;
 use crate::values::values_of;
 use crate::{Found, options_of};
 use captures::{CaptureTo, SeedTo};
-use gnss_week::RefWeek;
+use nav_eph::RefWeek;
 use nav_files::RinexTo;
 use sent_captures::Sats;
 use rinex_write::HeaderWords;

@@ -10,7 +10,7 @@ ghost use Rattle.bridge_engine.specs.Job.{IsSeedText, IsSatsText, Reads, ReadsAs
 ghost use Rattle.bridge_engine.specs.WordsFound.{given_of};
 
 use crate::Found;
-use gnss_week::RefWeek;
+use nav_eph::RefWeek;
 use sent_captures::Sats;
 
 /// The values of the options other than `--from` and `--to`; `None` if the option is absent.

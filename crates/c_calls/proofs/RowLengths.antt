@@ -5,7 +5,7 @@ use Rattle.std.proofs.lemmas.List.Sums.{sum_by-cons}
 use Rattle.nav_io.specs.Causes.{Rose}
 use Rattle.nav_io.specs.Prefix.{AppendsPrefix}
 use Rattle.scaled_decimal.specs.NumberText.{digits}
-use Rattle.gnss_week.specs.Functions.{civil_to}
+use Rattle.nav_eph.specs.Functions.{civil_to}
 use Rattle.rinex_write.specs.Columns.{row_lines}
 use Rattle.rinex_write.specs.declared.columns.Column.{Column}
 use Rattle.rinex_write.specs.RowTexts.{row_satellite, row_title, split_rows}

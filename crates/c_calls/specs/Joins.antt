@@ -1,6 +1,6 @@
 -- Ephemerides joined of the contents of subframes and words: dated as the issues of a capture are.
 use Rattle.std.specs.Prelude.{◌≡◌, ◌*◌, ◌%◌, ◌<◌, ◌^◌, ℕ, pos}
-use Rattle.gnss_week.specs.Weeks.{IsSecond}
+use Rattle.nav_eph.specs.Weeks.{IsSecond}
 use Rattle.nav_eph.specs.Ranges.{IsGalItem, IsGpsItem}
 use Rattle.nav_eph.specs.declared.items.GalEph.{GalEph}
 use Rattle.nav_eph.specs.declared.items.GpsEph.{GpsEph}

@@ -1,7 +1,7 @@
 -- I/NAV pages, read into raw numbers and written of them (Galileo OS SIS ICD, 4.3.2 and 4.3.5).
 use Rattle.std.specs.Prelude.{◌≡◌, ◌⊎◌, ◌^◌, ◌<◌, ℕ, ◌==◌, if◌then◌else◌, List, Option, None, Some, Result, Ok, Err}
 use Rattle.nav_bits.specs.Bits.{number_at}
-use Rattle.gnss_week.specs.Weeks.{IsSecond}
+use Rattle.nav_eph.specs.Weeks.{IsSecond}
 use Rattle.nav_eph.specs.Bodies.{IsGalHealth, IsGalIon}
 use Rattle.nav_eph.specs.Conditions.{wn_of}
 use Rattle.nav_eph.specs.Ranges.{IsGalWord1, IsGalWord2, IsGalWord3, IsGalWord4}

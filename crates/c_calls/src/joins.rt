@@ -2,7 +2,7 @@
 //! capture are.
 
 ghost use Rattle.std.specs.Prelude.{◌≡◌, ◌↔◌, ◌%◌, ◌<◌, ◌^◌, IsTrue, IfNone, IfSome, IsSome};
-ghost use Rattle.gnss_week.specs.Weeks.{IsReference, IsSecond};
+ghost use Rattle.nav_eph.specs.Weeks.{IsReference, IsSecond};
 ghost use Rattle.nav_eph.specs.Satellite.{IsSat};
 ghost use Rattle.nav_eph.specs.declared.sat.System.TheVariants.{Gal, Gps};
 ghost use Rattle.nav_eph.specs.declared.items.NavItem.TheVariants.{Gal as GalItem, Gps as GpsItem};
@@ -15,9 +15,8 @@ use crate::page_raw::WordsRaw;
 use crate::subframe_raw::SubframesRaw;
 use raw_values::reasons::{NO_ITEM, NO_SATELLITE, NO_WEEK};
 use raw_values::{GalRaw, GpsRaw, ItemRaw, SentRaw, gal_of, gps_of, put_item, sat_of};
-use gnss_week::{RefWeek, Second};
+use nav_eph::{GalEph, GpsEph, NavItem, RefWeek, Second, SentTag, System};
 use nav_bits::U;
-use nav_eph::{GalEph, GpsEph, NavItem, SentTag, System};
 use periods::{Digest, Finding, GalDigest, GpsDigest, Key, Seen};
 
 // A transmission time that is not known.

@@ -1,7 +1,7 @@
 //! Ephemeris messages of RTCM 10403.3 (3.5): 1019 and 1046.
 
 ghost use Rattle.std.specs.Prelude.{◌≡◌};
-ghost use Rattle.gnss_week.specs.Weeks.{IsReference};
+ghost use Rattle.nav_eph.specs.Weeks.{IsReference};
 ghost use Rattle.framing.specs.State.{payload_of};
 ghost use Rattle.rtcm_eph.specs.Reading.{item_in as item_of_payload};
 ghost use Rattle.raw_values.specs.Items.{IsItemIn, item_in};
@@ -12,8 +12,7 @@ ghost use Rattle.c_calls.specs.Messages.{message_status};
 use crate::frames::make_frame;
 use raw_values::reasons::{NO_FRAME, NO_ITEM, NO_MESSAGE, NO_WEEK};
 use raw_values::{ItemRaw, item_of, put_item};
-use gnss_week::RefWeek;
-use nav_eph::NavItem;
+use nav_eph::{NavItem, RefWeek};
 use rtcm_eph::{MessageFault, read_item, write_1019, write_1046};
 use framing::frame_of;
 

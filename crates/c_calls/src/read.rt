@@ -1,7 +1,7 @@
 //! Rows of ephemeris messages.
 
 ghost use Rattle.std.specs.Prelude.{◌≡◌, ◌<◌, ◌≤◌, length};
-ghost use Rattle.gnss_week.specs.Weeks.{IsReference};
+ghost use Rattle.nav_eph.specs.Weeks.{IsReference};
 ghost use Rattle.nav_bits.specs.Bits.{number_at};
 ghost use Rattle.nav_rows.specs.Rows.{RowValue};
 ghost use Rattle.nav_rows.specs.Kinds.{IsKind};
@@ -10,7 +10,7 @@ ghost use Rattle.c_calls.specs.Rows.{IsRowOf, ReadsRow, row_status};
 use crate::kinds::kind_for;
 use crate::row_raw::RowRaw;
 use raw_values::reasons::NO_WEEK;
-use gnss_week::RefWeek;
+use nav_eph::RefWeek;
 use nav_bits::number_in_bytes;
 use nav_rows::{Kind, Row, RowFault, row_of_message};
 use nav_tables::TableFault;

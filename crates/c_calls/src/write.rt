@@ -12,7 +12,7 @@ use arrayvec::ArrayVec;
 use crate::Fixed;
 use raw_values::put;
 use raw_values::reasons::NO_ITEM;
-use gnss_week::Moment;
+use nav_eph::Moment;
 use nav_rows::{Kind, Row, write_record};
 use rinex_write::{Column, NOT_KNOWN, Rule};
 

@@ -2,7 +2,7 @@
 //! the theorem.
 
 ghost use Rattle.std.specs.Prelude.{◌≡◌, ℕ, List, All};
-ghost use Rattle.gnss_week.specs.Weeks.{IsReference};
+ghost use Rattle.nav_eph.specs.Weeks.{IsReference};
 ghost use Rattle.nav_eph.specs.Ranges.{IsItem};
 ghost use Rattle.nav_eph.specs.Values.{HasPartRanges};
 ghost use Rattle.nav_eph.specs.declared.part.Part.{Part};

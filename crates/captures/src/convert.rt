@@ -17,7 +17,7 @@ use crate::hearing::Hearing;
 use crate::next::next_item;
 use capture_lines::LineItem;
 use capture_log::{parts_of_lines_are_values, what_is_closed_stays};
-use gnss_week::RefWeek;
+use nav_eph::RefWeek;
 use nav_io::{Failed, LineFault, LineKind, Lines, Sink, Source};
 use one_run::BridgeFault;
 use streams::Target;

@@ -13,7 +13,7 @@ use crate::counts::{CaptureCounts, counts_with};
 use crate::hearing::Hearing;
 use crate::target::CaptureTo;
 use capture_log::{parts_of_lines_are_values, what_is_closed_stays};
-use gnss_week::RefWeek;
+use nav_eph::RefWeek;
 use nav_io::{Failed, Lines, Sink, Source};
 use one_run::BridgeFault;
 use streams::Target;

@@ -7,7 +7,7 @@ ghost use Rattle.captures.specs.Seeds.{seed_meaning};
 use crate::count::{count_text, write_text};
 use crate::laws::generated_captures_are_accepted;
 use crate::seed_target::{SeedCounts, SeedTo};
-use gnss_week::RefWeek;
+use nav_eph::RefWeek;
 use nav_io::Sink;
 use sent_captures::{Sats, captures_are_short, make_capture};
 use one_run::BridgeFault;

@@ -1,8 +1,7 @@
 //! Messages of an independent program both ways, and worked faults.
 
 use arrayvec::ArrayVec;
-use gnss_week::RefWeek;
-use nav_eph::{NavItem, SentSecond};
+use nav_eph::{NavItem, RefWeek, SentSecond};
 use raw_values::{
     ClockNumbers, E01_OF_ISSUE_0, E01_OF_ISSUE_378, G01_OF_WEEK_1783, G32_OF_WEEK_2294, GalNumbers,
     GpsNumbers, HealthNumbers, MESSAGE_1019_OF_G05, OrbitANumbers, OrbitBNumbers, SideNumbers,

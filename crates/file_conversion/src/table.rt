@@ -8,7 +8,7 @@ ghost use Rattle.file_conversion.specs.Tasks.{reads_input};
 
 use crate::targets::Target;
 use bridge_engine::{CaptureJob, CaptureTo, Job};
-use gnss_week::RefWeek;
+use nav_eph::RefWeek;
 use rinex_write::HeaderWords;
 use all_systems::{Kinds, Version};
 use whole_file::Kind;

@@ -1,6 +1,6 @@
 -- The bytes of a word hold its table, and no others do.
 use Rattle.std.proofs.Common.{◌≡◌, ℕ, ◌<◌, List, lit<, inl, inr, refl, ap, arith}
-use Rattle.gnss_week.specs.Weeks.{IsSecond}
+use Rattle.nav_eph.specs.Weeks.{IsSecond}
 use Rattle.nav_bits.specs.Fields.{StandFrom}
 use Rattle.nav_bits.specs.Packed.{AllFit, AreBytes, ZerosFrom}
 use Rattle.nav_bits.proofs.Surface.{are_bytes, fields_stand, zeros_stand, only_packed}

@@ -13,12 +13,8 @@ use crate::word2::Word2;
 use crate::word3::Word3;
 use crate::word4::Word4;
 use crate::word5::Word5;
-use gnss_week::Second;
+use nav_eph::{Body, GalHealth, GalIon, GalWord1, GalWord2, GalWord3, GalWord4, Part, Sat, Second, SentTag, Sisa, Step60};
 use nav_bits::Bits;
-use nav_eph::{
-    Body, GalHealth, GalIon, GalWord1, GalWord2, GalWord3, GalWord4, Part, Sat, SentTag, Sisa,
-    Step60,
-};
 
 // The parts of a word that has only one.
 fn one(body: Body, sat: Sat, stamp: u32) -> WordParts

@@ -1,6 +1,6 @@
 ghost use Rattle.std.specs.Prelude.{◌≡◌, ℕ, ◌<◌, ◌^◌};
 ghost use Rattle.std.specs.Prelude.{◌↔◌, List, All, Ok, Err};
-ghost use Rattle.gnss_week.specs.Weeks.{IsSecond};
+ghost use Rattle.nav_eph.specs.Weeks.{IsSecond};
 ghost use Rattle.nav_bits.specs.Fields.{StandFrom};
 ghost use Rattle.nav_bits.specs.Packed.{AreBytes, ZerosFrom};
 ghost use Rattle.nav_eph.specs.Bodies.{IsGalHealth, IsGalIon};

@@ -1,7 +1,7 @@
 -- What is written of a capture comes back.
 use Rattle.std.proofs.Common.{◌≡◌, ℕ, ◌↔◌, List, ap, ◌∙◌}
 use Rattle.std.specs.Prelude.{Option, Some, IfSome, All}
-use Rattle.gnss_week.specs.Weeks.{IsReference}
+use Rattle.nav_eph.specs.Weeks.{IsReference}
 use Rattle.nav_io.specs.Lines.{Line}
 use Rattle.nav_eph.specs.Ranges.{IsItem}
 use Rattle.nav_eph.specs.declared.items.NavItem.{NavItem}

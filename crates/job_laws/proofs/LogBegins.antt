@@ -2,7 +2,7 @@
 use Rattle.std.proofs.Common.{◌≡◌, ℕ, ◌+◌, ◌-◌, ◌*◌, ◌/◌, ◌≤◌, nat_lt, nat_le, false, List, [], ◌∷◌, ◌++◌, refl, sym, ap, ◌∙◌, arith, append-nil, append_assoc}
 use Rattle.std.proofs.lemmas.Bool.{le-ltb, lt-leb}
 use Rattle.std.specs.Prelude.{Option, Some, None}
-use Rattle.gnss_week.specs.Weeks.{IsReference}
+use Rattle.nav_eph.specs.Weeks.{IsReference}
 use Rattle.sent_captures.specs.Slots.{text_of_items}
 use Rattle.capture_lines.specs.Texts.{half_text}
 use Rattle.receiver_log.specs.declared.said.Content.{Content}

@@ -14,7 +14,7 @@ use Rattle.nav_bits.proofs.Surface.{bytes_of-lt, bytes_of-length}
 use Rattle.nav_io.specs.Lines.{IsOneLine, lines_by}
 use Rattle.nav_eph.specs.Satellite.{IsSat, Satellite}
 use Rattle.nav_eph.specs.declared.sat.System.TheVariants.{Gps, Gal}
-use Rattle.gnss_week.specs.Weeks.{IsReference}
+use Rattle.nav_eph.specs.Weeks.{IsReference}
 use Rattle.nav_eph.specs.declared.signal.Signal.{Signal}
 use Rattle.capture_lines.specs.Heads.{IsHead, head_of}
 use Rattle.capture_lines.specs.Spellings.{IsEnded, IsHalfLine, IsLnavLine, IsPrinted}

@@ -5,7 +5,7 @@ use Rattle.std.specs.List.{flat_map}
 use Rattle.std.proofs.lemmas.List.Elements.{All-contains, All-head, All-tail}
 use Rattle.nav_bits.specs.Fields.{StandFrom}
 use Rattle.nav_bits.specs.Packed.{AreBytes}
-use Rattle.gnss_week.specs.Weeks.{IsNearGalileo, IsNearGps, IsReference}
+use Rattle.nav_eph.specs.Weeks.{IsNearGalileo, IsNearGps, IsReference}
 use Rattle.nav_eph.specs.Items.{unsent}
 use Rattle.nav_eph.specs.Ranges.{HasGalRanges, HasGpsRanges, IsItem}
 use Rattle.nav_eph.specs.declared.items.GpsEph.{GpsEph}

@@ -2,7 +2,7 @@
 use Rattle.std.proofs.Common.{◌≡◌, ℕ, zero, suc, ◌+◌, ◌*◌, ◌/◌, ◌%◌, ◌<◌, ◌==◌, ◌&&◌, nat_lt, nat_le, true, if◌then◌else◌, List, [], ◌∷◌, length, drop, get_or, Ok, refl, ap, ap₂, sym, ◌∙◌, subst, inl, inr, arith, ℤ, pos, negsuc, ◌≤ℤ◌, unsigned_abs, eq-eqb, eqb-true, le-leb, lt-ltb}
 use Rattle.std.proofs.lemmas.Bool.{and_parts, leb-true, ltb-true}
 use Rattle.std.proofs.lemmas.Int.{ints}
-use Rattle.gnss_week.specs.Weeks.{IsNearestMoment}
+use Rattle.nav_eph.specs.Weeks.{IsNearestMoment}
 use Rattle.nav_eph.specs.Satellite.{Satellite}
 use Rattle.nav_eph.specs.Bodies.{IsGalHealth}
 use Rattle.nav_eph.specs.Items.{IsSentSecond}

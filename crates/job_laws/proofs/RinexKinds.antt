@@ -1,7 +1,7 @@
 -- A record of version 4 is judged as an item exactly if it is a record of that item by the relation.
 use Rattle.std.proofs.Common.{◌≡◌, ℕ, ◌/◌, ◌%◌, ◌==◌, ◌&&◌, nat_le, Bool, true, false, List, [], ◌∷◌, length, get_or, codes, Result, Ok, Err, refl, ap, sym, ◌∙◌, subst, arith, ℤ, le-leb, eqb-true, eq-eqb}
 use Rattle.std.proofs.lemmas.Bool.{and_parts, leb-true}
-use Rattle.gnss_week.specs.Weeks.{IsWeek, week_of}
+use Rattle.nav_eph.specs.Weeks.{IsWeek, week_of}
 use Rattle.nav_eph.specs.Satellite.{Satellite}
 use Rattle.nav_eph.specs.Ranges.{IsGpsItem, IsGalItem}
 use Rattle.nav_eph.specs.declared.sat.System.TheVariants as systems

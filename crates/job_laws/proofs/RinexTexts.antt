@@ -4,13 +4,13 @@ use Rattle.std.proofs.lemmas.Bool.{and_parts, leb-true}
 use Rattle.scaled_decimal.specs.Grammar.{AreDecimals, number_behind}
 use Rattle.scaled_decimal.specs.NumberText.{digits}
 use Rattle.scaled_decimal.specs.NumberReading.{Span, span, is_decimal, is_nothing}
-use Rattle.gnss_week.specs.Weeks.{IsMoment}
-use Rattle.gnss_week.specs.Dates.{GivesMoment, IsCivilOf}
-use Rattle.gnss_week.specs.Functions.{moment_to}
-use Rattle.gnss_week.specs.declared.calendar.Civil.{Civil}
-use Rattle.gnss_week.specs.declared.calendar.WeekFault.{WeekFault}
-use Rattle.gnss_week.specs.declared.calendar.WeekFault.TheVariants as weeks
-use Rattle.gnss_week.proofs.Surface.{moment_to-answer, moment_to-again}
+use Rattle.nav_eph.specs.Weeks.{IsMoment}
+use Rattle.nav_eph.specs.Dates.{GivesMoment, IsCivilOf}
+use Rattle.nav_eph.specs.Functions.{moment_to}
+use Rattle.nav_eph.specs.declared.calendar.Civil.{Civil}
+use Rattle.nav_eph.specs.declared.calendar.WeekFault.{WeekFault}
+use Rattle.nav_eph.specs.declared.calendar.WeekFault.TheVariants as weeks
+use Rattle.nav_eph.proofs.Surface.{moment_to-answer, moment_to-again}
 use Rattle.nav_eph.specs.Satellite.{Satellite, IsSat, most}
 use Rattle.nav_eph.specs.declared.sat.System.{System}
 use Rattle.nav_eph.specs.declared.sat.System.TheVariants.{Gps, Gal}

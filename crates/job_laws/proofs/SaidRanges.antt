@@ -10,8 +10,8 @@ use Rattle.nav_eph.specs.Satellite.{IsSat}
 use Rattle.nav_eph.specs.declared.sat.System.TheVariants.{Gps, Gal}
 use Rattle.nav_eph.specs.declared.signal.Signal.{Signal}
 use Rattle.nav_eph.specs.declared.signal.Signal.TheVariants.{E1b, E5b}
-use Rattle.gnss_week.specs.Functions.{moment_to}
-use Rattle.gnss_week.specs.declared.calendar.WeekFault.{WeekFault}
+use Rattle.nav_eph.specs.Functions.{moment_to}
+use Rattle.nav_eph.specs.declared.calendar.WeekFault.{WeekFault}
 use Rattle.receiver_log.specs.Halves.{ubx_even, ubx_odd, sbf_even, sbf_odd}
 use Rattle.receiver_log.specs.Numbers.{two_at, four_at, eight_at}
 use Rattle.receiver_log.specs.Times.{digits_of, exponent_of, is_week, is_in_week, minute_at}

@@ -1,7 +1,7 @@
 -- What is written of a capture: the items of the periods of the parts received, which can be read back.
 use Rattle.std.specs.Prelude.{◌≡◌, ℕ, List, map, Contains, Ok}
 use Rattle.std.specs.List.{flat_map}
-use Rattle.gnss_week.specs.Weeks.{IsNearGalileo, IsNearGps, IsReference}
+use Rattle.nav_eph.specs.Weeks.{IsNearGalileo, IsNearGps, IsReference}
 use Rattle.nav_eph.specs.Items.{unsent}
 use Rattle.nav_eph.specs.declared.items.NavItem.{NavItem}
 use Rattle.nav_eph.specs.declared.items.NavItem.TheVariants.{Gps, Gal, Ion}

@@ -5,7 +5,7 @@ ghost use Rattle.nav_io.specs.Lines.{Line};
 ghost use Rattle.capture_lines.specs.declared.item.LineItem.{LineItem};
 ghost use Rattle.periods.specs.PeriodLists.{ArePeriods, items_in};
 ghost use Rattle.periods.specs.declared.closed.Closed.{Closed};
-ghost use Rattle.gnss_week.specs.Weeks.{IsReference};
+ghost use Rattle.nav_eph.specs.Weeks.{IsReference};
 ghost use Rattle.rinex_write.specs.Texts.{IsHeader};
 ghost use Rattle.rinex_write.specs.declared.words.HeaderWords.{HeaderWords};
 ghost use Rattle.streams.specs.declared.target.Target.TheVariants as targets;

@@ -7,7 +7,7 @@ use file_conversion::{
     Kinds, Made, Observers, Outcome, Plan, Refusal, Sourced, Stop, Target, Teller, convert_one,
     convert_source, finish, kind_text,
 };
-use gnss_week::RefWeek;
+use nav_eph::RefWeek;
 use nav_io::{Failed, MemSink, MemSource};
 use receiver_log::Nobody;
 use rinex_write::HeaderWords;

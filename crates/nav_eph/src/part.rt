@@ -7,7 +7,7 @@ use crate::ion::{GalIon, GpsIon};
 use crate::same::{same_body, same_sat};
 use crate::sat::{Sat, System};
 use crate::tag::SentTag;
-use gnss_week::Second;
+use crate::Second;
 use nav_bits::U;
 
 /// The content of one subframe, word or message.

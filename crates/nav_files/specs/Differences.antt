@@ -4,8 +4,8 @@ use Rattle.std.specs.Fmt.{signed_decimal}
 use Rattle.std.specs.BTreeSet.{difference}
 use Rattle.std.specs.List.{flat_map}
 use Rattle.std.specs.Ordering.{int_eq, match_ordering}
-use Rattle.gnss_week.specs.Functions.{civil_to}
-use Rattle.gnss_week.specs.declared.calendar.Civil.{Civil}
+use Rattle.nav_eph.specs.Functions.{civil_to}
+use Rattle.nav_eph.specs.declared.calendar.Civil.{Civil}
 use Rattle.nav_eph.specs.declared.items.NavItem.{NavItem}
 use Rattle.nav_eph.specs.declared.items.NavItem.TheVariants.{Gps, Gal, Ion}
 use Rattle.nav_lists.specs.Fronts.{satellite_of}

@@ -14,7 +14,7 @@ use crate::sent_counts::count_told;
 use crate::sent_records::tell;
 use crate::taker::Taker;
 use crate::told::{next_slot, told_of};
-use gnss_week::RefWeek;
+use nav_eph::RefWeek;
 use nav_io::{Failed, Sink};
 use one_run::{BridgeFault, Text};
 use rinex_read::ItemRead;

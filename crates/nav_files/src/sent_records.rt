@@ -11,7 +11,7 @@ ghost use Rattle.nav_files.specs.Sends.{told_report, told_text};
 
 use crate::records::reason_word;
 use crate::told::{Told, fault_word};
-use gnss_week::RefWeek;
+use nav_eph::RefWeek;
 use nav_io::{Failed, Sink};
 use one_run::{BridgeFault, report_text};
 use sent_captures::send_item;

@@ -7,8 +7,7 @@ ghost use Rattle.sent_captures.specs.Sendable.{IsEphemeris, is_ephemeris, send_f
 ghost use Rattle.nav_files.specs.Following.{IsTold};
 ghost use Rattle.nav_files.specs.Sends.{fault_text, slot_behind, told as told_by, told_item};
 
-use gnss_week::RefWeek;
-use nav_eph::NavItem;
+use nav_eph::{NavItem, RefWeek};
 use sent_captures::{SendFault, can_send};
 use rinex_read::{ItemRead, Reason};
 

@@ -3,8 +3,8 @@ use Rattle.std.proofs.Common.{◌≡◌, ℕ, ◌+◌, ◌%◌, ◌^◌, ◌<◌
 use Rattle.std.proofs.lemmas.Bool.{and_parts}
 use Rattle.std.proofs.lemmas.List.Elements.{All-head, All-tail}
 use Rattle.nav_bits.proofs.Surface.{are_bytes}
-use Rattle.gnss_week.specs.Functions.{near_galileo, near_gps}
-use Rattle.gnss_week.proofs.Surface.{near_galileo-decides, near_gps-decides}
+use Rattle.nav_eph.specs.Functions.{near_galileo, near_gps}
+use Rattle.nav_eph.proofs.Surface.{near_galileo-decides, near_gps-decides}
 use Rattle.nav_eph.specs.Satellite.{Satellite}
 use Rattle.nav_eph.specs.Ranges.{IsItem}
 use Rattle.nav_eph.specs.Values.{IsPartValue}

@@ -5,7 +5,7 @@ use Rattle.nav_bits.specs.Packed.{AreBytes}
 use Rattle.nav_eph.specs.Satellite.{IsSat, Satellite}
 use Rattle.nav_eph.specs.Bodies.{IsGalHealth, IsGalIon}
 use Rattle.nav_eph.specs.Ranges.{IsGalWord1, IsGalWord2, IsGalWord3, IsGalWord4}
-use Rattle.gnss_week.specs.Weeks.{IsSecond}
+use Rattle.nav_eph.specs.Weeks.{IsSecond}
 use Rattle.nav_eph.specs.declared.sat.System.TheVariants.{Gal as OfGalileo, Gps as OfGps}
 use Rattle.nav_eph.specs.declared.galileo.GalHealth.{GalHealth}
 use Rattle.nav_eph.specs.declared.galileo.GalWord1.{GalWord1}

@@ -1,9 +1,9 @@
 -- One slot whose parts are received at any seconds of its first two hours, each at least once: its periods and their items.
 use Rattle.std.proofs.Common.{◌≡◌, ℕ, ◌+◌, ◌*◌, ◌<◌, ◌≤◌, ◌⊎◌, inl, inr, pos, ◌-ℤ◌, Bool, if◌then◌else◌, List, [], ◌∷◌, ◌++◌, Option, None, Some, Contains, refl, sym, ap, subst, ◌∙◌, arith}
 use Rattle.std.proofs.lemmas.Bool.{cases_lt}
-use Rattle.gnss_week.specs.Weeks.{week_of}
-use Rattle.gnss_week.specs.Functions.{galileo_week_to, gps_week_to, moment_near}
-use Rattle.gnss_week.proofs.Surface.{galileo_number-means, gps_number-means}
+use Rattle.nav_eph.specs.Weeks.{week_of}
+use Rattle.nav_eph.specs.Functions.{galileo_week_to, gps_week_to, moment_near}
+use Rattle.nav_eph.proofs.Surface.{galileo_number-means, gps_number-means}
 use Rattle.nav_eph.specs.Satellite.{Satellite}
 use Rattle.nav_eph.specs.Items.{galileo_toe_moment}
 use Rattle.nav_eph.specs.declared.gps.GpsClock.{GpsClock}

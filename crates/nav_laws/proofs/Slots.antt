@@ -1,9 +1,9 @@
 -- The items that may be sent in a slot: their keys, weeks and stamps.
 use Rattle.std.proofs.Common.{◌≡◌, ℕ, ◌+◌, ◌*◌, ◌%◌, ◌<◌, ◌≤◌, inl, inr, pos, ◌-ℤ◌, Option, None, Some, refl, sym, ap, ◌∙◌, arith}
 use Rattle.std.proofs.lemmas.Int.{ints}
-use Rattle.gnss_week.specs.Weeks.{IsNearGalileo, IsNearGps, week_of}
-use Rattle.gnss_week.specs.Functions.{moment_near}
-use Rattle.gnss_week.proofs.Surface.{moment_near-only}
+use Rattle.nav_eph.specs.Weeks.{IsNearGalileo, IsNearGps, week_of}
+use Rattle.nav_eph.specs.Functions.{moment_near}
+use Rattle.nav_eph.proofs.Surface.{moment_near-only}
 use Rattle.nav_eph.specs.Items.{galileo_toe_moment}
 use Rattle.nav_eph.specs.Ranges.{IsGalItem, IsGpsItem}
 use Rattle.nav_eph.specs.declared.ion.IonContent.TheVariants.{Gal as OfGal}

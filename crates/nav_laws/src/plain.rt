@@ -4,8 +4,7 @@ ghost use Rattle.std.specs.Prelude.{◌≡◌, ◌≤◌, ◌<◌, ◌+◌, ◌^
 
 use crate::due::first_due;
 use crate::kept::keep;
-use gnss_week::RefWeek;
-use nav_eph::Part;
+use nav_eph::{Part, RefWeek};
 use periods::{Closed, Place, note_value, verdict_on};
 use slot_assembly::Assembly;
 use std::alloc::{AllocError, Global};

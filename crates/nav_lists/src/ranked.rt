@@ -5,7 +5,7 @@ ghost use Rattle.std.proofs.Common.{refl};
 ghost use Rattle.std.specs.Cmp.Lexicographic.{slice_cmp};
 ghost use Rattle.std.specs.Ordering.{is_eq, int_cmp};
 ghost use Rattle.nav_eph.specs.Ranks.{content_rank, rank, sent_of};
-ghost use Rattle.gnss_week.specs.Weeks.{IsMoment};
+ghost use Rattle.nav_eph.specs.Weeks.{IsMoment};
 ghost use Rattle.nav_eph.specs.declared.items.NavItem.TheVariants.{Gps as GpsItem};
 ghost use Rattle.nav_eph.specs.declared.items.NavItem.TheVariants.{Gal as GalItem};
 ghost use Rattle.nav_eph.specs.declared.items.NavItem.TheVariants.{Ion as IonItem};

@@ -12,8 +12,8 @@ use Rattle.std.proofs.lemmas.Bool.Decides.{nat_tests}
 use Rattle.std.proofs.lemmas.List.{length-map}
 use Rattle.scaled_decimal.specs.NumberText.{digits}
 use Rattle.scaled_decimal.specs.NumberReading.{is_decimal}
-use Rattle.gnss_week.specs.Weeks.{IsMoment}
-use Rattle.gnss_week.specs.Functions.{civil_to}
+use Rattle.nav_eph.specs.Weeks.{IsMoment}
+use Rattle.nav_eph.specs.Functions.{civil_to}
 use Rattle.rinex_write.specs.Texts.{date_text}
 use Rattle.nav_tables.specs.Fields.{IsInRange, is_in_range}
 use Rattle.nav_tables.proofs.Surface.{both, in_range_true, le_z_true}

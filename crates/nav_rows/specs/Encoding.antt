@@ -3,7 +3,7 @@ use Rattle.std.specs.Prelude.{◌≡◌, ℕ, false, ◌+◌, ◌*◌, ◌/◌, 
 use Rattle.std.specs.Prelude.{List, [], ◌∷◌}
 use Rattle.std.specs.Prelude.{length, ℤ, pos, nat_eq, nat_le, nat_lt, Option, Some, None}
 use Rattle.std.specs.Prelude.{Result, Ok, Err, if◌then◌else◌}
-use Rattle.gnss_week.specs.Functions.{moment_near}
+use Rattle.nav_eph.specs.Functions.{moment_near}
 use Rattle.nav_tables.specs.Messages.{first_outside, message_bytes, starts}
 use Rattle.nav_tables.specs.declared.link.Part.{Part}
 use Rattle.nav_tables.specs.Links.{AreSaid, filled, nth, say}

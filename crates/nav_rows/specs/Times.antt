@@ -1,7 +1,7 @@
 -- The times in the numbers of a message.
 use Rattle.std.specs.Prelude.{ℕ, ◌+◌, ◌-◌, ◌*◌, ◌%◌, ◌^◌, ◌<◌, ◌≤◌, List, length, ℤ, pos, ◌≤ℤ◌}
 use Rattle.std.specs.Prelude.{unsigned_abs, IsTrue, Option, Some, None}
-use Rattle.gnss_week.specs.Functions.{moment_near}
+use Rattle.nav_eph.specs.Functions.{moment_near}
 use Rattle.nav_tables.specs.Links.{nth}
 use Rattle.nav_tables.specs.declared.times.FrameTime.{FrameTime}
 use Rattle.nav_tables.specs.declared.times.Times.{Times}

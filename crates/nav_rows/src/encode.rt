@@ -16,7 +16,7 @@ ghost use Rattle.nav_rows.specs.Encoding.{toe_at, toe_week, week_head, with_head
 use crate::kind::{Clock, Kind, WeekClock};
 use crate::row::{Row, has_spare_sisa};
 use arrayvec::ArrayVec;
-use gnss_week::{Moment, Second, Week, nearest_moment};
+use nav_eph::{Moment, Second, Week, nearest_moment};
 use nav_tables::{FrameTime, Link, Part, TimeFault, Times, fill_numbers, first_outside, frame_time, number_of_week, start_numbers, write_message};
 use rinex_read::Reason;
 use rinex_write::{Column, NOT_KNOWN, Rule};

@@ -6,7 +6,7 @@ ghost use Rattle.std.specs.Cmp.{IsTotalOrder};
 ghost use Rattle.std.specs.declared.cmp.Ordering.TheVariants.{Equal};
 ghost use Rattle.nav_bits.specs.Bits.{number_at};
 ghost use Rattle.nav_bits.specs.Packed.{AreBytes};
-ghost use Rattle.gnss_week.specs.Weeks.{IsMoment, IsReference};
+ghost use Rattle.nav_eph.specs.Weeks.{IsMoment, IsReference};
 ghost use Rattle.nav_tables.specs.Fields.{IsInRange};
 ghost use Rattle.nav_tables.specs.Messages.{ArePlain};
 ghost use Rattle.nav_tables.specs.Links.{field_at};

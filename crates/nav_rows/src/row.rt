@@ -13,7 +13,7 @@ ghost use Rattle.nav_rows.specs.Rows.{record_text, row_in, value};
 use crate::kind::Kind;
 use crate::times::{RowTimes, times_told};
 use arrayvec::ArrayVec;
-use gnss_week::{Moment, RefWeek};
+use nav_eph::{Moment, RefWeek};
 use nav_io::{Failed, Sink};
 use nav_tables::{TableFault, columns_of, read_message};
 use rinex_write::{RowHead, write_row, write_row_body};

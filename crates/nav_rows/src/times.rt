@@ -2,7 +2,7 @@
 
 ghost use Rattle.std.specs.Prelude.{◌≡◌, ◌<◌, ◌≤◌, ◌+◌, ◌*◌, ◌/◌, IfSome, IsTrue, length, pos};
 ghost use Rattle.std.specs.Prelude.{◌≤ℤ◌, unsigned_abs};
-ghost use Rattle.gnss_week.specs.Weeks.{week_of};
+ghost use Rattle.nav_eph.specs.Weeks.{week_of};
 ghost use Rattle.nav_tables.specs.Links.{nth};
 ghost use Rattle.nav_tables.specs.Times.{IsFrameTime, times_to};
 ghost use Rattle.nav_rows.specs.declared.kind.Clock.TheVariants.{Frame, Weeks};
@@ -11,7 +11,7 @@ ghost use Rattle.nav_rows.specs.Times.{HasFrame, HasTimes, HasWeek, IsGiven, IsN
 ghost use Rattle.nav_rows.specs.Times.{framed, times_told, weekly};
 
 use crate::kind::{Clock, WeekClock};
-use gnss_week::{Moment, RefWeek, Second, Week, nearest_moment};
+use nav_eph::{Moment, RefWeek, Second, Week, nearest_moment};
 use nav_tables::{FrameTime, times_of, week_near};
 
 /// The times of an ephemeris as its record gives them.

@@ -8,7 +8,7 @@ use Rattle.std.proofs.lemmas.Bool.Decides.{nat_tests}
 use Rattle.std.proofs.lemmas.Int.{ints}
 use Rattle.jiff_core.specs.Calendar.{days_from_civil, day_count, days_of_months, days_of_years}
 use Rattle.jiff_core.specs.Calendar.{days_in_year}
-use Rattle.gnss_week.specs.Dates.{first_day}
+use Rattle.nav_eph.specs.Dates.{first_day}
 use Rattle.nav_tables.specs.declared.times.FrameTime.{FrameTime}
 use Rattle.nav_tables.specs.declared.times.Times.{Times}
 use Rattle.nav_tables.specs.Times.{IsTimeOf, day_of, times_by, times_to}

@@ -5,7 +5,7 @@ use Rattle.std.proofs.Common.{if◌then◌else◌}
 use Rattle.std.specs.Prelude.{nat_le, nat_lt, nat_eq}
 use Rattle.std.proofs.lemmas.Bool.{leb-true, ltb-true, le-leb, le-ltb, lt-ltb}
 use Rattle.std.proofs.lemmas.Bool.Decides.{nat_tests}
-use Rattle.gnss_week.specs.Functions.{first_from}
+use Rattle.nav_eph.specs.Functions.{first_from}
 use Rattle.nav_tables.specs.declared.times.FrameTime.{FrameTime}
 use Rattle.nav_tables.specs.declared.times.Times.{Times}
 use Rattle.nav_tables.specs.declared.times.TimeFault.TheVariants.{Epoch, Sent, Day}

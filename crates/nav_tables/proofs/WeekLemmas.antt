@@ -7,7 +7,7 @@ use Rattle.std.proofs.Math.Nat.{mod-eq_of_lt, pow-le-pow_right, mod-add-div'}
 use Rattle.std.proofs.lemmas.Nat.{mod_below, pow_pos}
 use Rattle.std.proofs.lemmas.Bool.{leb-true}
 use Rattle.nav_tables.specs.declared.week.WeekRule.{WeekRule}
-use Rattle.gnss_week.specs.Functions.{first_from}
+use Rattle.nav_eph.specs.Functions.{first_from}
 use Rattle.nav_tables.specs.Weeks.{IsWeekNear, first_week, is_week_rule, number_of_week, week_to}
 
 -- numbers that differ by multiples of p

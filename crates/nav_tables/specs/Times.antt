@@ -1,7 +1,7 @@
 -- The times of GLONASS frames. Moscow time is UTC and three hours; both count days from 1980-01-06.
 use Rattle.std.specs.Prelude.{◌≡◌, ℕ, ◌+◌, ◌-◌, ◌*◌, ◌/◌, ◌%◌, ◌≤◌, ◌&&◌, Bool, not, nat_eq, nat_le}
 use Rattle.std.specs.Prelude.{nat_lt, if◌then◌else◌, Option, Some, None, Result, Ok, Err}
-use Rattle.gnss_week.specs.Functions.{first_from}
+use Rattle.nav_eph.specs.Functions.{first_from}
 use Rattle.nav_tables.specs.declared.times.FrameTime.{FrameTime}
 use Rattle.nav_tables.specs.declared.times.Times.{Times}
 use Rattle.nav_tables.specs.declared.times.TimeFault.{TimeFault}

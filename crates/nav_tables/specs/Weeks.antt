@@ -1,6 +1,6 @@
 -- Weeks of any width.
 use Rattle.std.specs.Prelude.{◌≡◌, ℕ, ◌+◌, ◌-◌, ◌/◌, ◌%◌, ◌^◌, ◌<◌, ◌≤◌, ◌&&◌, max, Bool, nat_le}
-use Rattle.gnss_week.specs.Functions.{first_from}
+use Rattle.nav_eph.specs.Functions.{first_from}
 use Rattle.nav_tables.specs.declared.week.WeekRule.{WeekRule}
 
 -- the first week for which a number can stand near the reference week r

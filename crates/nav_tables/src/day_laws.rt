@@ -1,7 +1,7 @@
 ghost use Rattle.std.specs.Prelude.{◌≡◌, ◌≤◌, ◌<◌, ◌+◌, ◌^◌, ◌*◌, ◌/◌, ℕ, pos, Ok, Some, None};
 ghost use Rattle.std.specs.Prelude.{◌+ℤ◌};
 ghost use Rattle.jiff_core.specs.Calendar.{days_from_civil};
-ghost use Rattle.gnss_week.specs.Dates.{first_day};
+ghost use Rattle.nav_eph.specs.Dates.{first_day};
 ghost use Rattle.nav_tables.specs.Days.{IsNearestDay, day_of_number, distance, nearest_to, start};
 ghost use Rattle.nav_tables.specs.declared.times.FrameTime.{FrameTime};
 ghost use Rattle.nav_tables.specs.declared.times.Times.{Times};

@@ -5,7 +5,7 @@ ghost use Rattle.nav_tables.specs.Times.{IsFrameTime, day_of, epoch_at, frame_in
 ghost use Rattle.nav_tables.specs.Times.{has_day, is_sent, time_of, times_on, times_to};
 
 use crate::day::{day_of_number, nearest_day, number_of_day};
-use gnss_week::{Moment, RefWeek};
+use nav_eph::{Moment, RefWeek};
 
 /// The times of a GLONASS frame as its message gives them, in Moscow time.
 #[derive(Clone, Copy, PartialEq, Eq)]

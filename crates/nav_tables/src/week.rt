@@ -1,9 +1,9 @@
 ghost use Rattle.std.specs.Prelude.{◌≡◌, ◌<◌, ◌≤◌, ◌+◌, ◌^◌, IsTrue};
-ghost use Rattle.gnss_week.specs.Functions.{first_from};
+ghost use Rattle.nav_eph.specs.Functions.{first_from};
 ghost use Rattle.nav_tables.specs.Weeks.{IsWeekNear, first_week, is_week_rule, number_of_week};
 ghost use Rattle.nav_tables.specs.Weeks.{week_to};
 
-use gnss_week::{RefWeek, Week};
+use nav_eph::{RefWeek, Week};
 
 /// How a message counts weeks.
 #[derive(Clone, Copy, PartialEq, Eq)]

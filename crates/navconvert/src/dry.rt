@@ -9,7 +9,7 @@ use crate::telling::tell_file;
 use crate::values::Wanted;
 use bridge_engine::Job;
 use file_conversion::{Refusal, Target, Task, task_for, to_word};
-use gnss_week::RefWeek;
+use nav_eph::RefWeek;
 use std::str::from_utf8;
 use whole_file::Kind;
 

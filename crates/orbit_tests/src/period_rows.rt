@@ -1,7 +1,6 @@
 use crate::parts::{A, B, C, Heard, Kind, parts_of};
 use crate::runs::{WEEK, WINDOW, gives_a_period_once, letter};
-use gnss_week::RefWeek;
-use nav_eph::{GalEph, GpsEph, IonContent, IonEph, NavItem, Part, SentSecond};
+use nav_eph::{GalEph, GpsEph, IonContent, IonEph, NavItem, Part, RefWeek, SentSecond};
 use nav_laws::PlainAssembly;
 use periods::{Closed, Verdict};
 use slot_assembly::add_periods;

@@ -1,7 +1,6 @@
 use crate::parts::{A, B, C, Heard, Kind, parts_of};
 use crate::runs::{WEEK, WINDOW, gives_a_period_once, run};
-use gnss_week::RefWeek;
-use nav_eph::Part;
+use nav_eph::{Part, RefWeek};
 use nav_laws::PlainAssembly;
 use periods::Closed;
 use slot_assembly::SlotAssembly;

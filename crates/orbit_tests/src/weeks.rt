@@ -1,4 +1,4 @@
-use gnss_week::{
+use nav_eph::{
     Civil, Moment, RefWeek, Second, Week, WeekFault, civil, gal_week, gps_week, is_near_galileo,
     is_near_gps, moment_of, nearest_moment,
 };

@@ -1,8 +1,8 @@
 -- An item has its fields within their widths in bits where its members have.
 use Rattle.std.proofs.Common.{◌≡◌, ℕ, ◌+◌, ◌*◌, ◌^◌, ◌<◌, ◌≤◌, inl, inr, Some, sym, subst, ◌∙◌, arith}
-use Rattle.gnss_week.specs.Weeks.{IsMoment, IsReference, IsSecond, IsWeek}
-use Rattle.gnss_week.specs.Functions.{gps_week_to, galileo_week_to}
-use Rattle.gnss_week.proofs.Surface.{moment_near-nearest}
+use Rattle.nav_eph.specs.Weeks.{IsMoment, IsReference, IsSecond, IsWeek}
+use Rattle.nav_eph.specs.Functions.{gps_week_to, galileo_week_to}
+use Rattle.nav_eph.proofs.Surface.{moment_near-nearest}
 use Rattle.nav_eph.specs.Satellite.{Satellite, IsSat}
 use Rattle.nav_eph.specs.Conditions.{wn_of}
 use Rattle.nav_eph.specs.Bodies.{IsGalHealth, IsGalIon, IsGpsIon, IsIonContent, IsSentTag}

@@ -2,7 +2,7 @@
 use Rattle.std.proofs.Common.{◌≡◌, ℕ, ◌*◌, inl, inr, ◌==◌, List, ◌∷◌, sym, ap, subst, refl, ◌∙◌, eq-eqb}
 use Rattle.std.specs.List.{AllByRecursion}
 use Rattle.std.proofs.lemmas.Bool.{and_from}
-use Rattle.gnss_week.specs.Weeks.{IsSecond}
+use Rattle.nav_eph.specs.Weeks.{IsSecond}
 use Rattle.nav_eph.specs.Satellite.{Satellite, place_of}
 use Rattle.nav_eph.specs.Bodies.{IsGpsSide, IsSentTag, IsGalHealth}
 use Rattle.nav_eph.specs.declared.gps.GpsSide.{GpsSide}

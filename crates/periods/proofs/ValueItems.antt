@@ -2,9 +2,9 @@
 -- their ranges.
 use Rattle.std.proofs.Common.{◌≡◌, ℕ, ◌+◌, ◌*◌, ◌/◌, ◌^◌, ◌<◌, ◌≤◌, Some, pos, neg_ℤ, ◌-ℤ◌, ◌≤ℤ◌, refl, sym, ap, subst, ◌∙◌, arith}
 use Rattle.std.proofs.lemmas.Int.{ints}
-use Rattle.gnss_week.specs.Weeks.{IsReference, IsSecond, IsWeek, week_of}
-use Rattle.gnss_week.specs.Functions.{gps_week_to, galileo_week_to, moment_near}
-use Rattle.gnss_week.proofs.Surface.{moment_near-nearest}
+use Rattle.nav_eph.specs.Weeks.{IsReference, IsSecond, IsWeek, week_of}
+use Rattle.nav_eph.specs.Functions.{gps_week_to, galileo_week_to, moment_near}
+use Rattle.nav_eph.proofs.Surface.{moment_near-nearest}
 use Rattle.nav_eph.specs.Satellite.{Satellite}
 use Rattle.nav_eph.specs.Conditions.{IsPart, wn_of}
 use Rattle.nav_eph.specs.Items.{IsSentSecond, content_system}

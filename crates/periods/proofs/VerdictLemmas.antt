@@ -1,7 +1,7 @@
 -- Verdicts: the same for equal sets, kept by later parts where the period is closed, and unique.
 use Rattle.std.proofs.Common.{◌≡◌, ℕ, ◌+◌, ◌<◌, inl, inr, sym, ap, subst, ◌∙◌}
 use Rattle.periods.proofs.EndFacts.{Same, same_sym}
-use Rattle.gnss_week.specs.Weeks.{IsReference}
+use Rattle.nav_eph.specs.Weeks.{IsReference}
 use Rattle.nav_eph.specs.Conditions.{IsPart}
 use Rattle.nav_eph.specs.Ranges.{HasRanges, IsItem}
 use Rattle.nav_eph.specs.declared.items.NavItem.{NavItem}

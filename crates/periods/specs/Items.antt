@@ -1,7 +1,7 @@
 -- The item that the members of a period make.
 use Rattle.std.specs.Prelude.{◌≡◌, ℕ, ◌+◌, ◌*◌, pos, ◌-ℤ◌}
-use Rattle.gnss_week.specs.Weeks.{week_of}
-use Rattle.gnss_week.specs.Functions.{gps_week_to, galileo_week_to, moment_near}
+use Rattle.nav_eph.specs.Weeks.{week_of}
+use Rattle.nav_eph.specs.Functions.{gps_week_to, galileo_week_to, moment_near}
 use Rattle.nav_eph.specs.Satellite.{Satellite}
 use Rattle.nav_eph.specs.Conditions.{wn_of}
 use Rattle.nav_eph.specs.declared.galileo.GalHealth.{GalHealth}

@@ -1,7 +1,7 @@
 ghost use Rattle.std.specs.Prelude.{◌≡◌, ◌+◌, ◌*◌, ◌≤◌, ℕ, Option};
 ghost use Rattle.std.specs.Prelude.{pos, ◌-ℤ◌, None, Some, true};
-ghost use Rattle.gnss_week.specs.Functions.{galileo_week_to};
-ghost use Rattle.gnss_week.specs.Weeks.{week_of};
+ghost use Rattle.nav_eph.specs.Functions.{galileo_week_to};
+ghost use Rattle.nav_eph.specs.Weeks.{week_of};
 ghost use Rattle.periods.specs.Items.{gps_ion_moment, gps_moment, sent_second, tag_second};
 ghost use Rattle.periods.specs.Items.{toe_week_of};
 ghost use Rattle.periods.specs.DigestsOf.{digest_finding, gal_finding, gal_item, gps_finding};
@@ -20,12 +20,8 @@ ghost use Rattle.nav_eph.specs.Conditions.{wn_of};
 use crate::closed::Finding;
 use crate::digest::{Digest, GalDigest, GpsDigest, Seen};
 use crate::key::{Key, Transmission};
-use gnss_week::{Moment, RefWeek, Second, Week, gal_week, gps_week, nearest_moment};
+use nav_eph::{GalEph, GalHealth, GalIon, GalWord1, GalWord2, GalWord3, GalWord4, GpsClock, GpsEph, GpsIon, GpsOrbitA, GpsOrbitB, GpsSide, IonContent, IonEph, Moment, NavItem, RefWeek, Sat, Second, SentSecond, SentTag, Week, gal_week, gps_week, nearest_moment};
 use nav_bits::U;
-use nav_eph::{
-    GalEph, GalHealth, GalIon, GalWord1, GalWord2, GalWord3, GalWord4, GpsClock, GpsEph, GpsIon,
-    GpsOrbitA, GpsOrbitB, GpsSide, IonContent, IonEph, NavItem, Sat, SentSecond, SentTag,
-};
 
 // Seconds in a week.
 const WEEK: u64 = 604_800;

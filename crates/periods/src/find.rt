@@ -14,8 +14,7 @@ use crate::health::health_near;
 use crate::key::{Key, Place};
 use crate::order::{is_part_of, stamp_in};
 use crate::search::{is_later, is_quiet, last_end_before};
-use gnss_week::RefWeek;
-use nav_eph::{NavItem, Part};
+use nav_eph::{NavItem, Part, RefWeek};
 
 // The stamp is after the key's previous end, if there is one.
 fn is_behind_end(before: Option<u32>, stamp: u32) -> bool

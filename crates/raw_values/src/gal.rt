@@ -11,8 +11,7 @@ use crate::gal_raw::{GalHealthRaw, GalRaw, GalWord1Raw, GalWord2Raw, GalWord3Raw
 use crate::numbers::{raw_signed, raw_unsigned, signed, sisa, step60, unsigned};
 use crate::sat::sat_of;
 use crate::sent::{raw_sent, sent_of};
-use gnss_week::Week;
-use nav_eph::{GalEph, GalHealth, GalWord1, GalWord2, GalWord3, GalWord4, System};
+use nav_eph::{GalEph, GalHealth, GalWord1, GalWord2, GalWord3, GalWord4, System, Week};
 
 /// The value of these numbers; `None` if one is out of its range.
 pub fn word1_of(raw: &GalWord1Raw) -> Option<GalWord1>

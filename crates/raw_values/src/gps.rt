@@ -10,8 +10,7 @@ use crate::gps_raw::{GpsClockRaw, GpsOrbitARaw, GpsOrbitBRaw, GpsRaw, GpsSideRaw
 use crate::numbers::{raw_signed, raw_unsigned, signed, step16, unsigned};
 use crate::sat::sat_of;
 use crate::sent::{raw_sent, sent_of};
-use gnss_week::Week;
-use nav_eph::{GpsClock, GpsEph, GpsOrbitA, GpsOrbitB, GpsSide, System};
+use nav_eph::{GpsClock, GpsEph, GpsOrbitA, GpsOrbitB, GpsSide, System, Week};
 
 /// The value of these numbers; `None` if one is out of its range.
 pub fn clock_of(raw: &GpsClockRaw) -> Option<GpsClock>

@@ -9,8 +9,7 @@ ghost use Rattle.raw_values.specs.Ion.{ion_kind, raw_gal_ion, raw_gps_ion, raw_i
 use crate::ion_raw::{GalIonRaw, GpsIonRaw, IonRaw};
 use crate::numbers::{raw_signed, raw_unsigned, signed, unsigned};
 use crate::sat::sat_of;
-use gnss_week::Moment;
-use nav_eph::{GalIon, GpsIon, IonContent, IonEph, System};
+use nav_eph::{GalIon, GpsIon, IonContent, IonEph, Moment, System};
 
 /// The parameters with these numbers; `None` if one is out of its range.
 pub fn gps_ion_of(raw: &GpsIonRaw) -> Option<GpsIon>

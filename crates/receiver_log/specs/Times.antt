@@ -2,9 +2,9 @@
 use Rattle.std.specs.Prelude.{ℕ, ◌+◌, ◌-◌, ◌*◌, ◌/◌, ◌%◌, ◌^◌, ◌==◌, ◌&&◌, ◌||◌, nat_lt, nat_le}
 use Rattle.std.specs.Prelude.{if◌then◌else◌, Bool, List, length, slice_index, Option, Some, None}
 use Rattle.std.specs.Prelude.{Result, Ok, Err}
-use Rattle.gnss_week.specs.Functions.{moment_to}
-use Rattle.gnss_week.specs.declared.calendar.Civil.{Civil}
-use Rattle.gnss_week.specs.declared.calendar.WeekFault.{WeekFault}
+use Rattle.nav_eph.specs.Functions.{moment_to}
+use Rattle.nav_eph.specs.declared.calendar.Civil.{Civil}
+use Rattle.nav_eph.specs.declared.calendar.WeekFault.{WeekFault}
 use Rattle.receiver_log.specs.Numbers.{two_at, four_at, eight_at}
 
 -- plausible weeks: 1025 to 8191

@@ -14,9 +14,8 @@ ghost use Rattle.receiver_log.specs.Log.{reason_in as reason_of, week_of as head
 use crate::lines::{LineBuffer, append_half, append_head, append_subframe};
 use crate::reception::Reception;
 use crate::state::LogState;
-use gnss_week::Moment;
+use nav_eph::{Moment, Sat, Signal};
 use nav_bits::{Bits, U};
-use nav_eph::{Sat, Signal};
 use crate::{Content, Reason, read_words, subframe_bits};
 
 // The seconds of a week.

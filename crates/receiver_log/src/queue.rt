@@ -12,7 +12,7 @@ ghost use Rattle.receiver_log.specs.Receptions.{between as time_between};
 
 use crate::reception::Reception;
 use arrayvec::ArrayVec;
-use gnss_week::Moment;
+use nav_eph::Moment;
 use crate::{Content, Reason};
 use std::marker::Model;
 

@@ -1,6 +1,6 @@
 //! Subframes and pages as they were received.
 
-use gnss_week::Moment;
+use nav_eph::Moment;
 use crate::Content;
 
 /// A subframe or a page of a log, or the reason why a message gives none.

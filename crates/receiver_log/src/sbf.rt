@@ -12,8 +12,7 @@ use crate::said::{Content, Reason, Said};
 use crate::times::time_in;
 use crate::ubx::satellite;
 use crate::words::words_from;
-use gnss_week::Moment;
-use nav_eph::{Signal, System};
+use nav_eph::{Moment, Signal, System};
 
 /// The content of a complete SBF block.
 ///

@@ -7,14 +7,14 @@ ghost use Rattle.receiver_log.specs.Times.{is_in_week};
 ghost use Rattle.receiver_log.specs.Times.{is_week as in_weeks, nearest_to, places_of};
 ghost use Rattle.receiver_log.specs.Times.{time_in as moment_in, nearest_time as moment_near};
 ghost use Rattle.receiver_log.specs.Times.{time_of_date as date_time};
-ghost use Rattle.gnss_week.specs.Functions.{moment_to};
+ghost use Rattle.nav_eph.specs.Functions.{moment_to};
 ghost use Rattle.receiver_log.specs.Times.{time_of_raw as raw_time};
 ghost use Rattle.receiver_log.specs.Times.{time_of_seconds as seconds_time};
 ghost use Rattle.receiver_log.specs.Times.{time_of_week as week_time};
 ghost use Rattle.receiver_log.specs.Times.{nearest_week as near_week};
 
 use crate::numbers::{eight, four, two};
-use gnss_week::{Civil, Moment, moment_of};
+use nav_eph::{Civil, Moment, moment_of};
 
 // The seconds of a week.
 const WEEK: u64 = 604_800;

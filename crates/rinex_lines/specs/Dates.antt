@@ -4,9 +4,9 @@ use Rattle.scaled_decimal.specs.declared.reading.DecimalFault.{DecimalFault}
 use Rattle.scaled_decimal.specs.declared.scales.Scale.{Scale}
 use Rattle.scaled_decimal.specs.NumberReading.{read_of, seen}
 use Rattle.scaled_decimal.specs.ScaleValue.{size_of}
-use Rattle.gnss_week.specs.declared.calendar.Civil.{Civil}
-use Rattle.gnss_week.specs.declared.calendar.WeekFault.{WeekFault}
-use Rattle.gnss_week.specs.Functions.{first_from, moment_to}
+use Rattle.nav_eph.specs.declared.calendar.Civil.{Civil}
+use Rattle.nav_eph.specs.declared.calendar.WeekFault.{WeekFault}
+use Rattle.nav_eph.specs.Functions.{first_from, moment_to}
 use Rattle.rinex_lines.specs.Columns.{number_at}
 
 -- the second value by the first, if there is one

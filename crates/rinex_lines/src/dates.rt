@@ -5,7 +5,7 @@ ghost use Rattle.rinex_lines.specs.Dates.{date_of, epoch_of, frame_by, frame_tex
 ghost use Rattle.rinex_lines.specs.Dates.{six_digits, week_second, year_text};
 
 use crate::columns::{Columns, number_at};
-use gnss_week::{Civil, moment_of};
+use nav_eph::{Civil, moment_of};
 use scaled_decimal::{Scale, read};
 
 // The scale of integers.

@@ -3,9 +3,9 @@ use Rattle.std.proofs.Common.{◌≡◌, ℕ, suc, ◌+◌, ◌-◌, ◌*◌, �
 use Rattle.std.proofs.lemmas.Bool.{le-leb}
 use Rattle.scaled_decimal.specs.NumberText.{digits}
 use Rattle.scaled_decimal.specs.NumberReading.{is_decimal}
-use Rattle.gnss_week.specs.Weeks.{IsMoment, IsWeek, week_of}
-use Rattle.gnss_week.specs.Functions.{civil_to, moment_to}
-use Rattle.gnss_week.proofs.Surface.{civil_to-date, moment_to-again, short_date}
+use Rattle.nav_eph.specs.Weeks.{IsMoment, IsWeek, week_of}
+use Rattle.nav_eph.specs.Functions.{civil_to, moment_to}
+use Rattle.nav_eph.proofs.Surface.{civil_to-date, moment_to-again, short_date}
 use Rattle.nav_eph.specs.Satellite.{Satellite, IsSat, most}
 use Rattle.nav_eph.specs.declared.sat.System.{System}
 use Rattle.nav_eph.specs.declared.sat.System.TheVariants.{Gps, Gal}

@@ -3,13 +3,13 @@ use Rattle.std.proofs.Common.{◌≡◌, ℕ, ◌+◌, ◌-◌, ◌*◌, ◌/◌
 use Rattle.std.proofs.lemmas.Bool.{leb-true}
 use Rattle.std.proofs.lemmas.Int.{ints}
 use Rattle.scaled_decimal.specs.NumberReading.{is_decimal}
-use Rattle.gnss_week.specs.Weeks.{IsMoment, IsWeek, week_of}
-use Rattle.gnss_week.specs.Functions.{moment_to}
-use Rattle.gnss_week.specs.Dates.{GivesMoment}
-use Rattle.gnss_week.specs.declared.calendar.Civil.{Civil}
-use Rattle.gnss_week.specs.declared.calendar.WeekFault.{WeekFault}
-use Rattle.gnss_week.specs.declared.calendar.WeekFault.TheVariants as weeks
-use Rattle.gnss_week.proofs.Surface.{moment_to-answer}
+use Rattle.nav_eph.specs.Weeks.{IsMoment, IsWeek, week_of}
+use Rattle.nav_eph.specs.Functions.{moment_to}
+use Rattle.nav_eph.specs.Dates.{GivesMoment}
+use Rattle.nav_eph.specs.declared.calendar.Civil.{Civil}
+use Rattle.nav_eph.specs.declared.calendar.WeekFault.{WeekFault}
+use Rattle.nav_eph.specs.declared.calendar.WeekFault.TheVariants as weeks
+use Rattle.nav_eph.proofs.Surface.{moment_to-answer}
 use Rattle.nav_eph.specs.Satellite.{Satellite, IsSat, most}
 use Rattle.nav_eph.specs.declared.sat.System.{System}
 use Rattle.nav_eph.specs.declared.sat.System.TheVariants.{Gps, Gal}

@@ -2,10 +2,10 @@
 -- LNAV and INAV, and ION).
 use Rattle.std.specs.Prelude.{ℕ, ◌+◌, ◌-◌, ◌*◌, ◌/◌, ◌%◌, ◌==◌, ◌&&◌, ◌||◌, nat_le, nat_lt, Bool, true, false, if◌then◌else◌, List, [], ◌∷◌, length, Result, Ok, Err, ℤ, pos, int_le, unsigned_abs, get_or}
 use Rattle.scaled_decimal.specs.NumberReading.{trim_start, trim_end, Span, span, is_decimal, is_nothing}
-use Rattle.gnss_week.specs.declared.calendar.Civil.{Civil}
-use Rattle.gnss_week.specs.declared.calendar.WeekFault.{WeekFault}
-use Rattle.gnss_week.specs.declared.calendar.WeekFault.TheVariants as weeks
-use Rattle.gnss_week.specs.Functions.{moment_to}
+use Rattle.nav_eph.specs.declared.calendar.Civil.{Civil}
+use Rattle.nav_eph.specs.declared.calendar.WeekFault.{WeekFault}
+use Rattle.nav_eph.specs.declared.calendar.WeekFault.TheVariants as weeks
+use Rattle.nav_eph.specs.Functions.{moment_to}
 use Rattle.nav_eph.specs.Satellite.{Satellite, most}
 use Rattle.nav_eph.specs.declared.sat.System.{System}
 use Rattle.nav_eph.specs.declared.gps.GpsClock.{GpsClock}

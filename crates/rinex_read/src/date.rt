@@ -1,13 +1,13 @@
 //! The dates of records.
 
 ghost use Rattle.std.specs.Prelude.{◌≡◌, ◌+◌, ◌^◌, ◌<◌, ◌≤◌, length, IfOk};
-ghost use Rattle.gnss_week.specs.Functions.{moment_to};
+ghost use Rattle.nav_eph.specs.Functions.{moment_to};
 ghost use Rattle.rinex_read.specs.Lines.{columns};
 ghost use Rattle.rinex_read.specs.Judging.{date_of, moment_at, moment_said, whole_number};
 
 use crate::line::{PaddedLine, columns};
 use crate::reason::Reason;
-use gnss_week::{Civil, Moment, WeekFault, moment_of};
+use nav_eph::{Civil, Moment, WeekFault, moment_of};
 use scaled_decimal::{leading_digits, trimmed};
 
 // A decimal number, with blanks before and after it allowed.

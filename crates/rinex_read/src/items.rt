@@ -2,7 +2,7 @@
 
 ghost use Rattle.std.specs.Prelude.{◌≡◌, ◌+◌, ◌*◌, ◌^◌, ◌<◌, ◌≤◌, IfOk};
 ghost use Rattle.nav_eph.specs.Steps.{IsStep16, IsStep60};
-ghost use Rattle.gnss_week.specs.Weeks.{IsWeek};
+ghost use Rattle.nav_eph.specs.Weeks.{IsWeek};
 ghost use Rattle.rinex_read.specs.Judging.{field, galileo_ionosphere_item};
 ghost use Rattle.rinex_read.specs.Judging.{galileo_ionosphere_of, galileo_item, galileo_of};
 ghost use Rattle.rinex_read.specs.Judging.{gps_ionosphere_item, gps_ionosphere_of, gps_clock_of};
@@ -15,13 +15,8 @@ ghost use Rattle.rinex_read.specs.Mirrors.{AreGpsFields, AreGpsIonosphereFields,
 ghost use Rattle.rinex_read.specs.Mirrors.{IsSentAt, IsSignedAt, IsSisaAt, IsUnsignedAt, IsWeekAt};
 
 use crate::reason::Reason;
-use gnss_week::{Moment, Week};
+use nav_eph::{GalEph, GalHealth, GalIon, GalWord1, GalWord2, GalWord3, GalWord4, GpsClock, GpsEph, GpsIon, GpsOrbitA, GpsOrbitB, GpsSide, IonContent, IonEph, Moment, NavItem, Sat, SentSecond, Sisa, Step16, Step60, Week};
 use nav_bits::{S, U};
-use nav_eph::{
-    GalEph, GalHealth, GalIon, GalWord1, GalWord2, GalWord3, GalWord4, GpsClock, GpsEph, GpsIon,
-    GpsOrbitA, GpsOrbitB, GpsSide, IonContent, IonEph, NavItem, Sat, SentSecond, Sisa, Step16,
-    Step60,
-};
 
 // Field k as an unsigned number, and in two's complement.
 fn unsigned<const W: u32>(fields: &[i64], k: usize) -> U<W>

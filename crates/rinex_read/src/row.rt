@@ -1,7 +1,7 @@
 //! Rows: records of any kind, by their layouts.
 
 ghost use Rattle.std.specs.Prelude.{◌≡◌, ℕ, ◌<◌, ◌++◌, List, true, length, map, drop, Ok, ℤ};
-ghost use Rattle.gnss_week.specs.Weeks.{IsMoment};
+ghost use Rattle.nav_eph.specs.Weeks.{IsMoment};
 ghost use Rattle.rinex_write.specs.declared.columns.Column.{Column as TableColumn};
 ghost use Rattle.rinex_write.specs.Columns.{AreFields, are_good, joined_rows};
 ghost use Rattle.rinex_write.specs.RowTexts.{RowKind, row_record};
@@ -11,7 +11,7 @@ ghost use Rattle.rinex_read.specs.RowReads.{RowContent, flat_said, row_said};
 use crate::date::moment_in;
 use crate::fields::{Fields, read_fields};
 use crate::reason::Reason;
-use gnss_week::Moment;
+use nav_eph::Moment;
 use rinex_write::RecordLayout;
 
 /// What the lines of a row encode.

@@ -11,8 +11,7 @@ use crate::fields::{Fields, read_fields};
 use crate::line::PaddedLine;
 use crate::reason::Reason;
 use crate::title::{RecordKind, same_sat, sat_of};
-use gnss_week::Moment;
-use nav_eph::{Sat, System};
+use nav_eph::{Moment, Sat, System};
 use rinex_write::{
     RecordLayout, galileo_ionosphere_layout, galileo_layout, gps_ionosphere_layout, gps_layout,
 };

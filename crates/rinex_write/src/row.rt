@@ -11,7 +11,7 @@ ghost use Rattle.rinex_write.specs.declared.columns.Column.{Column};
 
 use crate::layouts::RecordLayout;
 use crate::record::{Record, append, append_table, date_columns, two_digits};
-use gnss_week::{Moment, civil};
+use nav_eph::{Moment, civil};
 use nav_io::{Failed, Sink};
 
 /// What is before the date of a row: its kind and its satellite.

@@ -3,9 +3,9 @@ use Rattle.std.proofs.Common.{◌≡◌, ℕ, ◌*◌, ◌<◌, ◌≤◌, ◌^�
 use Rattle.std.specs.List.{AllByRecursion}
 use Rattle.std.proofs.lemmas.Bool.{and_parts, cond_both, eqb-true, leb-true, ltb-true}
 use Rattle.std.proofs.lemmas.List.Elements.{All-from_recursion, All-weaker}
-use Rattle.gnss_week.specs.Functions.{galileo_week_to, gps_week_to}
-use Rattle.gnss_week.specs.Weeks.{IsGalileoWeek, IsGpsWeek, IsReference, IsWeek}
-use Rattle.gnss_week.proofs.Surface.{galileo_week-meant, galileo_week-only, gps_week-meant, gps_week-only}
+use Rattle.nav_eph.specs.Functions.{galileo_week_to, gps_week_to}
+use Rattle.nav_eph.specs.Weeks.{IsGalileoWeek, IsGpsWeek, IsReference, IsWeek}
+use Rattle.nav_eph.proofs.Surface.{galileo_week-meant, galileo_week-only, gps_week-meant, gps_week-only}
 use Rattle.nav_bits.specs.Bits.{number_at}
 use Rattle.nav_bits.specs.Laws.{number_at-lt}
 use Rattle.nav_bits.proofs.Surface.{signed_of-fits}

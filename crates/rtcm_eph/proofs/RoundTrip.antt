@@ -4,7 +4,7 @@ use Rattle.std.proofs.lemmas.Bool.Decides.{nat_tests}
 use Rattle.nav_bits.specs.Bits.{bit, number_at}
 use Rattle.nav_bits.specs.Fields.{StandFrom}
 use Rattle.nav_bits.specs.Laws.{number_at-lt}
-use Rattle.gnss_week.specs.Weeks.{IsGpsWeek, IsGalileoWeek}
+use Rattle.nav_eph.specs.Weeks.{IsGpsWeek, IsGalileoWeek}
 use Rattle.nav_eph.specs.Satellite.{IsSat}
 use Rattle.nav_eph.specs.Steps.{IsSisa}
 use Rattle.nav_eph.specs.declared.sat.System.{System}
@@ -23,7 +23,7 @@ use Rattle.rtcm_eph.specs.Messages.{fields_1019, fields_1046, message1019_at, me
 use Rattle.rtcm_eph.specs.Reading.{GivesItem, content_1019, content_1046, content_by, content_of, gps_eph, gal_eph, is_sisa}
 use Rattle.rtcm_eph.specs.Writing.{message_1019, message_1046}
 use Rattle.rtcm_eph.specs.RoundTrip.{AreBytes, Begins1019, Begins1046, IsGal, IsGps}
-use Rattle.gnss_week.specs.Weeks.{IsNearGalileo, IsNearGps}
+use Rattle.nav_eph.specs.Weeks.{IsNearGalileo, IsNearGps}
 use Rattle.rtcm_eph.proofs.Contents.{GivenGps, GivenGal, given_gps, given_gal, good_1019, good_1046, content_gps, content_gal}
 use Rattle.rtcm_eph.proofs.Heads.{same_bytes}
 use Rattle.rtcm_eph.proofs.Tables.{same_table}

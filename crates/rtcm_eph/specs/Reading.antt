@@ -1,8 +1,8 @@
 -- What the payload of an ephemeris message carries, or its first error.
 use Rattle.std.specs.Prelude.{◌≡◌, ℕ, ◌*◌, ◌&&◌, ◌||◌, Bool, List, [], ◌∷◌, length, nat_eq, nat_le, nat_lt, if◌then◌else◌, Result, Ok, Err}
 use Rattle.nav_bits.specs.Bits.{number_at}
-use Rattle.gnss_week.specs.Functions.{galileo_week_to, gps_week_to}
-use Rattle.gnss_week.specs.Weeks.{IsGpsWeek, IsGalileoWeek}
+use Rattle.nav_eph.specs.Functions.{galileo_week_to, gps_week_to}
+use Rattle.nav_eph.specs.Weeks.{IsGpsWeek, IsGalileoWeek}
 use Rattle.nav_eph.specs.declared.part.Part.{Part}
 use Rattle.nav_eph.specs.Conditions.{IsPart}
 use Rattle.nav_eph.specs.declared.sat.System.TheVariants.{Gps, Gal}

@@ -9,7 +9,7 @@
 //! - [`write_1019`] and [`write_1046`] give the payload of an ephemeris.
 //!
 //! ```rust
-//! use gnss_week::RefWeek;
+//! use nav_eph::RefWeek;
 //! use rtcm_eph::{MessageFault, read_item};
 //!
 //! let reference = RefWeek::new(2295).ok_or("a reference week")?;

@@ -5,13 +5,9 @@ ghost use Rattle.std.specs.Prelude.{◌≤◌};
 
 use capture_lines::{LineItem, read_line};
 use captures::{CaptureTo, run_capture};
-use gnss_week::RefWeek;
+use nav_eph::{Body, GalEph, GalHealth, GalIon, GalWord1, GalWord2, GalWord3, GalWord4, GpsClock, GpsEph, GpsIon, GpsOrbitA, GpsOrbitB, GpsSide, IonContent, IonEph, NavItem, Part, RefWeek, SentTag, System};
 use inav::{Halves, read_half, read_word};
 use lnav_subframe::read_subframe;
-use nav_eph::{
-    Body, GalEph, GalHealth, GalIon, GalWord1, GalWord2, GalWord3, GalWord4, GpsClock, GpsEph,
-    GpsIon, GpsOrbitA, GpsOrbitB, GpsSide, IonContent, IonEph, NavItem, Part, SentTag, System,
-};
 use nav_io::{MemSink, MemSource};
 use nav_laws::PlainAssembly;
 use sent_captures::{Sats, make_capture};

@@ -3,7 +3,7 @@
 ghost use Rattle.std.specs.Prelude.{◌<◌};
 
 use captures::{CaptureRun, CaptureTo, run_capture};
-use gnss_week::RefWeek;
+use nav_eph::RefWeek;
 use nav_io::{MemSink, MemSource};
 use sent_captures::{Sats, make_capture};
 use one_run::BridgeFault;

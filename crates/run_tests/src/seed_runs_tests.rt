@@ -2,7 +2,7 @@
 
 use crate::times::times_from;
 use captures::{CaptureCounts, SeedCounts, SeedTo, run_seed};
-use gnss_week::RefWeek;
+use nav_eph::RefWeek;
 use nav_io::MemSink;
 use sent_captures::Sats;
 use one_run::BridgeFault;

@@ -1,6 +1,6 @@
 //! Epochs in week 2295.
 
-use gnss_week::Moment;
+use nav_eph::Moment;
 use streams::Times;
 
 // Times from one second of the week to another.

@@ -1,7 +1,7 @@
 -- Which ephemerides are sent, in which slots, and the text of all of them.
 use Rattle.std.specs.Prelude.{ℕ, ◌+◌, ◌%◌, Bool, true, false, not, ◌&&◌, nat_eq, nat_le, if◌then◌else◌}
 use Rattle.std.specs.Prelude.{List, [], ◌∷◌, ◌++◌, codes, Option, None, Some}
-use Rattle.gnss_week.specs.Functions.{near_galileo, near_gps}
+use Rattle.nav_eph.specs.Functions.{near_galileo, near_gps}
 use Rattle.nav_eph.specs.declared.items.NavItem.{NavItem}
 use Rattle.nav_eph.specs.declared.items.NavItem.TheVariants.{Gps, Gal, Ion}
 use Rattle.capture_lines.specs.declared.item.LineItem.{LineItem}

@@ -6,7 +6,7 @@ use crate::seed_lines::push_lines;
 use crate::sats::Sats;
 use crate::senders::senders_of;
 use crate::sending::order_of_lines;
-use gnss_week::RefWeek;
+use nav_eph::RefWeek;
 use std::alloc::{AllocError, Global};
 
 // The greatest number of bytes of the lines of one GPS and one Galileo satellite: 605 lines of 88

@@ -4,8 +4,7 @@ ghost use Rattle.std.specs.Prelude.{◌≡◌, ◌↔◌, None, Some, IsOk, IfEr
 ghost use Rattle.sent_captures.specs.Sendable.{IsEphemeris, has_other_issue, is_far, is_full};
 ghost use Rattle.sent_captures.specs.Sendable.{send_fault};
 
-use gnss_week::{RefWeek, is_near_galileo, is_near_gps};
-use nav_eph::NavItem;
+use nav_eph::{NavItem, RefWeek, is_near_galileo, is_near_gps};
 use thiserror::Error;
 
 /// Why an ephemeris may not be sent: the first of these that holds, in this order.

@@ -32,7 +32,7 @@
 //! seed, so three small numbers determine a capture.
 //!
 //! ```rust
-//! use gnss_week::RefWeek;
+//! use nav_eph::RefWeek;
 //! use sent_captures::{Sats, make_capture};
 //!
 //! let week = RefWeek::new(2295).ok_or("a week")?;

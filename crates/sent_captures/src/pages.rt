@@ -5,16 +5,15 @@ ghost use Rattle.std.specs.Prelude.{◌%◌, ◌<◌, ◌≤◌, IfOk, length};
 ghost use Rattle.std.specs.Prelude.{slice_index_or};
 ghost use Rattle.nav_eph.specs.declared.sat.System.TheVariants.{Gal};
 ghost use Rattle.std.specs.List.{HoldsAt};
-ghost use Rattle.gnss_week.specs.Weeks.{IsReference};
+ghost use Rattle.nav_eph.specs.Weeks.{IsReference};
 ghost use Rattle.sent_captures.specs.declared.values.GalValues.{GalValues as GalValuesOf};
 ghost use Rattle.sent_captures.specs.Lines.{AreHalves, IsWordOf};
 ghost use Rattle.sent_captures.specs.Mirrors.{IsEmptyPage, IsPageIn};
 
 use crate::values::GalValues;
-use gnss_week::{RefWeek, Second};
+use nav_eph::{GalIon, RefWeek, Sat, Second, System};
 use inav::{split, write_half, write_word1, write_word2, write_word3, write_word4, write_word5};
 use nav_bits::{Bits, U};
-use nav_eph::{GalIon, Sat, System};
 use std::alloc::{AllocError, Global};
 
 /// The even and odd part of a page.

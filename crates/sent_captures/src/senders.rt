@@ -9,8 +9,7 @@ ghost use Rattle.sent_captures.specs.Mirrors.{AreTables};
 
 use crate::pages::{Page, empty_page, pages_of};
 use crate::values::{GalValues, GpsValues, draw_gal, draw_gal_ion, draw_gps, draw_gps_ion};
-use gnss_week::RefWeek;
-use nav_eph::GpsIon;
+use nav_eph::{GpsIon, RefWeek};
 use std::alloc::{AllocError, Global};
 
 /// The values and pages that the satellites send.

@@ -12,8 +12,7 @@ ghost use Rattle.slot_assembly.specs.contracts.order.RankOrd.TheImpl.{cmp-value 
 use crate::known::{item_before, remember};
 use crate::order::Rank;
 use crate::slot::PackedSlot;
-use gnss_week::RefWeek;
-use nav_eph::{GalHealth, NavItem, SentTag};
+use nav_eph::{GalHealth, NavItem, RefWeek, SentTag};
 use periods::{Closed, Key, Verdict, judge};
 use std::alloc::AllocError;
 use std::collections::BTreeMap;

@@ -9,7 +9,7 @@ use Rattle.std.specs.FinMap.{slice_cmp-IsAntisymmetric, nat_cmp-IsAntisymmetric}
 use Rattle.std.proofs.lemmas.Cmp.{nat_list_cmp_total}
 use Rattle.nav_bits.specs.Fields.{StandFrom}
 use Rattle.nav_bits.specs.Packed.{AreBytes}
-use Rattle.gnss_week.specs.Weeks.{IsNearGalileo, IsNearGps}
+use Rattle.nav_eph.specs.Weeks.{IsNearGalileo, IsNearGps}
 use Rattle.nav_eph.specs.Items.{same_item}
 use Rattle.nav_eph.specs.Ranges.{HasGalRanges, HasGpsRanges, IsItem}
 use Rattle.nav_eph.specs.declared.items.GpsEph.{GpsEph}

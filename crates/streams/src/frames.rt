@@ -20,8 +20,7 @@ ghost use Rattle.streams.specs.Mirrors.{with_fault, with_item, with_refusal, wit
 
 use crate::counts::StreamCounts;
 use crate::given::ItemsGiven;
-use gnss_week::RefWeek;
-use nav_eph::{NavItem, equality_is_decided};
+use nav_eph::{NavItem, RefWeek, equality_is_decided};
 use nav_io::{Failed, Sink};
 use one_run::{BridgeFault, report_text};
 use crate::{Target, with_item};

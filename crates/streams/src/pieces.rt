@@ -10,7 +10,7 @@ ghost use Rattle.streams.specs.Streams.{counts_of_readings};
 use crate::counts::StreamCounts;
 use crate::frames::{process_frames, process_piece};
 use crate::given::ItemsGiven;
-use gnss_week::RefWeek;
+use nav_eph::RefWeek;
 use nav_io::{Failed, MOST_TAKEN, Sink, Source, read_piece};
 use one_run::BridgeFault;
 use crate::Target;

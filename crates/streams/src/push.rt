@@ -15,7 +15,7 @@ use crate::counts::{StreamCounts, stream_counts_text};
 use crate::frames::{process_frames, process_piece};
 use crate::given::ItemsGiven;
 use crate::stream_target::StreamTo;
-use gnss_week::RefWeek;
+use nav_eph::RefWeek;
 use nav_io::{Failed, Sink};
 use one_run::BridgeFault;
 use crate::Target;

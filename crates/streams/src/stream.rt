@@ -7,7 +7,7 @@ ghost use Rattle.streams.specs.Streams.{stream_meaning_by};
 use crate::counts::{StreamCounts, stream_counts_text};
 use crate::given::ItemsGiven;
 use crate::pieces::process_pieces;
-use gnss_week::RefWeek;
+use nav_eph::RefWeek;
 use nav_io::{Failed, Sink, Source};
 use one_run::BridgeFault;
 use crate::Target;

@@ -6,7 +6,7 @@ ghost use Rattle.streams.specs.Streams.{stream_meaning};
 use crate::counts::StreamCounts;
 use crate::stream::convert_stream;
 use crate::stream_target::StreamTo;
-use gnss_week::RefWeek;
+use nav_eph::RefWeek;
 use nav_io::{Sink, Source};
 use one_run::BridgeFault;
 use std::alloc::Global;

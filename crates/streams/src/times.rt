@@ -3,8 +3,7 @@
 ghost use Rattle.std.specs.Prelude.{◌≡◌, Some, min, max};
 ghost use Rattle.streams.specs.Times.{times_with, with_item, with_time};
 
-use gnss_week::Moment;
-use nav_eph::NavItem;
+use nav_eph::{Moment, NavItem};
 use rinex_write::epoch_of;
 
 /// The first and the last of the epochs of ephemerides, in GPS time.

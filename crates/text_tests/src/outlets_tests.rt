@@ -1,6 +1,6 @@
 //! The texts of an ephemeris, and of a report.
 
-use gnss_week::RefWeek;
+use nav_eph::RefWeek;
 use nav_io::MemSink;
 use raw_values::MESSAGE_1019_OF_G05;
 use one_run::{Text, append_count, report_text};

@@ -1,7 +1,7 @@
 use Rattle.std.proofs.Common.{◌≡◌, ◌/◌, ◌<◌, ◌≤◌, sym, ap, ◌∙◌, refl, arith}
 use Rattle.std.proofs.lemmas.Bool.{le-leb, lt-ltb}
-use Rattle.gnss_week.specs.Functions.{moment_near}
-use Rattle.gnss_week.proofs.Surface.{moment_near-only}
+use Rattle.nav_eph.specs.Functions.{moment_near}
+use Rattle.nav_eph.proofs.Surface.{moment_near-only}
 use Rattle.nav_tables.specs.Times.{frame_in}
 use Rattle.nav_rows.specs.Encoding.{frame_said}
 use Rattle.nav_rows.proofs.encode.frame_said.Goals as goal

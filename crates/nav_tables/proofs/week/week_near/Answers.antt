@@ -1,5 +1,5 @@
 use Rattle.std.proofs.Common.{◌+◌, ap₂, sym, subst, ◌∙◌}
-use Rattle.gnss_week.specs.Functions.{first_from}
+use Rattle.nav_eph.specs.Functions.{first_from}
 use Rattle.nav_tables.specs.Weeks.{IsWeekNear, week_to}
 use Rattle.nav_tables.proofs.WeekLemmas.{near_is}
 use Rattle.nav_tables.proofs.week.week_near.Goals as goal
