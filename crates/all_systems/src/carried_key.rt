@@ -15,16 +15,16 @@ ghost use Rattle.all_systems.specs.Merging.{record_part};
 ghost use Rattle.all_systems.specs.Selecting.{digit};
 
 use crate::select::digit;
-use rinex_lines::record_text;
 use nav_eph::Moment;
 use nav_io::{Failed, Sink};
-use streams::Target;
 use nav_lists::Ranked;
+use rinex_lines::record_text;
 use rinex_read::{columns, read_row_lines};
 use rinex_write::{Column, RecordLayout};
 use std::alloc::{AllocError, Global};
 use std::cmp::Ordering;
 use std::marker::Model;
+use streams::Target;
 
 // A line with a date and nothing else that is read.
 static NO_COLUMNS: [Column; 0] = [];

@@ -11,6 +11,7 @@ ghost use Rattle.all_systems.specs.FileReadings.{is_own, lines_reading, nav_judg
 ghost use Rattle.all_systems.specs.FileReadings.{reading_in, row_in};
 ghost use Rattle.all_systems.specs.FileReadings.{other_reading, row_reading, sat_title};
 
+use crate::Kinds;
 use crate::select::kind_in;
 use crate::version::Version;
 use arrayvec::ArrayVec;
@@ -18,7 +19,6 @@ use nav_eph::NavItem;
 use nav_rows::{Kind, Row, read_record};
 use rinex_read::{Judged, Reason, RecordLines, columns, judge3};
 use std::marker::Model;
-use crate::Kinds;
 
 /// What a record gives.
 #[derive(Drop)]

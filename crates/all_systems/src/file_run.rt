@@ -10,18 +10,18 @@ ghost use Rattle.all_systems.specs.Files.{is_unwritten, reported_by, text_by, to
 ghost use Rattle.all_systems.specs.FileMirrors.{AreCounted, HasFields, view_given};
 ghost use Rattle.all_systems.specs.FileReadings.{reading_report};
 
+use crate::Kinds;
 use crate::counts::{SystemCounts, count_read, counts_text};
-use crate::form::SystemForm;
-use crate::held::Held;
 use crate::file_read::{Given, RecordRead};
 use crate::file_text::{has_carried, hold_given, write_behind, write_nav, write_row};
+use crate::form::SystemForm;
+use crate::held::Held;
 use crate::version::Version;
 use nav_files::{Taker, reason_word, run_file};
 use nav_io::{Failed, Sink, Source};
 use one_run::{BridgeFault, Text, report_text};
-use streams::Target;
 use std::alloc::Global;
-use crate::Kinds;
+use streams::Target;
 
 // Writes the item of a record, unless it is held back, or reports why the record is rejected;
 // whether an item or carried lines have a text.

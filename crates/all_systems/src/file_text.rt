@@ -12,15 +12,15 @@ ghost use Rattle.all_systems.specs.Files.{carried_text, first_text, has_carried,
 ghost use Rattle.all_systems.specs.Files.{is_ephemeris, is_late, is_rinex4, last_text};
 ghost use Rattle.all_systems.specs.FileMirrors.{HasFields, view_given};
 
-use crate::held::Held;
 use crate::file_read::Given;
-use rinex_lines::record_text;
+use crate::held::Held;
+use crate::{put_message, put_row};
 use nav_eph::NavItem;
 use nav_io::{Failed, Sink};
 use nav_rows::{Kind, Row};
 use one_run::BridgeFault;
+use rinex_lines::record_text;
 use streams::Target;
-use crate::{put_message, put_row};
 
 // Whether an item is an ephemeris.
 pub(crate) fn is_ephemeris(item: &NavItem) -> bool

@@ -1,9 +1,9 @@
 //! The format of navigation files of all systems.
 
+use crate::Kinds;
 use crate::file_read::RecordRead;
 use crate::version::Version;
 use rinex_read::{FileForm, RecordLines, Rinex3, Rinex4};
-use crate::Kinds;
 
 // The files of a version, of all systems.
 #[derive(Drop)]

@@ -1,3 +1,5 @@
+//! Streams and navigation files of all systems: converted, and files merged.
+//!
 //! Streams of RTCM frames of all systems (RTCM 10403.3, messages 1019, 1020, 1041, 1042, 1044, 1045
 //! and 1046).
 //!

@@ -26,26 +26,26 @@ ghost use Rattle.all_systems.specs.NavOrder.{by_numbers, by_sent};
 ghost use Rattle.all_systems.specs.FileMirrors.{AreCounted, HasFields, view_given};
 ghost use Rattle.all_systems.specs.FileReadings.{reading_report};
 
+use crate::Kinds;
 use crate::carried_key::CarriedKey;
 use crate::counts::{SystemCounts, count_read};
+use crate::file_read::{Given, RecordRead};
+use crate::file_text::is_ephemeris;
 use crate::form::SystemForm;
 use crate::merge_counts::{SystemMergeCounts, merge_counts_text};
 use crate::nav_key::NavKey;
 use crate::next::write_merged;
-use crate::file_read::{Given, RecordRead};
 use crate::row_key::RowKey;
-use crate::file_text::is_ephemeris;
 use crate::version::Version;
 use nav_eph::NavItem;
 use nav_files::{Taker, reason_word, run_file};
 use nav_io::{Failed, Sink, Source};
+use nav_lists::{RankedList, ranking};
 use nav_rows::{Kind, Row};
 use one_run::{BridgeFault, Text, report_text};
-use streams::Target;
-use nav_lists::{RankedList, ranking};
 use rinex_write::HeaderWords;
 use std::alloc::{AllocError, Global};
-use crate::Kinds;
+use streams::Target;
 
 // The state of a merge: the merged lists so far, and the counts of the records.
 #[derive(Drop)]

@@ -8,8 +8,11 @@ ghost use Rattle.all_systems.specs.NavOrder.{galileo_numbers, gps_numbers, ion_n
 ghost use Rattle.all_systems.specs.NavOrder.{nav_front, nav_numbers, or_none, sent_place};
 
 use arrayvec::ArrayVec;
-use nav_eph::{GalEph, GalIon, GpsEph, GpsIon, IonContent, IonEph, NavItem, Sat, SentSecond, Sisa, Step16, Step60, System, Week};
 use nav_bits::U;
+use nav_eph::{
+    GalEph, GalIon, GpsEph, GpsIon, IonContent, IonEph, NavItem, Sat, SentSecond, Sisa, Step16,
+    Step60, System, Week,
+};
 use rinex_write::epoch_of;
 
 // The epoch of its record; 0 for an ionosphere.

@@ -10,8 +10,8 @@ use crate::carried_key::CarriedKey;
 use crate::nav_key::NavKey;
 use crate::row_key::RowKey;
 use nav_io::{Failed, Sink};
-use streams::Target;
 use nav_lists::RankedList;
+use streams::Target;
 
 // What comes next.
 #[derive(Clone, Copy)]

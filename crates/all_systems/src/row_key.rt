@@ -18,15 +18,15 @@ ghost use Rattle.all_systems.specs.KeptRows.{IsKept, kept_row};
 ghost use Rattle.all_systems.specs.Merging.{is_before};
 
 use crate::nav_key::NavKey;
+use crate::put_row;
 use arrayvec::ArrayVec;
 use nav_io::{Failed, Sink};
-use nav_rows::{Kind, Row, compare_rows, rank_of};
-use streams::Target;
 use nav_lists::Ranked;
+use nav_rows::{Kind, Row, compare_rows, rank_of};
 use std::alloc::{AllocError, Global};
 use std::cmp::Ordering;
 use std::marker::Model;
-use crate::put_row;
+use streams::Target;
 
 // A row with its kind.
 #[derive(Drop)]

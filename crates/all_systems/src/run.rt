@@ -22,16 +22,18 @@ use crate::kinds::Kinds;
 use crate::read::{message_in, row_reason, satellite_in};
 use crate::state::{State, add_rank};
 use crate::text::{put_item, put_row};
+use framing::Frame;
 use nav_eph::{NavItem, RefWeek, equality_is_decided};
 use nav_io::{Failed, Sink, Source};
 use nav_rows::{Kind, Row, rank_of, row_of_message};
 use one_run::{BridgeFault, Text, append, append_decimal, report_prefix};
-use streams::{FrameTaker, StreamCounts, Target, run_taker, stream_counts_text, with_item, with_time};
 use rtcm_eph::{
     MessageFault, item_function, message_bytes, read_item, sent_1019_is_read, sent_1046_is_read,
 };
-use framing::Frame;
 use std::alloc::Global;
+use streams::{
+    FrameTaker, StreamCounts, Target, run_taker, stream_counts_text, with_item, with_time,
+};
 
 // What is done with the frames of a stream.
 #[derive(Drop)]

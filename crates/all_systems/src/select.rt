@@ -6,11 +6,11 @@ ghost use Rattle.all_systems.specs.Selecting.{digit, galileo_kind, is_fnav, is_f
 ghost use Rattle.all_systems.specs.Selecting.{kind_in, letter_kind, lettered_kind, sat_number};
 ghost use Rattle.all_systems.specs.Selecting.{says_fnav, single_kind, titled_kind};
 
+use crate::Kinds;
 use crate::version::Version;
 use nav_rows::{Kind, is_titled};
 use rinex_read::columns;
 use scaled_decimal::{DecimalFault, Scale, is_decimal, read};
-use crate::Kinds;
 
 // The scale of integers.
 const WHOLE: Scale = Scale {

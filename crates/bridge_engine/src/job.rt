@@ -11,8 +11,8 @@ use crate::{Found, options_of};
 use captures::{CaptureTo, SeedTo};
 use nav_eph::RefWeek;
 use nav_files::RinexTo;
-use sent_captures::Sats;
 use rinex_write::HeaderWords;
+use sent_captures::Sats;
 use std::alloc::{AllocError, Global};
 use streams::StreamTo;
 

@@ -50,7 +50,6 @@ pub use nav_files::{
     MergeCounts, RinexCounts, RinexTo, run_cover, run_merge, run_rinex, run_rinex3, send_rinex,
     send_rinex3,
 };
-pub use sent_captures::Sats;
 pub use one_run::{BridgeFault, Status};
-pub use streams::Times;
-pub use streams::{FrameCounts, StreamCounts, StreamTo, run_frames, run_stream};
+pub use sent_captures::Sats;
+pub use streams::{FrameCounts, StreamCounts, StreamTo, Times, run_frames, run_stream};

@@ -7,7 +7,7 @@ use base.Fml.{Fml, ftrue, fsep, fex}
 use Rattle.c_calls.specs.Pushes.{PushState}
 use Rattle.c_calls.specs.PagePairs.{PagesState}
 use Rattle.c_calls.specs.contracts.push.Conversion.{the_row}
-use Rattle.c_calls.specs.contracts.pages.PagePairs.{the_row as pages_row}
+use Rattle.c_calls.specs.contracts.state_pages.PagePairs.{the_row as pages_row}
 
 -- a conversion in this state lies there, and nobody else has it
 abbrev pub HoldsPush : Ptr → PushState → Fml

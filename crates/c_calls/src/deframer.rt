@@ -3,8 +3,8 @@
 ghost use Rattle.std.specs.Prelude.{◌≡◌, take};
 ghost use Rattle.c_calls.specs.Deframers.{Feeds, Gives, ended, fed, fresh, left};
 
-use raw_values::put;
 use framing::Deframer;
+use raw_values::put;
 
 /// A deframer that has been fed no byte.
 pub fn new() -> Deframer

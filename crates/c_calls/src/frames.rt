@@ -6,8 +6,8 @@ ghost use Rattle.raw_values.specs.Rooms.{IsLeft, StandsIn};
 ghost use Rattle.c_calls.specs.Messages.{IsFrame};
 
 use arrayvec::ArrayVec;
-use raw_values::put;
 use framing::{frame_of, write_frame};
+use raw_values::put;
 
 /// Whether these bytes are one complete frame with a right checksum, and nothing else.
 pub fn is_frame(bytes: &[u8]) -> bool

@@ -13,11 +13,11 @@ ghost use Rattle.c_calls.specs.Joins.{gal_undated, gps_dated, gps_joined, gps_ta
 
 use crate::page_raw::WordsRaw;
 use crate::subframe_raw::SubframesRaw;
+use nav_bits::U;
+use nav_eph::{GalEph, GpsEph, NavItem, RefWeek, Second, SentTag, System};
+use periods::{Digest, Finding, GalDigest, GpsDigest, Key, Seen};
 use raw_values::reasons::{NO_ITEM, NO_SATELLITE, NO_WEEK};
 use raw_values::{GalRaw, GpsRaw, ItemRaw, SentRaw, gal_of, gps_of, put_item, sat_of};
-use nav_eph::{GalEph, GpsEph, NavItem, RefWeek, Second, SentTag, System};
-use nav_bits::U;
-use periods::{Digest, Finding, GalDigest, GpsDigest, Key, Seen};
 
 // A transmission time that is not known.
 const UNKNOWN: SentRaw = SentRaw {

@@ -1,3 +1,5 @@
+//! Messages, records and pushed conversions over bytes and buffers that C hands in.
+//!
 //! Messages as they are sent and as they are filed, over bytes and buffers that C hands in, from
 //! and to structs of raw integers that C can lay out:
 //!

@@ -8,12 +8,12 @@ ghost use Rattle.c_calls.specs.RecordReads.{reason_status};
 ghost use Rattle.c_calls.specs.Rows.{PutsFrame, WritesFrame, encode_status, frame_status};
 
 use crate::kinds::kind_for;
+use crate::make_frame;
 use crate::row_raw::RowRaw;
 use crate::write::row_in;
-use crate::make_frame;
-use raw_values::reasons::NO_ITEM;
-use nav_tables::TimeFault;
 use nav_rows::{EncodeFault, Kind, Row, message_of_row};
+use nav_tables::TimeFault;
+use raw_values::reasons::NO_ITEM;
 use rinex_read::Reason;
 
 // The number of the reason why an epoch is none of its kind.

@@ -10,11 +10,11 @@ ghost use Rattle.c_calls.specs.Messages.{IsFrame, PutsMessage, WritesFrame, Writ
 ghost use Rattle.c_calls.specs.Messages.{message_status};
 
 use crate::frames::make_frame;
+use framing::frame_of;
+use nav_eph::{NavItem, RefWeek};
 use raw_values::reasons::{NO_FRAME, NO_ITEM, NO_MESSAGE, NO_WEEK};
 use raw_values::{ItemRaw, item_of, put_item};
-use nav_eph::{NavItem, RefWeek};
 use rtcm_eph::{MessageFault, read_item, write_1019, write_1046};
-use framing::frame_of;
 
 // The number of a fault.
 fn status_of(fault: &MessageFault) -> u32

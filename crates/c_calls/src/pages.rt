@@ -14,11 +14,11 @@ ghost use Rattle.c_calls.specs.Pages.{word_read, word_status};
 use crate::page_raw::{PageBits, WordRaw};
 use crate::tags::{second_of, wn_of};
 use crate::word_out::{bits_of, content_of};
-use raw_values::reasons::{ALERT, NO_ITEM, NO_SATELLITE};
-use raw_values::{raw_gal_ion, raw_health, raw_word1, raw_word2, raw_word3, raw_word4, sat_of};
 use inav::{Half, HalfKind, WordFault, WordParts, join, read_half, read_word, split, write_half};
 use nav_bits::Bits;
 use nav_eph::{Body, Sat, System};
+use raw_values::reasons::{ALERT, NO_ITEM, NO_SATELLITE};
+use raw_values::{raw_gal_ion, raw_health, raw_word1, raw_word2, raw_word3, raw_word4, sat_of};
 
 // The parts are not an even one and an odd one.
 const NO_PAIR: u32 = 66;

@@ -9,11 +9,11 @@ ghost use Rattle.c_calls.specs.Rows.{IsRowOf, ReadsRow, row_status};
 
 use crate::kinds::kind_for;
 use crate::row_raw::RowRaw;
-use raw_values::reasons::NO_WEEK;
-use nav_eph::RefWeek;
 use nav_bits::number_in_bytes;
+use nav_eph::RefWeek;
 use nav_rows::{Kind, Row, RowFault, row_of_message};
 use nav_tables::TableFault;
+use raw_values::reasons::NO_WEEK;
 
 // The payload has no message number.
 const NO_NUMBER: u32 = 16;

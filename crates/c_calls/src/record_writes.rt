@@ -12,9 +12,9 @@ ghost use Rattle.c_calls.specs.RecordWrites.{IsHeader, IsSaidBy, PutsRecord, hea
 ghost use Rattle.c_calls.specs.RecordWrites.{is_shown, record_text, version_columns};
 
 use crate::fixed::Fixed;
+use nav_eph::NavItem;
 use raw_values::reasons::{NO_HEADER, NO_ITEM, NO_VERSION};
 use raw_values::{ItemRaw, item_of, put};
-use nav_eph::NavItem;
 use rinex_write::{HeaderWords, write_header_of, write_item, write_item3};
 
 /// What the header of a file says.

@@ -5,11 +5,11 @@ ghost use Rattle.c_calls.specs.Pages.{page_bits};
 ghost use Rattle.c_calls.specs.PagePairs.{GivesPage, IsEmpty, TakesBits, signal_in};
 
 use crate::PageBits;
-use raw_values::reasons::{ALERT, NO_MEMORY, NO_SATELLITE};
-use raw_values::sat_of;
 use inav::{Halves, Joined, read_half, split, write_half};
 use nav_bits::Bits;
 use nav_eph::{Signal, System};
+use raw_values::reasons::{ALERT, NO_MEMORY, NO_SATELLITE};
+use raw_values::sat_of;
 use std::alloc::{AllocError, Global};
 use std::marker::Model;
 

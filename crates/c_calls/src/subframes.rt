@@ -10,14 +10,14 @@ ghost use Rattle.c_calls.specs.Subframes.{raw_subframe, subframe_status};
 
 use crate::subframe_raw::{SubframeBits, SubframeRaw};
 use crate::tags::{second_of, wn_of};
+use lnav_subframe::{LnavFault, SubframeOut, read_subframe as part_of, write_subframe as bits_of};
+use nav_bits::{Bits, U};
+use nav_eph::{Body, System};
 use raw_values::reasons::{NO_ITEM, NO_SATELLITE};
 use raw_values::{
     clock_of, gps_ion_of, orbit_a_of, orbit_b_of, raw_clock, raw_gps_ion, raw_orbit_a, raw_orbit_b,
     raw_side, sat_of, side_of,
 };
-use lnav_subframe::{LnavFault, SubframeOut, read_subframe as part_of, write_subframe as bits_of};
-use nav_bits::{Bits, U};
-use nav_eph::{Body, System};
 
 // The TOW count is past the end of the week.
 const NO_TOW_COUNT: u32 = 63;

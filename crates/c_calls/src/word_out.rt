@@ -5,10 +5,10 @@ ghost use Rattle.nav_eph.specs.declared.sat.System.TheVariants.{Gal};
 ghost use Rattle.c_calls.specs.Pages.{IsContent, content_in, word_bytes};
 
 use crate::page_raw::WordRaw;
-use raw_values::{gal_ion_of, health_of, word1_of, word2_of, word3_of, word4_of};
-use nav_eph::{GalHealth, GalIon, GalWord1, GalWord2, GalWord3, GalWord4, Sat, Second};
 use inav::{write_word1, write_word2, write_word3, write_word4, write_word5};
 use nav_bits::{Bits, U};
+use nav_eph::{GalHealth, GalIon, GalWord1, GalWord2, GalWord3, GalWord4, Sat, Second};
+use raw_values::{gal_ion_of, health_of, word1_of, word2_of, word3_of, word4_of};
 
 /// The content of an I/NAV word of types 1 to 5.
 #[derive(Clone, Copy)]

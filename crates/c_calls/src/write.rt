@@ -6,14 +6,14 @@ ghost use Rattle.nav_rows.specs.Kinds.{IsKind};
 ghost use Rattle.nav_rows.specs.Rows.{record_text};
 ghost use Rattle.c_calls.specs.Rows.{IsRowIn, WritesRow};
 
+use crate::Fixed;
 use crate::kinds::kind_for;
 use crate::row_raw::RowRaw;
 use arrayvec::ArrayVec;
-use crate::Fixed;
-use raw_values::put;
-use raw_values::reasons::NO_ITEM;
 use nav_eph::Moment;
 use nav_rows::{Kind, Row, write_record};
+use raw_values::put;
+use raw_values::reasons::NO_ITEM;
 use rinex_write::{Column, NOT_KNOWN, Rule};
 
 // Whether a number is a field by a rule.

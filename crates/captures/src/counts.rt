@@ -7,8 +7,8 @@ ghost use Rattle.captures.specs.Converts.{no_tally};
 ghost use Rattle.captures.specs.Flushed.{said, said_of, total_said, with_counts};
 
 use one_run::{Text, append_count};
-use streams::{Times, with_item};
 use periods::Verdict;
+use streams::{Times, with_item};
 
 /// What a run over a capture counts.
 #[derive(Clone, Copy, PartialEq, Eq)]

@@ -18,6 +18,7 @@ ghost use Rattle.captures.specs.Reports.{refusal_text};
 use crate::counts::Tally;
 use crate::report::refused_text;
 use capture_log::{Event, Refusal, message_event, subframe_event, word_event};
+use framing::frame_of;
 use inav::{Joined, WordParts, read_word};
 use lnav_subframe::{read_subframe, subframe_function};
 use nav_bits::Bits;
@@ -25,7 +26,6 @@ use nav_eph::Sat;
 use nav_io::{Failed, Sink};
 use one_run::{BridgeFault, report_text};
 use rtcm_eph::{MessageParts, message_parts, read_message};
-use framing::frame_of;
 use slot_assembly::{Assembly, SlotAssembly};
 
 // Writes a line of the report.

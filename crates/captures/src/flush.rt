@@ -12,9 +12,9 @@ ghost use Rattle.captures.specs.Flushed.{HasRoom, IsWriting, Flushed};
 use crate::counts::Said;
 use nav_io::{Failed, Sink};
 use one_run::BridgeFault;
-use streams::Target;
 use periods::Closed;
 use slot_assembly::SlotAssembly;
+use streams::Target;
 
 // Writes what is closed at the watermark, if it rose: at an unchanged watermark the parts added
 // since close nothing more.

@@ -15,14 +15,14 @@ use crate::ear::Ear;
 use crate::flush::{write_closed, write_risen};
 use capture_lines::LineItem;
 use capture_log::{Event, parts_of_lines_are_values, what_is_closed_stays};
-use nav_eph::{RefWeek, Sat, Signal};
 use inav::{HalfFault, Halves, halves_are_decided, read_half, words_are_the_function};
 use nav_bits::Bits;
+use nav_eph::{RefWeek, Sat, Signal};
 use nav_io::Sink;
 use one_run::BridgeFault;
-use streams::Target;
 use slot_assembly::SlotAssembly;
 use std::alloc::Global;
+use streams::Target;
 
 // The state between two lines: the window in seconds, the greatest stamp of the lines so far, the
 // page parts that may still get a partner, where events go, and the counts of verdicts.

@@ -16,9 +16,9 @@ use capture_log::{parts_of_lines_are_values, what_is_closed_stays};
 use nav_eph::RefWeek;
 use nav_io::{Failed, Lines, Sink, Source};
 use one_run::BridgeFault;
-use streams::Target;
 use std::alloc::Global;
 use std::marker::Model;
+use streams::Target;
 
 // A piece of an input of which more may come: a read behind its end fails.
 #[derive(Drop)]

@@ -9,8 +9,8 @@ use crate::laws::generated_captures_are_accepted;
 use crate::seed_target::{SeedCounts, SeedTo};
 use nav_eph::RefWeek;
 use nav_io::Sink;
-use sent_captures::{Sats, captures_are_short, make_capture};
 use one_run::BridgeFault;
+use sent_captures::{Sats, captures_are_short, make_capture};
 use std::alloc::Global;
 
 /// Makes the capture of a seed, for `sats` satellites of each system in this week, and writes it,

@@ -3,8 +3,8 @@
 ghost use Rattle.std.specs.Prelude.{◌≡◌};
 ghost use Rattle.file_conversion.specs.Counted.{times_in};
 
-use streams::{StreamCounts, Times};
 use all_systems::{SystemCounts, SystemMergeCounts};
+use streams::{StreamCounts, Times};
 
 /// What a conversion that is done has counted.
 #[derive(Clone, Copy)]

@@ -5,8 +5,8 @@ ghost use Rattle.std.specs.Option.{option_map};
 ghost use Rattle.receiver_log.specs.Capture.{too_many};
 ghost use Rattle.file_conversion.specs.Logs.{read_as};
 
-use nav_io::{Failed, Source};
 use framing::{SbfJudge, UbxJudge};
+use nav_io::{Failed, Source};
 use receiver_log::{LogCounts, LogParts, LogSource, Receiver, Refused};
 use rinex_lines::{Rinex2Parts, Rinex2Source};
 use whole_file::{Counted, Kind, Peeked, Progress};

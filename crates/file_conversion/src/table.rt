@@ -7,10 +7,10 @@ ghost use Rattle.file_conversion.specs.Table.{systems_to, task_for, week_of};
 ghost use Rattle.file_conversion.specs.Tasks.{reads_input};
 
 use crate::targets::Target;
+use all_systems::{Kinds, Version};
 use bridge_engine::{CaptureJob, CaptureTo, Job};
 use nav_eph::RefWeek;
 use rinex_write::HeaderWords;
-use all_systems::{Kinds, Version};
 use whole_file::Kind;
 
 /// What is asked of each file.

@@ -1,3 +1,6 @@
+//! Frames in streams of bytes: those of RTCM 10403.3, and the messages of receivers' logs (u-blox UBX,
+//! Septentrio SBF).
+//!
 //! Frames of RTCM 10403.3 (the transport layer, section 4): writing one, reading one, and finding
 //! them in a stream of bytes.
 //!

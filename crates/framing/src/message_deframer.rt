@@ -8,8 +8,8 @@ ghost use Rattle.framing.specs.Headings.{format_of};
 ghost use Rattle.framing.specs.MessageState.{IsWaiting};
 ghost use Rattle.framing.specs.MessageMirrors.{Promises};
 
-use crate::message_form::{waits, wanted_of};
 use crate::judge::Judge;
+use crate::message_form::{waits, wanted_of};
 use crate::search::find;
 use arrayvec::ArrayVec;
 use std::marker::Model;

@@ -10,7 +10,7 @@ ghost use Rattle.framing.specs.SbfStateLaws.{states_stay};
 use crate::sbf_states::{
     Powers, begin_states, cut_states, extend, has_right_crc, has_right_crc_by,
 };
-use crate::{MessageDeframer, Judge};
+use crate::{Judge, MessageDeframer};
 use arrayvec::ArrayVec;
 
 /// Finds SBF blocks in bytes that come in pieces.

@@ -4,8 +4,8 @@ ghost use Rattle.std.specs.Prelude.{◌≡◌, ◌+◌, ◌≤◌, length, drop}
 ghost use Rattle.framing.specs.Headings.{format_of, size_by};
 ghost use Rattle.framing.specs.MessageMirrors.{from_first};
 
-use crate::message_form::{is_held, next_start, size_at};
 use crate::judge::Judge;
+use crate::message_form::{is_held, next_start, size_at};
 
 // The first offset from `start` on where a message begins or, where more bytes may come, an
 // incomplete one does; and the size of the message, 0 where none begins.

@@ -8,7 +8,7 @@ ghost use Rattle.framing.specs.UbxSums.{AreSums};
 ghost use Rattle.framing.specs.UbxSumLaws.{sums_stay};
 
 use crate::ubx_sums::{begin_sums, cut_sums, extend, has_right_sums, has_right_sums_by};
-use crate::{MessageDeframer, Judge};
+use crate::{Judge, MessageDeframer};
 use arrayvec::ArrayVec;
 
 /// Finds UBX messages in bytes that come in pieces.

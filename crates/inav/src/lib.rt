@@ -1,3 +1,5 @@
+//! Pages and words of the Galileo I/NAV message (Galileo OS SIS ICD, 4.3).
+//!
 //! Pages of the Galileo I/NAV message, as even and odd page parts (Galileo OS SIS ICD, 4.3.2).
 //!
 //! A nominal page is sent in two parts of 120 bits, the even part and one second later the odd
@@ -75,11 +77,6 @@ pub use crate::laws::{
 pub use crate::page::{join, split};
 pub use crate::parts::WordParts;
 pub use crate::read::read_word;
-pub use crate::word1::Word1;
-pub use crate::word2::Word2;
-pub use crate::word3::Word3;
-pub use crate::word4::Word4;
-pub use crate::word5::Word5;
 pub use crate::word::Word;
 pub use crate::word_fault::WordFault;
 pub use crate::word_laws::{
@@ -88,4 +85,9 @@ pub use crate::word_laws::{
     words_are_the_functions, written_word1_is_read, written_word2_is_read, written_word3_is_read,
     written_word4_is_read, written_word5_is_read,
 };
+pub use crate::word1::Word1;
+pub use crate::word2::Word2;
+pub use crate::word3::Word3;
+pub use crate::word4::Word4;
+pub use crate::word5::Word5;
 pub use crate::write::{write_word1, write_word2, write_word3, write_word4, write_word5};

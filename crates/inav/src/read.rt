@@ -5,16 +5,19 @@ ghost use Rattle.inav.specs.Faults.{IsFirstFault};
 ghost use Rattle.inav.specs.Reading.{ArePartsOf, health_of, ion_of};
 ghost use Rattle.inav.specs.Reading.{one_part, reading, reading_of, word_in};
 
-use crate::word_fault::WordFault;
 use crate::parts::WordParts;
 use crate::word::{Word, by_type};
+use crate::word_fault::WordFault;
 use crate::word1::Word1;
 use crate::word2::Word2;
 use crate::word3::Word3;
 use crate::word4::Word4;
 use crate::word5::Word5;
-use nav_eph::{Body, GalHealth, GalIon, GalWord1, GalWord2, GalWord3, GalWord4, Part, Sat, Second, SentTag, Sisa, Step60};
 use nav_bits::Bits;
+use nav_eph::{
+    Body, GalHealth, GalIon, GalWord1, GalWord2, GalWord3, GalWord4, Part, Sat, Second, SentTag,
+    Sisa, Step60,
+};
 
 // The parts of a word that has only one.
 fn one(body: Body, sat: Sat, stamp: u32) -> WordParts

@@ -21,8 +21,8 @@ use crate::word2::Word2;
 use crate::word3::Word3;
 use crate::word4::Word4;
 use crate::word5::Word5;
-use nav_eph::{GalHealth, GalIon, GalWord1, GalWord2, GalWord3, GalWord4, Sat, Second};
 use nav_bits::{BitForm, Bits, U};
+use nav_eph::{GalHealth, GalIon, GalWord1, GalWord2, GalWord3, GalWord4, Sat, Second};
 
 /// The 128 bits of I/NAV word type 1 (Galileo OS SIS ICD, 4.3.5). The reserved bits are 0.
 pub fn write_word1(w: &GalWord1) -> Bits<16>

@@ -8,8 +8,8 @@ use crate::fault::LnavFault;
 use crate::head::Head;
 use crate::orbit::{Subframe2, Subframe3};
 use crate::page18::Page18;
-use nav_eph::{Body, GpsClock, GpsIon, GpsOrbitA, GpsOrbitB, GpsSide, Second, SentTag, Step16};
 use nav_bits::{BitForm, Bits, U};
+use nav_eph::{Body, GpsClock, GpsIon, GpsOrbitA, GpsOrbitB, GpsSide, Second, SentTag, Step16};
 
 // The subframes of a week, one every 6 s.
 const SUBFRAMES_OF_WEEK: u64 = 100_800;

@@ -1,3 +1,5 @@
+//! Bit fields of navigation messages, and their checksum CRC-24Q.
+//!
 //! Bit fields of navigation messages: integers of fixed width, and their encoding in bytes.
 //!
 //! Broadcast navigation messages and correction messages are runs of bits, sent with the most

@@ -1,3 +1,6 @@
+//! Broadcast ephemerides and ionosphere parameters of GPS and Galileo as integers, with their weeks and
+//! times.
+//!
 //! Week numbers, GPS times and calendar dates.
 //!
 //! GPS and Galileo count time in weeks and seconds of the week, without leap seconds, from midnight

@@ -16,8 +16,8 @@ use crate::records::{count_read, reason_word};
 use crate::taker::Taker;
 use nav_io::{Failed, Sink};
 use one_run::{BridgeFault, Text, report_text};
-use streams::Target;
 use rinex_read::ItemRead;
+use streams::Target;
 
 // Writes the item of a record, or reports why the record is refused.
 fn tell_read<T: Sink, U: Sink>(

@@ -20,9 +20,9 @@ use nav_eph::NavItem;
 use nav_io::{Failed, Sink};
 use nav_lists::{Cover, CoverRange, covering};
 use one_run::{BridgeFault, Text, append, append_decimal};
-use streams::append_satellite;
 use rinex_read::ItemRead;
 use std::alloc::AllocError;
+use streams::append_satellite;
 
 // The state over files: the times that their items cover, and the counts of their records.
 #[derive(Drop)]

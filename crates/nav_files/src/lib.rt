@@ -1,3 +1,5 @@
+//! Runs over RINEX navigation files: converted, transmitted, merged, compared, and the times covered.
+//!
 //! The runs over RINEX navigation files: converted, transmitted, merged, and the times that they
 //! cover.
 //!

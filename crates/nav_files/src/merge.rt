@@ -24,10 +24,10 @@ use nav_eph::NavItem;
 use nav_io::{Failed, Sink};
 use nav_lists::{Merge, merging};
 use one_run::{BridgeFault, Text, append_count};
-use streams::{Times, with_items};
 use rinex_read::ItemRead;
 use rinex_write::{HeaderWords, write_header, write_item};
 use std::alloc::AllocError;
+use streams::{Times, with_items};
 
 // The state of a merge: the merged list of the items so far, and the counts of the records.
 #[derive(Drop)]

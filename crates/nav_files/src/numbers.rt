@@ -15,8 +15,12 @@ ghost use Rattle.nav_lists.specs.Merging.{class_of, class_of_content, moment_of}
 ghost use Rattle.nav_files.specs.Numbers.{key_of, numbers_of};
 
 use arrayvec::ArrayVec;
-use nav_eph::{GalEph, GalHealth, GalIon, GalWord1, GalWord2, GalWord3, GalWord4, GpsClock, GpsEph, GpsIon, GpsOrbitA, GpsOrbitB, GpsSide, IonContent, IonEph, Moment, NavItem, Sat, SentSecond, System, Week};
 use nav_bits::U;
+use nav_eph::{
+    GalEph, GalHealth, GalIon, GalWord1, GalWord2, GalWord3, GalWord4, GpsClock, GpsEph, GpsIon,
+    GpsOrbitA, GpsOrbitB, GpsSide, IonContent, IonEph, Moment, NavItem, Sat, SentSecond, System,
+    Week,
+};
 
 /// The numbers of an item.
 pub(crate) type Numbers = ArrayVec<i64, 40>;

@@ -11,8 +11,8 @@ ghost use Rattle.nav_files.specs.Mirrors.{AreCounted, BreaksRead, counted};
 use crate::counts::RinexCounts;
 use nav_io::{LineFault, Source};
 use one_run::BridgeFault;
-use streams::with_item;
 use rinex_read::{FileForm, ItemRead, Reason, RecordReader};
+use streams::with_item;
 
 /// The error of a run whose reading of lines failed so.
 pub fn fault_of(fault: LineFault) -> BridgeFault

@@ -8,8 +8,8 @@ ghost use Rattle.nav_files.specs.Following.{IsTold};
 ghost use Rattle.nav_files.specs.Sends.{fault_text, slot_behind, told as told_by, told_item};
 
 use nav_eph::{NavItem, RefWeek};
-use sent_captures::{SendFault, can_send};
 use rinex_read::{ItemRead, Reason};
+use sent_captures::{SendFault, can_send};
 
 /// The outcome of a record of a navigation file whose ephemerides are transmitted.
 #[derive(Clone, Copy)]

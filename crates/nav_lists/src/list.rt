@@ -14,10 +14,10 @@ pub trait Ranked: Ord {
     ghost use Rattle.std.specs.Cmp.{IsTotalOrder};
     ghost use Rattle.std.specs.declared.cmp.Ordering.{Ordering as OrderingOf};
 
-    // Which of two values of one rank is kept: the first.
+    // Which of two values of one rank stays: the first.
     ghost choice: { Self → Self → OrderingOf };
 
-    /// Which of two values of one rank is kept: the first.
+    /// Which of two values of one rank stays: the first.
     fn choice(&self, other: &Self) -> Ordering
         ensures { result ≡ choice self.now other.now };
 

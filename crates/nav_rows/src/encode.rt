@@ -17,7 +17,10 @@ use crate::kind::{Clock, Kind, WeekClock};
 use crate::row::{Row, has_spare_sisa};
 use arrayvec::ArrayVec;
 use nav_eph::{Moment, Second, Week, nearest_moment};
-use nav_tables::{FrameTime, Link, Part, TimeFault, Times, fill_numbers, first_outside, frame_time, number_of_week, start_numbers, write_message};
+use nav_tables::{
+    FrameTime, Link, Part, TimeFault, Times, fill_numbers, first_outside, frame_time,
+    number_of_week, start_numbers, write_message,
+};
 use rinex_read::Reason;
 use rinex_write::{Column, NOT_KNOWN, Rule};
 

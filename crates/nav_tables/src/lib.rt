@@ -1,3 +1,6 @@
+//! Messages by tables: their bit fields, the columns of their records, and weeks and days of further
+//! systems.
+//!
 //! Messages of bit fields, read and written by tables.
 //!
 //! A [`Table`] is the list of a message's fields in order, each with its width, its coding and its

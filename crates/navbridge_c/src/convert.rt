@@ -7,9 +7,9 @@ ghost use Rattle.navbridge_c.specs.Mirrors.{HasEndedInMemory, in_memory, in_room
 
 use crate::memory::Lent;
 use bridge_engine::run_job;
-use raw_values::put;
 use c_calls::{Kept, push};
 use one_run::Status;
+use raw_values::put;
 use std::alloc::Global;
 
 // There was less room for the output than it takes.

@@ -48,7 +48,10 @@ ghost use Rattle.c_calls.specs.Weeks.{unix_week};
 ghost use Rattle.c_calls.specs.Rows.{GivesColumn, ReadsRow, WritesFrame, WritesRow};
 ghost use Rattle.navbridge_c.specs.Conversions.{Converts};
 
-use c_calls::{ColumnRaw, HeaderRaw, PageBits, RowRaw, SubframeBits, SubframeRaw, SubframesRaw, WordRaw, WordsRaw};
+use c_calls::{
+    ColumnRaw, HeaderRaw, PageBits, RowRaw, SubframeBits, SubframeRaw, SubframesRaw, WordRaw,
+    WordsRaw,
+};
 use raw_values::ItemRaw;
 use std::alloc::Global;
 

@@ -1,8 +1,8 @@
 //! Parts as they are heard.
 
 use crate::samples::{galileo, gps};
-use nav_eph::{Body, GalIon, Part, Sat, Second, SentTag, Sisa, Step16, Step60};
 use nav_bits::{S, U};
+use nav_eph::{Body, GalIon, Part, Sat, Second, SentTag, Sisa, Step16, Step60};
 use raw_values::{
     galileo_health, galileo_word1, galileo_word2, galileo_word3, galileo_word4, gps_clock,
     gps_ionosphere, gps_orbit_a, gps_orbit_b, gps_side,

@@ -1,7 +1,7 @@
 //! Values that several tests use. A number is 0 where nothing else is said.
 
-use nav_eph::{GpsEph, IonContent, IonEph, Moment, NavItem, Sat, SentSecond, Step16, System, Week};
 use nav_bits::{S, U};
+use nav_eph::{GpsEph, IonContent, IonEph, Moment, NavItem, Sat, SentSecond, Step16, System, Week};
 use raw_values::{gps_clock, gps_ionosphere, gps_orbit_a, gps_orbit_b, gps_side};
 
 pub(crate) fn gps(number: u8) -> Option<Sat> {

@@ -20,8 +20,12 @@ ghost use Rattle.nav_eph.specs.Conditions.{wn_of};
 use crate::closed::Finding;
 use crate::digest::{Digest, GalDigest, GpsDigest, Seen};
 use crate::key::{Key, Transmission};
-use nav_eph::{GalEph, GalHealth, GalIon, GalWord1, GalWord2, GalWord3, GalWord4, GpsClock, GpsEph, GpsIon, GpsOrbitA, GpsOrbitB, GpsSide, IonContent, IonEph, Moment, NavItem, RefWeek, Sat, Second, SentSecond, SentTag, Week, gal_week, gps_week, nearest_moment};
 use nav_bits::U;
+use nav_eph::{
+    GalEph, GalHealth, GalIon, GalWord1, GalWord2, GalWord3, GalWord4, GpsClock, GpsEph, GpsIon,
+    GpsOrbitA, GpsOrbitB, GpsSide, IonContent, IonEph, Moment, NavItem, RefWeek, Sat, Second,
+    SentSecond, SentTag, Week, gal_week, gps_week, nearest_moment,
+};
 
 // Seconds in a week.
 const WEEK: u64 = 604_800;

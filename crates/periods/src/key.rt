@@ -1,5 +1,5 @@
-use nav_eph::{GalIon, GpsIon, Sat, Second};
 use nav_bits::U;
+use nav_eph::{GalIon, GpsIon, Sat, Second};
 
 /// What a part belongs to: an issue of a satellite's ephemeris, or a content of the ionosphere.
 #[derive(Clone, Copy, PartialEq, Eq)]

@@ -63,7 +63,9 @@ pub use crate::item_raw::ItemRaw;
 pub use crate::items::{item_of, put_item};
 pub use crate::laws::{items_come_back, numbers_come_back};
 pub use crate::rooms::put;
-pub use crate::sample_gps::{ClockNumbers, GpsIonNumbers, OrbitANumbers, OrbitBNumbers, SideNumbers};
+pub use crate::sample_gps::{
+    ClockNumbers, GpsIonNumbers, OrbitANumbers, OrbitBNumbers, SideNumbers,
+};
 pub use crate::samples::{
     CLOCK_OF_ZEROES, E01_OF_ISSUE_0, E01_OF_ISSUE_378, E11_OF_ZEROES, G01_OF_WEEK_1783,
     G05_OF_ZEROES, G32_OF_WEEK_2294, MESSAGE_1019_OF_G05, SIDE_OF_ZEROES,

@@ -14,9 +14,9 @@ ghost use Rattle.receiver_log.specs.Log.{reason_in as reason_of, week_of as head
 use crate::lines::{LineBuffer, append_half, append_head, append_subframe};
 use crate::reception::Reception;
 use crate::state::LogState;
-use nav_eph::{Moment, Sat, Signal};
-use nav_bits::{Bits, U};
 use crate::{Content, Reason, read_words, subframe_bits};
+use nav_bits::{Bits, U};
+use nav_eph::{Moment, Sat, Signal};
 
 // The seconds of a week.
 const WEEK: u64 = 604_800;

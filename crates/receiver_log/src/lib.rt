@@ -1,3 +1,5 @@
+//! Logs of GNSS receivers: what their messages contain, and the capture of a log.
+//!
 //! Decoding of GNSS receiver messages for a capture: times, GPS LNAV subframes and Galileo I/NAV
 //! pages, from u-blox UBX and Septentrio SBF.
 //!

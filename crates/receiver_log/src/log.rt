@@ -21,11 +21,11 @@ use crate::queue::{Pending, Queue};
 use crate::receiver::Receiver;
 use crate::report::Refused;
 use crate::state::{Log, LogCounts, LogState, MessageCounts};
+use crate::{Reason, Said};
 use arrayvec::ArrayVec;
+use framing::MessageDeframer;
 use nav_io::{Failed, Source};
 use one_run::{BridgeFault, read_piece};
-use framing::MessageDeframer;
-use crate::{Reason, Said};
 
 // The most bytes of one read.
 const PIECE: usize = 16_384;

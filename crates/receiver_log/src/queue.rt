@@ -11,9 +11,9 @@ ghost use Rattle.receiver_log.specs.Mirrors.{to_come, empty_queue};
 ghost use Rattle.receiver_log.specs.Receptions.{between as time_between};
 
 use crate::reception::Reception;
+use crate::{Content, Reason};
 use arrayvec::ArrayVec;
 use nav_eph::Moment;
-use crate::{Content, Reason};
 use std::marker::Model;
 
 // The most subframes and pages between two time messages.

@@ -7,8 +7,8 @@ ghost use Rattle.receiver_log.specs.Ubx.{ubx_said as ubx_says};
 ghost use Rattle.receiver_log.specs.Systems.{SaysOfSystem, SaysTimes};
 ghost use Rattle.receiver_log.specs.SaysTimes.{sbf_says_times, ubx_says_times};
 
-use framing::{Judge, SbfJudge, UbxJudge};
 use crate::{Said, sbf_said, ubx_said};
+use framing::{Judge, SbfJudge, UbxJudge};
 
 /// A format of messages, and their content.
 pub trait Receiver: Judge {

@@ -1,7 +1,7 @@
 //! Subframes and pages as they were received.
 
-use nav_eph::Moment;
 use crate::Content;
+use nav_eph::Moment;
 
 /// A subframe or a page of a log, or the reason why a message gives none.
 #[derive(Clone, Copy, PartialEq, Eq)]

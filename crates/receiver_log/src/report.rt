@@ -8,10 +8,10 @@ ghost use Rattle.one_run.specs.Reports.{report_line};
 ghost use Rattle.receiver_log.specs.Capture.{refusal_line};
 ghost use Rattle.receiver_log.specs.Report.{counts_report, reason_word};
 
+use crate::Reason;
 use crate::state::LogCounts;
 use nav_io::{Failed, Sink};
 use one_run::{Text, append_count, report_text};
-use crate::Reason;
 
 /// Who is notified of rejected messages: any sink, as lines of a report, or [`Nobody`].
 pub trait Refused {

@@ -1,7 +1,7 @@
 //! The content of a message.
 
-use nav_eph::{Moment, Sat, Signal};
 use nav_bits::{Bits, U};
+use nav_eph::{Moment, Sat, Signal};
 
 /// Why a message with a subframe or a page gives no line of a capture.
 #[derive(Clone, Copy, PartialEq, Eq)]

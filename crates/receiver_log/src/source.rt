@@ -10,12 +10,12 @@ ghost use Rattle.receiver_log.specs.LogLeft.{HasLogCause, KeepsLength};
 ghost use Rattle.receiver_log.specs.LogLeft.{capture_left, is_short, left_of};
 ghost use Rattle.receiver_log.specs.Steps.{view_of, waiting_of};
 
+use crate::Reason;
 use crate::receiver::Receiver;
 use crate::report::Refused;
 use crate::state::{Log, LogCounts};
 use nav_io::{Failed, Source};
 use one_run::BridgeFault;
-use crate::Reason;
 
 // Tells another of rejected messages, whether or not it can take note: that changes nothing of what
 // is read.

@@ -3,11 +3,11 @@
 ghost use Rattle.std.specs.Prelude.{◌≡◌, ◌≤◌, length, true, None};
 ghost use Rattle.receiver_log.specs.Log.{begun, counted, none_counted};
 
+use crate::Said;
 use crate::lines::LineBuffer;
 use crate::queue::Queue;
 use crate::receiver::Receiver;
 use framing::MessageDeframer;
-use crate::Said;
 
 /// LogCounts of a log's messages. Each saturates at 18,446,744,073,709,551,615.
 #[derive(Clone, Copy, PartialEq, Eq)]

@@ -1,3 +1,5 @@
+//! Lines of RINEX files: records of RINEX 4 that are carried, and RINEX 2 read as RINEX 3.
+//!
 //! Records of RINEX 4 that are carried: their lines keep each number exactly (RINEX 4.01,
 //! navigation records).
 //!

@@ -15,8 +15,12 @@ ghost use Rattle.rinex_read.specs.Mirrors.{AreGpsFields, AreGpsIonosphereFields,
 ghost use Rattle.rinex_read.specs.Mirrors.{IsSentAt, IsSignedAt, IsSisaAt, IsUnsignedAt, IsWeekAt};
 
 use crate::reason::Reason;
-use nav_eph::{GalEph, GalHealth, GalIon, GalWord1, GalWord2, GalWord3, GalWord4, GpsClock, GpsEph, GpsIon, GpsOrbitA, GpsOrbitB, GpsSide, IonContent, IonEph, Moment, NavItem, Sat, SentSecond, Sisa, Step16, Step60, Week};
 use nav_bits::{S, U};
+use nav_eph::{
+    GalEph, GalHealth, GalIon, GalWord1, GalWord2, GalWord3, GalWord4, GpsClock, GpsEph, GpsIon,
+    GpsOrbitA, GpsOrbitB, GpsSide, IonContent, IonEph, Moment, NavItem, Sat, SentSecond, Sisa,
+    Step16, Step60, Week,
+};
 
 // Field k as an unsigned number, and in two's complement.
 fn unsigned<const W: u32>(fields: &[i64], k: usize) -> U<W>

@@ -12,8 +12,11 @@ use crate::galileo::judge_1046;
 use crate::gps::judge_1019;
 use crate::message1019::Message1019;
 use crate::message1046::Message1046;
-use nav_eph::{Body, GalEph, GpsEph, NavItem, Part, RefWeek, Sat, Second, SentSecond, SentTag, gal_week, gps_week};
 use nav_bits::{Layout, U};
+use nav_eph::{
+    Body, GalEph, GpsEph, NavItem, Part, RefWeek, Sat, Second, SentSecond, SentTag, gal_week,
+    gps_week,
+};
 
 /// The parts of an ephemeris in one message, each with its reception time tag.
 #[derive(Clone, Copy, PartialEq, Eq)]

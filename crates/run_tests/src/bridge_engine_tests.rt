@@ -5,18 +5,22 @@ ghost use Rattle.std.specs.Prelude.{◌≤◌};
 
 use capture_lines::{LineItem, read_line};
 use captures::{CaptureTo, run_capture};
-use nav_eph::{Body, GalEph, GalHealth, GalIon, GalWord1, GalWord2, GalWord3, GalWord4, GpsClock, GpsEph, GpsIon, GpsOrbitA, GpsOrbitB, GpsSide, IonContent, IonEph, NavItem, Part, RefWeek, SentTag, System};
 use inav::{Halves, read_half, read_word};
 use lnav_subframe::read_subframe;
+use nav_eph::{
+    Body, GalEph, GalHealth, GalIon, GalWord1, GalWord2, GalWord3, GalWord4, GpsClock, GpsEph,
+    GpsIon, GpsOrbitA, GpsOrbitB, GpsSide, IonContent, IonEph, NavItem, Part, RefWeek, SentTag,
+    System,
+};
 use nav_io::{MemSink, MemSource};
 use nav_laws::PlainAssembly;
-use sent_captures::{Sats, make_capture};
 use one_run::{Text, append, append_decimal, append_hex};
-use streams::append_issue;
 use periods::{Closed, Key, Verdict};
+use sent_captures::{Sats, make_capture};
 use slot_assembly::add_periods;
 use std::alloc::{AllocError, Global};
 use std::test::Fail;
+use streams::append_issue;
 
 // The bytes of a capture that are taken with a short window: some 200 seconds.
 const PREFIX: usize = 40_000;

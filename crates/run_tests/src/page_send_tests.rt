@@ -3,8 +3,11 @@
 ghost use Rattle.std.specs.Prelude.{◌↔◌, IsTrue};
 ghost use Rattle.sent_captures.specs.Sendable.{IsEphemeris};
 
-use nav_eph::{GalEph, GpsEph, IonContent, IonEph, NavItem, RefWeek, Sat, SentSecond, Sisa, Step16, Step60, System, Week};
 use nav_bits::{S, U};
+use nav_eph::{
+    GalEph, GpsEph, IonContent, IonEph, NavItem, RefWeek, Sat, SentSecond, Sisa, Step16, Step60,
+    System, Week,
+};
 use nav_io::MemSink;
 use raw_values::{
     galileo_health, galileo_word1, galileo_word2, galileo_word3, galileo_word4, gps_clock,

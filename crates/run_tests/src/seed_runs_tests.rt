@@ -4,8 +4,8 @@ use crate::times::times_from;
 use captures::{CaptureCounts, SeedCounts, SeedTo, run_seed};
 use nav_eph::RefWeek;
 use nav_io::MemSink;
-use sent_captures::Sats;
 use one_run::BridgeFault;
+use sent_captures::Sats;
 use std::alloc::{AllocError, Global};
 use std::test::Fail;
 

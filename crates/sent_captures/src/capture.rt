@@ -2,8 +2,8 @@ ghost use Rattle.std.specs.Prelude.{◌≡◌, IfOk};
 ghost use Rattle.sent_captures.specs.Capture.{IsCapture};
 ghost use Rattle.sent_captures.specs.Text.{capture_text};
 
-use crate::seed_lines::push_lines;
 use crate::sats::Sats;
+use crate::seed_lines::push_lines;
 use crate::senders::senders_of;
 use crate::sending::order_of_lines;
 use nav_eph::RefWeek;

@@ -60,5 +60,7 @@ pub use crate::capture::make_capture;
 pub use crate::fault::{SendFault, can_send};
 pub use crate::laws::{sent_text_goes_on, what_may_be_sent};
 pub use crate::sats::Sats;
-pub use crate::seed_laws::{captures_are_short, captures_are_the_text, lines_are_counted, one_capture};
+pub use crate::seed_laws::{
+    captures_are_short, captures_are_the_text, lines_are_counted, one_capture,
+};
 pub use crate::slot::send_item;

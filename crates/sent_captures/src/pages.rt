@@ -11,9 +11,9 @@ ghost use Rattle.sent_captures.specs.Lines.{AreHalves, IsWordOf};
 ghost use Rattle.sent_captures.specs.Mirrors.{IsEmptyPage, IsPageIn};
 
 use crate::values::GalValues;
-use nav_eph::{GalIon, RefWeek, Sat, Second, System};
 use inav::{split, write_half, write_word1, write_word2, write_word3, write_word4, write_word5};
 use nav_bits::{Bits, U};
+use nav_eph::{GalIon, RefWeek, Sat, Second, System};
 use std::alloc::{AllocError, Global};
 
 /// The even and odd part of a page.

@@ -14,9 +14,9 @@ use crate::senders::Senders;
 use crate::sending::Sending;
 use crate::values::GpsValues;
 use capture_lines::{LineText, write_half_line, write_lnav};
-use nav_eph::{GpsIon, RefWeek, Sat, Signal, System};
 use lnav_subframe::{SubframeOut, write_subframe};
 use nav_bits::U;
+use nav_eph::{GpsIon, RefWeek, Sat, Signal, System};
 use std::alloc::AllocError;
 
 // The GPS satellite with that number.

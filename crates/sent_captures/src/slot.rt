@@ -13,10 +13,10 @@ ghost use Rattle.sent_captures.specs.Slots.{gps_items, gps_transmission, gps_wee
 ghost use Rattle.sent_captures.specs.Slots.{no_ionosphere, slot_text, text_of_items};
 
 use crate::lines::{SlotText, push_page, push_subframe};
-use nav_eph::{GalEph, GalIon, GpsEph, NavItem, RefWeek, Second};
 use inav::{write_word1, write_word2, write_word3, write_word4, write_word5};
 use lnav_subframe::SubframeOut;
 use nav_bits::{S, U};
+use nav_eph::{GalEph, GalIon, GpsEph, NavItem, RefWeek, Second};
 use nav_io::{Failed, Sink};
 
 // The length of a slot in seconds.

@@ -9,8 +9,12 @@ ghost use Rattle.slot_assembly.specs.SlotStanding.{known_for};
 ghost use Rattle.slot_assembly.specs.contracts.order.RankOrd.TheImpl.{cmp-value as rank_cmp};
 
 use crate::order::{Rank, rank_of_key};
-use nav_eph::{GalEph, GalHealth, GalIon, GalWord1, GalWord2, GalWord3, GalWord4, GpsClock, GpsEph, GpsIon, GpsOrbitA, GpsOrbitB, GpsSide, IonContent, IonEph, Moment, NavItem, Sat, Second, SentSecond, Week};
 use nav_bits::{S, U};
+use nav_eph::{
+    GalEph, GalHealth, GalIon, GalWord1, GalWord2, GalWord3, GalWord4, GpsClock, GpsEph, GpsIon,
+    GpsOrbitA, GpsOrbitB, GpsSide, IonContent, IonEph, Moment, NavItem, Sat, Second, SentSecond,
+    Week,
+};
 use periods::{Finding, Key};
 use std::alloc::AllocError;
 use std::collections::BTreeMap;

@@ -21,8 +21,11 @@ ghost use Rattle.slot_assembly.specs.declared.slot.Slot.{Slot};
 
 use crate::order::{ByEnd, ByStart, Rank, rank_of_key};
 use crate::slot::{Held, IonSlot, PackedSlot, Slot, one_of};
-use nav_eph::{GalIon, GalWord1, GalWord2, GalWord3, GalWord4, GpsClock, GpsIon, GpsOrbitA, GpsOrbitB, GpsSide, Part, Sat, Second, SentTag};
 use nav_bits::U;
+use nav_eph::{
+    GalIon, GalWord1, GalWord2, GalWord3, GalWord4, GpsClock, GpsIon, GpsOrbitA, GpsOrbitB,
+    GpsSide, Part, Sat, Second, SentTag,
+};
 use periods::{Digest, GalDigest, GpsDigest, Key, Seen, Transmission};
 use std::alloc::{AllocError, Global};
 use std::collections::{BTreeMap, BTreeSet};

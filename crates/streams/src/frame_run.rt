@@ -13,9 +13,9 @@ ghost use Rattle.streams.specs.FrameRuns.{Goes, Breaks, Gathers};
 
 use crate::line::{FrameLine, frame_line};
 use arrayvec::ArrayVec;
+use framing::{Deframer, Frame, decided_frames_stay};
 use nav_io::{Failed, MOST_TAKEN, Sink, Source, read_piece};
 use one_run::BridgeFault;
-use framing::{Deframer, Frame, decided_frames_stay};
 
 // The number of bytes that one read asks for.
 const PIECE: usize = 16_384;

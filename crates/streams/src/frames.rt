@@ -20,14 +20,14 @@ ghost use Rattle.streams.specs.Mirrors.{with_fault, with_item, with_refusal, wit
 
 use crate::counts::StreamCounts;
 use crate::given::ItemsGiven;
+use crate::{Target, with_item};
+use framing::{Deframer, Frame};
 use nav_eph::{NavItem, RefWeek, equality_is_decided};
 use nav_io::{Failed, Sink};
 use one_run::{BridgeFault, report_text};
-use crate::{Target, with_item};
 use rtcm_eph::{
     MessageFault, item_function, message_bytes, read_item, sent_1019_is_read, sent_1046_is_read,
 };
-use framing::{Deframer, Frame};
 
 // Reports that the frame with this number is refused, and counts it.
 fn refuse<U: Sink>(

@@ -1,3 +1,5 @@
+//! Runs over streams of RTCM frames, and the formats that runs write.
+//!
 //! The output of items and periods, in each format that a run writes.
 //!
 //! A [`Target`] is the format. It writes a first text, one for each item or period, and a last one;

@@ -11,15 +11,15 @@ ghost use Rattle.streams.specs.Mirrors.{IsStreamFault};
 ghost use Rattle.streams.specs.Streams.{stream_counts};
 ghost use Rattle.streams.specs.StreamTargets.{target_of_stream};
 
+use crate::Target;
 use crate::counts::{StreamCounts, stream_counts_text};
 use crate::frames::{process_frames, process_piece};
 use crate::given::ItemsGiven;
 use crate::stream_target::StreamTo;
+use framing::{Deframer, decided_frames_stay};
 use nav_eph::RefWeek;
 use nav_io::{Failed, Sink};
 use one_run::BridgeFault;
-use crate::Target;
-use framing::{Deframer, decided_frames_stay};
 use std::alloc::Global;
 use std::marker::Model;
 

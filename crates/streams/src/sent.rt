@@ -6,10 +6,10 @@ ghost use Rattle.framing.specs.Writing.{frame_bytes};
 ghost use Rattle.streams.specs.ItemTexts.{rtcm_item};
 
 use arrayvec::ArrayVec;
+use framing::write_frame;
 use nav_eph::NavItem;
 use nav_io::{Failed, Sink};
 use rtcm_eph::{write_1019, write_1046};
-use framing::write_frame;
 
 /// Appends the frame of an ephemeris to a sink: message 1019 or 1046 (RTCM 10403.3,
 /// 3.5). For ionosphere parameters nothing is written.

@@ -13,9 +13,9 @@ ghost use Rattle.streams.specs.Taken.{Gives, GivesBetween, HasRoomFor, Holds};
 ghost use Rattle.streams.specs.Taken.{Stops, Takes, TakesAll, TakesPart, frames_meaning_by};
 
 use crate::pieces::fault_at;
+use framing::{Deframer, Frame, decided_frames_stay};
 use nav_io::{Failed, MOST_TAKEN, Sink, Source, read_piece};
 use one_run::{BridgeFault, Text};
-use framing::{Deframer, Frame, decided_frames_stay};
 
 // The number of bytes that one read asks for.
 const PIECE: usize = 16_384;

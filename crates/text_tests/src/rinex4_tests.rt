@@ -1,8 +1,8 @@
 //! Records, headers and files of version 4, read and written: those of an independent program,
 //! records with one fault each, a read that fails and sinks that fail.
 
-use nav_eph::{GalIon, IonContent, IonEph, Moment, NavItem, Sat, SentSecond, System};
 use nav_bits::{S, U};
+use nav_eph::{GalIon, IonContent, IonEph, Moment, NavItem, Sat, SentSecond, System};
 use nav_io::{Failed, LineFault, MemSink, MemSource};
 use raw_values::{
     ClockNumbers, E01_OF_ISSUE_0, E01_OF_ISSUE_378, E11_OF_ZEROES, G01_OF_WEEK_1783, G05_OF_ZEROES,
