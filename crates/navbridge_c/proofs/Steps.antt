@@ -40,7 +40,7 @@ pub use Rattle.c_calls.specs.Pushes.{PushState}
 pub use Rattle.c_calls.specs.contracts.push.Conversion.{the_row as P}
 pub use Rattle.c_calls.proofs.push.Conversion.TheLaws.{the_row_laws as push_laws}
 pub use Rattle.c_calls.specs.PagePairs.{PagesState}
-pub use Rattle.c_calls.specs.contracts.pages.PagePairs.{the_row as Q}
+pub use Rattle.c_calls.specs.contracts.state_pages.PagePairs.{the_row as Q}
 pub use Rattle.c_calls.proofs.state_pages.PagePairs.TheLaws.{the_row_laws as pages_laws}
 pub use Rattle.std.specs.contracts.alloc.Global.{the_row as Heap}
 pub use Rattle.std.proofs.alloc.Global.TheLaws.{the_row_laws as heap_laws}

@@ -4,7 +4,7 @@ use Rattle.c_calls.specs.PagePairs.{IsEmpty}
 use Rattle.navbridge_c.specs.contracts.pages.nb_pages_init as f
 use Rattle.navbridge_c.proofs.pages.nb_pages_init.Statement.{statement}
 use Rattle.navbridge_c.proofs.pages.nb_pages_init.Code as code
-use Rattle.c_calls.specs.contracts.pages.new as g
+use Rattle.c_calls.specs.contracts.state_pages.new as g
 use Rattle.c_calls.proofs.state_pages.new.Met.{met}
 
 abbrev stayed : Stays f.ended.signature.params f.ended.kept

@@ -4,10 +4,10 @@ use Rattle.c_calls.specs.PagePairs.{GivesPage}
 use Rattle.navbridge_c.specs.contracts.pages.nb_pages_next as f
 use Rattle.navbridge_c.proofs.pages.nb_pages_next.Statement.{statement}
 use Rattle.navbridge_c.proofs.pages.nb_pages_next.Code as code
-use Rattle.c_calls.specs.contracts.pages.next as g
+use Rattle.c_calls.specs.contracts.state_pages.next as g
 use Rattle.c_calls.proofs.state_pages.next.Met.{met}
 use Rattle.c_calls.specs.declared.state_pages.JoinedPage.{JoinedPage}
-use Rattle.c_calls.specs.contracts.pages.JoinedPage.{the_row as J}
+use Rattle.c_calls.specs.contracts.state_pages.JoinedPage.{the_row as J}
 
 abbrev stayed : Stays f.ended.signature.params f.ended.kept
 stayed = (stay_dropped _ yes, (gave_ref (0 ∷ []) tt (plain (λ _. J)), tt))

@@ -4,9 +4,9 @@ use Rattle.c_calls.specs.PagePairs.{TakesBits}
 use Rattle.navbridge_c.specs.contracts.pages.nb_pages_take as f
 use Rattle.navbridge_c.proofs.pages.nb_pages_take.Statement.{statement}
 use Rattle.navbridge_c.proofs.pages.nb_pages_take.Code as code
-use Rattle.c_calls.specs.contracts.pages.take as g
+use Rattle.c_calls.specs.contracts.state_pages.take as g
 use Rattle.c_calls.proofs.state_pages.take.Met.{met}
-use Rattle.c_calls.specs.contracts.pages.PartBits.{the_row as Part}
+use Rattle.c_calls.specs.contracts.state_pages.PartBits.{the_row as Part}
 
 abbrev stayed : Stays f.ended.signature.params f.ended.kept
 stayed = (stay_dropped _ yes, (stay_dropped _ yes, (stay_dropped _ yes, (stay_dropped _ yes, (stay_dropped _ yes, tt)))))
