@@ -37,7 +37,7 @@ nb_push_open_spec 𝓤 𝓛 𝓜 𝓡 wired =
     let G1 = triple_of 𝓛 made.signature (made.spec 𝓛 𝓜.mem 𝓡.returns) in
     let z1 : G1.Ghost = ((tt, tt, tt, (alloc, tt), (heap_val ∷ [], tt)), tt) in
     nothing ! $ move ! (3 ∷ 0 ∷ []) $ join ! $ nothing ! $ join ! $ nothing ! $ move ! (1 ∷ 0 ∷ []) $ use2 𝓛 (raw (G1.pre z1)) (id⊢ 𝓤 _) $
-    calls_at ! (framed 𝓤 𝓛.H 𝓜 (tables 𝓤 𝓛.H 𝓜 𝓡 𝓡.env)) G1 (new_met.met 𝓤 𝓛 𝓜 𝓡 (code.calls-c_states::push::new 𝓡.env wired)) z1 (and_then ! (get ! refl) (no_more !)) (λ v.
+    calls_at ! (framed 𝓤 𝓛.H 𝓜 (tables 𝓤 𝓛.H 𝓜 𝓡 𝓡.env)) G1 (new_met.met 𝓤 𝓛 𝓜 𝓡 (code.calls-c_calls::push::new 𝓡.env wired)) z1 (and_then ! (get ! refl) (no_more !)) (λ v.
     use1 𝓛 (later (some (λ (r : PushState). (‵ ftrue ⊛ ‵ (P.own_val r (v ∷ []))) ⊛
     some (λ (ws : Unit {0} × Unit {0}). ‵ (lasts made.ended z1.0.0 z1.0.3 ws) ⊛ raw (fact 𝓤 (r ≡ closed)))))) (id⊢ 𝓤 _) $
     await ! tt $ pick ! (λ r. split ! $ split ! $ drop ! $ move ! (1 ∷ []) $ pick ! (λ ws. split ! $ drop ! $ heard ! _ (λ is.
@@ -55,7 +55,7 @@ nb_push_open_spec 𝓤 𝓛 𝓜 𝓡 wired =
     let z : G.Ghost = (((κ, κs), (full_share, qs), bounds, (record { ref_ptr = (b, o); ghost_name = γ; now = r }, (words, tt)), (vptr b o ∷ [], (shr_slice_vals words, tt))), tt) in
     nothing ! $ move ! (4 ∷ 0 ∷ []) $ join ! $ move ! (1 ∷ 0 ∷ []) $ join ! $ nothing ! $ move ! (5 ∷ 0 ∷ []) $ join ! $ move ! (4 ∷ 0 ∷ []) $ join ! $ move ! (3 ∷ 0 ∷ []) $ join ! $ join ! $
     nothing ! $ move ! (1 ∷ 0 ∷ []) $ use2 𝓛 (raw (G.pre z)) (id⊢ 𝓤 _) $
-    calls_at ! (framed 𝓤 𝓛.H 𝓜 (tables 𝓤 𝓛.H 𝓜 𝓡 𝓡.env)) G (met 𝓤 𝓛 𝓜 𝓡 (code.calls-c_states::push::open 𝓡.env wired)) z
+    calls_at ! (framed 𝓤 𝓛.H 𝓜 (tables 𝓤 𝓛.H 𝓜 𝓡 𝓡.env)) G (met 𝓤 𝓛 𝓜 𝓡 (code.calls-c_calls::push::open 𝓡.env wired)) z
     (and_then ! (get ! refl) (and_then ! (get ! refl) (no_more !))) (λ v'.
     use1 𝓛 (later (some (λ (answer : ℕ). ((‵ (flft κ full_share) ⊛ ‵ (flft κs.0 qs.0) ⊛ ‵ (flft κs.1.0 qs.1.0) ⊛ ‵ ftrue) ⊛ ‵ (u32.own_val answer (v' ∷ []))) ⊛
     some (λ (last : PushState × (Unit {0} × Unit {0})). ‵ (lasts g.ended z.0.0 z.0.3 last) ⊛ raw (fact 𝓤 (Opens (map (λ word. word.now) words.now) last.0 answer)))))) (id⊢ 𝓤 _) $
