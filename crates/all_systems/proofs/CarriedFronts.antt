@@ -4,16 +4,16 @@ use Rattle.std.specs.Prelude.{Result}
 use Rattle.rinex_read.specs.Fields.{◌>>=◌}
 use Rattle.rinex_read.specs.Judging.{moment_at}
 use Rattle.rinex_read.specs.RowReads.{RowContent, flat_said}
-use Rattle.rinex_read.specs.declared.reason.Reason.{Reason}
+use Rattle.rinex_read.specs.declared.reason.RecordFault.{RecordFault}
 
-abbrev with_no_columns : Result ℕ Reason → Result RowContent Reason
+abbrev with_no_columns : Result ℕ RecordFault → Result RowContent RecordFault
 with_no_columns (Ok m) = Ok (record { moment = m; fields = [] })
 with_no_columns (Err e) = Err e
 
-abbrev without : ℕ → Result RowContent Reason
+abbrev without : ℕ → Result RowContent RecordFault
 without m = Ok (record { moment = m; fields = [] })
 
-no_columns : (r : Result ℕ Reason) → r >>= without ≡ with_no_columns r
+no_columns : (r : Result ℕ RecordFault) → r >>= without ≡ with_no_columns r
 no_columns (Ok m) = refl
 no_columns (Err e) = refl
 
@@ -21,24 +21,24 @@ said_is : (line : List ℕ) → flat_said (0 ∷ []) [] (line ∷ []) ≡ with_n
 unfolding flat_said
 said_is line = no_columns (moment_at line)
 
-moment_from : (r : Result ℕ Reason) (c : RowContent) → with_no_columns r ≡ Ok c → r ≡ Ok c.moment
-moment_from (Ok m) c e = ap (λ (x : Result RowContent Reason). moment_of x) e
+moment_from : (r : Result ℕ RecordFault) (c : RowContent) → with_no_columns r ≡ Ok c → r ≡ Ok c.moment
+moment_from (Ok m) c e = ap (λ (x : Result RowContent RecordFault). moment_of x) e
   where
-    moment_of : Result RowContent Reason → Result ℕ Reason
+    moment_of : Result RowContent RecordFault → Result ℕ RecordFault
     moment_of (Ok y) = Ok y.moment
     moment_of (Err e) = Err e
 moment_from (Err f) c e = absurd (cc)
 
-none_from : (r : Result ℕ Reason) (f : Reason) → with_no_columns r ≡ Err f → r ≡ Err f
+none_from : (r : Result ℕ RecordFault) (f : RecordFault) → with_no_columns r ≡ Err f → r ≡ Err f
 none_from (Ok m) f e = absurd (cc)
-none_from (Err g) f e = ap (λ (x : Result RowContent Reason). moment_of x) e
+none_from (Err g) f e = ap (λ (x : Result RowContent RecordFault). moment_of x) e
   where
-    moment_of : Result RowContent Reason → Result ℕ Reason
+    moment_of : Result RowContent RecordFault → Result ℕ RecordFault
     moment_of (Ok y) = Ok y.moment
     moment_of (Err e) = Err e
 
 pub date_said : (line : List ℕ) (c : RowContent) → flat_said (0 ∷ []) [] (line ∷ []) ≡ Ok c → moment_at line ≡ Ok c.moment
 date_said line c e = moment_from (moment_at line) c (sym (said_is line) ∙ e)
 
-pub no_date : (line : List ℕ) (f : Reason) → flat_said (0 ∷ []) [] (line ∷ []) ≡ Err f → moment_at line ≡ Err f
+pub no_date : (line : List ℕ) (f : RecordFault) → flat_said (0 ∷ []) [] (line ∷ []) ≡ Err f → moment_at line ≡ Err f
 no_date line f e = none_from (moment_at line) f (sym (said_is line) ∙ e)

@@ -16,7 +16,7 @@ use Rattle.rinex_read.specs.declared.judged.HeaderFault.TheVariants.{NotRinexNav
 use Rattle.rinex_read.specs.declared.judged.ItemRead.{ItemRead}
 use Rattle.rinex_read.specs.declared.judged.Judged.{Judged}
 use Rattle.rinex_read.specs.declared.judged.Judged.TheVariants.{Item, Refused, PassedOver}
-use Rattle.rinex_read.specs.declared.reason.Reason.{Reason}
+use Rattle.rinex_read.specs.declared.reason.RecordFault.{RecordFault}
 use Rattle.all_systems.specs.Streams.{navs, text_of}
 use Rattle.all_systems.specs.declared.kinds.Kinds.{Kinds}
 use Rattle.all_systems.specs.Files.{file_items, form_of, items_in, nav_form, nav_items}
@@ -55,7 +55,7 @@ kind_none : (o : Option Kind) (v : Version) (lines : List (List ℕ)) (item : Na
 kind_none None v lines item e = cc
 kind_none (Some k) v lines item e = by (row_in v k lines) e
   where
-    by : (r : Result RowValue Reason) → row_reading k r ≡ Ok (inl item) → ⊥
+    by : (r : Result RowValue RecordFault) → row_reading k r ≡ Ok (inl item) → ⊥
     by (Ok row) h = cc
     by (Err reason) h = cc
 

@@ -24,7 +24,7 @@ use Rattle.streams.specs.declared.counts.StreamCounts.{StreamCounts}
 use Rattle.streams.proofs.Surface.{Laws, any_more, items_more, items_same, known_more, looked_for, read_own, readings_more}
 use Rattle.all_systems.specs.Mirrors.{StandsFor, any_rank, is_rank_in}
 use Rattle.all_systems.specs.Readings.{Fault, Item, Reading, reading_by, reading_in, reading_report, readings, readings_report}
-use Rattle.all_systems.specs.Streams.{counts_of, has, items_from, output_of, text_by, text_of, told_by}
+use Rattle.all_systems.specs.Streams.{counts_of, has, items_from, output_of, text_by, text_of, decided_by}
 use Rattle.all_systems.specs.declared.kinds.Kinds.{Kinds}
 use Rattle.all_systems.specs.declared.state.State.{State}
 use Rattle.all_systems.proofs.Lemmas.{counts_fault, counts_item, few_counts, given_text, nav_items, one_more, output_item, output_none, ranks_item, ranks_none, ranks_row, report_more, row_items, with_fault, with_one}
@@ -73,34 +73,34 @@ gives_none ks to r s frame fault w is past start far wrote =
 
 -- a frame's line of the report
 pub gives_report : (ks : Kinds) (r : ℕ) (s : State) (frame : List ℕ) (x : Reading) (u u1 : Option (List ℕ))
-    → reading_in ks r (payload_of frame) ≡ x → Appends u u1 (reading_report (s.counts.frames + 1) x) → Gives (StandsFor ks r) s (told_by ks r) (frame ∷ []) u u1
+    → reading_in ks r (payload_of frame) ≡ x → Appends u u1 (reading_report (s.counts.frames + 1) x) → Gives (StandsFor ks r) s (decided_by ks r) (frame ∷ []) u u1
 gives_report ks r s frame x u u1 is grew past start far told =
     let xs = readings ks r past in
     subst (Appends start u1) (sym (ap (readings_report 1) (one_more ks r past frame x is) ∙ report_more 1 xs x))
     (Appends-trans start u u1 _ _ told (subst (λ (n : ℕ). Appends u u1 (reading_report n x)) (next_number ks r s past far) grew))
 
 pub part_of_report : (ks : Kinds) (r : ℕ) (s : State) (frame : List ℕ) (x : Reading) (u u1 : Option (List ℕ))
-    → reading_in ks r (payload_of frame) ≡ x → AppendsPrefix u u1 (reading_report (s.counts.frames + 1) x) → GivesBetween (StandsFor ks r) s (told_by ks r) [] (frame ∷ []) u u1
+    → reading_in ks r (payload_of frame) ≡ x → AppendsPrefix u u1 (reading_report (s.counts.frames + 1) x) → GivesBetween (StandsFor ks r) s (decided_by ks r) [] (frame ∷ []) u u1
 part_of_report ks r s frame x u u1 is grew past start far told =
     let xs = readings ks r past in
     let all : AppendsBetween start u1 (readings_report 1 xs) (readings_report 1 (readings ks r (past ++ frame ∷ []))) =
     subst (AppendsBetween start u1 (readings_report 1 xs)) (sym (ap (readings_report 1) (one_more ks r past frame x is) ∙ report_more 1 xs x))
     (between_behind start u u1 _ _ told (subst (λ (n : ℕ). AppendsPrefix u u1 (reading_report n x)) (next_number ks r s past far) grew)) in
-    subst (λ (l : List (List ℕ)). AppendsBetween start u1 (told_by ks r l) (told_by ks r (past ++ frame ∷ []))) (sym (append-nil past)) all
+    subst (λ (l : List (List ℕ)). AppendsBetween start u1 (decided_by ks r l) (decided_by ks r (past ++ frame ∷ []))) (sym (append-nil past)) all
 
 -- the report of frames begins with that of fewer
-pub told_one : (ks : Kinds) (r : ℕ) (some : List (List ℕ)) (frame : List ℕ) → IsPrefix (told_by ks r some) (told_by ks r (some ++ frame ∷ []))
+pub told_one : (ks : Kinds) (r : ℕ) (some : List (List ℕ)) (frame : List ℕ) → IsPrefix (decided_by ks r some) (decided_by ks r (some ++ frame ∷ []))
 told_one ks r some frame =
     let reading = reading_in ks r (payload_of frame) in
     (reading_report (1 + length (readings ks r some)) reading, ap (readings_report 1) (one_more ks r some frame reading refl) ∙ report_more 1 (readings ks r some) reading)
 
 -- what was given whole was given in part
 pub part_of_gives : (ks : Kinds) (r : ℕ) (s : State) (frame : List ℕ) (u u1 : Option (List ℕ))
-    → Gives (StandsFor ks r) s (told_by ks r) (frame ∷ []) u u1 → GivesBetween (StandsFor ks r) s (told_by ks r) [] (frame ∷ []) u u1
+    → Gives (StandsFor ks r) s (decided_by ks r) (frame ∷ []) u u1 → GivesBetween (StandsFor ks r) s (decided_by ks r) [] (frame ∷ []) u u1
 part_of_gives ks r s frame u u1 gives past start held grew =
-    let all = told_by ks r (past ++ frame ∷ []) in
-    between_within start u1 (told_by ks r (past ++ [])) all all all
-    (subst (λ (l : List (List ℕ)). IsPrefix (told_by ks r l) all) (sym (append-nil past)) (told_one ks r past frame)) (prefix_same all) (between_whole start u1 all (gives past start held grew))
+    let all = decided_by ks r (past ++ frame ∷ []) in
+    between_within start u1 (decided_by ks r (past ++ [])) all all all
+    (subst (λ (l : List (List ℕ)). IsPrefix (decided_by ks r l) all) (sym (append-nil past)) (told_one ks r past frame)) (prefix_same all) (between_whole start u1 all (gives past start held grew))
 
 -- no less was written of a frame without an item than before it
 pub between_none : (ks : Kinds) (to : Target) (r : ℕ) (s : State) (frame : List ℕ) (fault : Fault) (w : Option (List ℕ))
@@ -231,9 +231,9 @@ text_grows ks to r (m ∷ ms) some =
     subst (λ (l : List (List ℕ)). IsPrefix (text_by ks to r some) (text_by ks to r l)) (append_assoc some (m ∷ []) ms)
     (prefix_trans (text_by ks to r some) (text_by ks to r (some ++ m ∷ [])) (text_by ks to r ((some ++ m ∷ []) ++ ms)) (text_one ks to r some m) (text_grows ks to r ms (some ++ m ∷ [])))
 
-pub told_grows : (ks : Kinds) (r : ℕ) (more some : List (List ℕ)) → IsPrefix (told_by ks r some) (told_by ks r (some ++ more))
-told_grows ks r [] some = subst (λ (l : List (List ℕ)). IsPrefix (told_by ks r some) (told_by ks r l)) (sym (append-nil some)) (prefix_same (told_by ks r some))
+pub told_grows : (ks : Kinds) (r : ℕ) (more some : List (List ℕ)) → IsPrefix (decided_by ks r some) (decided_by ks r (some ++ more))
+told_grows ks r [] some = subst (λ (l : List (List ℕ)). IsPrefix (decided_by ks r some) (decided_by ks r l)) (sym (append-nil some)) (prefix_same (decided_by ks r some))
 told_grows ks r (m ∷ ms) some =
-    subst (λ (l : List (List ℕ)). IsPrefix (told_by ks r some) (told_by ks r l)) (append_assoc some (m ∷ []) ms)
-    (prefix_trans (told_by ks r some) (told_by ks r (some ++ m ∷ [])) (told_by ks r ((some ++ m ∷ []) ++ ms))
+    subst (λ (l : List (List ℕ)). IsPrefix (decided_by ks r some) (decided_by ks r l)) (append_assoc some (m ∷ []) ms)
+    (prefix_trans (decided_by ks r some) (decided_by ks r (some ++ m ∷ [])) (decided_by ks r ((some ++ m ∷ []) ++ ms))
     (told_one ks r some m) (told_grows ks r ms (some ++ m ∷ [])))

@@ -6,7 +6,7 @@ use Rattle.std.specs.declared.cmp.Ordering.{Ordering}
 use Rattle.rinex_lines.specs.CarriedLines.{record_text}
 use Rattle.rinex_read.specs.Judging.{moment_at}
 use Rattle.rinex_read.specs.Lines.{columns}
-use Rattle.rinex_read.specs.declared.reason.Reason.{Reason}
+use Rattle.rinex_read.specs.declared.reason.RecordFault.{RecordFault}
 use Rattle.all_systems.specs.Selecting.{digit}
 
 -- the type of record in columns 3 to 5 of a title, as the place of the first of its seven systems; an unknown one is the last
@@ -38,7 +38,7 @@ abbrev pub undated : List ℤ
 undated = negsuc 0 ∷ pos 0 ∷ pos 0 ∷ pos 0 ∷ pos 0 ∷ []
 
 -- what comes first of a record with this title and this moment
-abbrev pub front_by : List ℕ → Result ℕ Reason → List ℤ
+abbrev pub front_by : List ℕ → Result ℕ RecordFault → List ℤ
 front_by title (Ok moment) =
     pos moment ∷ pos (type_place (columns 2 3 title) + letter_place (get_or title 6 32))
     ∷ pos (10 * digit (get_or title 7 32) + digit (get_or title 8 32)) ∷ message_place (get_or title 10 32) ∷ pos 0 ∷ []

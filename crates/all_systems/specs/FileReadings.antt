@@ -9,8 +9,8 @@ use Rattle.rinex_read.specs.Kept.{padded}
 use Rattle.rinex_read.specs.Lines.{columns}
 use Rattle.rinex_read.specs.declared.judged.Judged.{Judged}
 use Rattle.rinex_read.specs.declared.judged.Judged.TheVariants.{Item as ItemOf, Refused, PassedOver}
-use Rattle.rinex_read.specs.declared.reason.Reason.{Reason}
-use Rattle.rinex_read.specs.declared.reason.Reason.TheVariants as reasons
+use Rattle.rinex_read.specs.declared.reason.RecordFault.{RecordFault}
+use Rattle.rinex_read.specs.declared.reason.RecordFault.TheVariants as reasons
 use Rattle.nav_files.specs.Files.{reason_text}
 use Rattle.nav_rows.specs.Reading.{read_lines_of, row_read}
 use Rattle.nav_rows.specs.Rows.{RowValue}
@@ -23,7 +23,7 @@ use Rattle.all_systems.specs.declared.version.Version.TheVariants.{Four, Three}
 
 -- why a record gives no item: it is rejected for a reason, its lines are carried, or it is of a kind that is not read
 pub data NoItem : Type 0 where
-  refused : Reason → NoItem
+  refused : RecordFault → NoItem
   carried : List (List ℕ) → NoItem
   passed : NoItem
 
@@ -36,12 +36,12 @@ abbrev pub sat_title : List ℕ → List ℕ
 sat_title line = set (set (set (replicate 80 32) 6 (get_or line 0 32)) 7 (get_or line 1 32)) 8 (get_or line 2 32)
 
 -- the row of the lines of a record of a kind, or the first reason
-abbrev pub row_in : Version → Kind → List (List ℕ) → Result RowValue Reason
+abbrev pub row_in : Version → Kind → List (List ℕ) → Result RowValue RecordFault
 row_in Four k lines = read_lines_of k lines
 row_in Three k [] = Err reasons.Short
 row_in Three k (l ∷ ls) = row_read k (sat_title l) (l ∷ ls)
 
-abbrev pub row_reading : Kind → Result RowValue Reason → Reading
+abbrev pub row_reading : Kind → Result RowValue RecordFault → Reading
 row_reading k (Ok row) = Ok (inr (record { kind = k; row = row }))
 row_reading k (Err reason) = Err (refused reason)
 

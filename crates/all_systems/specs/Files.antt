@@ -229,12 +229,12 @@ abbrev pub whole_by : Target → List LineRead → List ℕ
 whole_by to reads = text_by to reads ++ (held_by to reads ++ back_text to (counts_text (counts_of to reads)))
 
 -- what is reported of records, and of all records
-abbrev pub told_by : List LineRead → List ℕ
-told_by reads = flat_map read_report reads
+abbrev pub decided_by : List LineRead → List ℕ
+decided_by reads = flat_map read_report reads
 
 abbrev pub reported_by : Target → List LineRead → List ℕ
-reported_by to reads = told_by reads ++ counts_text (counts_of to reads)
+reported_by to reads = decided_by reads ++ counts_text (counts_of to reads)
 
 -- the meaning of the run
 abbrev pub files_meaning : Kinds → Version → Target → Meaning SystemCounts
-files_meaning ks v to = file_meaning (form_of ks v) true (text_by to) told_by (whole_by to) (reported_by to) (counts_of to)
+files_meaning ks v to = file_meaning (form_of ks v) true (text_by to) decided_by (whole_by to) (reported_by to) (counts_of to)

@@ -20,7 +20,7 @@ use Rattle.all_systems.specs.Readings.{Item}
 use Rattle.all_systems.specs.Streams.{text_of}
 use Rattle.all_systems.specs.declared.kinds.Kinds.{Kinds}
 use Rattle.all_systems.specs.CarriedOrder.{CarriedRecord, by_text, kept_record}
-use Rattle.all_systems.specs.Files.{carried_in, counts_of, form_of, told_by}
+use Rattle.all_systems.specs.Files.{carried_in, counts_of, form_of, decided_by}
 use Rattle.all_systems.specs.NavOrder.{by_numbers, by_sent, nav_front}
 use Rattle.all_systems.specs.FileReadings.{LineRead, Reading}
 use Rattle.all_systems.specs.declared.merge_counts.SystemMergeCounts.{SystemMergeCounts}
@@ -152,12 +152,12 @@ merge_counts_text c =
 
 -- the report of a merge
 abbrev pub merge_report : Target → List LineRead → List ℕ
-merge_report to reads = told_by reads ++ merge_counts_text (merge_counts to reads)
+merge_report to reads = decided_by reads ++ merge_counts_text (merge_counts to reads)
 
 -- the meaning of a run that merges files of a version, concatenated, to one file
 abbrev pub system_merge_meaning : Kinds → Version → Target → Meaning SystemMergeCounts
 system_merge_meaning ks v to =
-    file_meaning (form_of ks v) true (λ reads. prefix_text to) told_by (merge_text to) (merge_report to) (merge_counts to)
+    file_meaning (form_of ks v) true (λ reads. prefix_text to) decided_by (merge_text to) (merge_report to) (merge_counts to)
 
 -- rows of one system and message type are of one kind
 abbrev pub AreNamed : List KindRow → Type 0

@@ -133,12 +133,12 @@ abbrev pub whole_by : Kinds → Target → ℕ → List (List ℕ) → List ℕ
 whole_by ks to r frames = text_by ks to r frames ++ back_text to (stream_counts_text (counts_of (readings ks r frames)))
 
 -- what is reported of frames, and of all frames
-abbrev pub told_by : Kinds → ℕ → List (List ℕ) → List ℕ
-told_by ks r frames = readings_report 1 (readings ks r frames)
+abbrev pub decided_by : Kinds → ℕ → List (List ℕ) → List ℕ
+decided_by ks r frames = readings_report 1 (readings ks r frames)
 
 abbrev pub reported_by : Kinds → ℕ → List (List ℕ) → List ℕ
-reported_by ks r frames = told_by ks r frames ++ stream_counts_text (counts_of (readings ks r frames))
+reported_by ks r frames = decided_by ks r frames ++ stream_counts_text (counts_of (readings ks r frames))
 
 -- the meaning of the run
 abbrev pub systems_meaning : Kinds → Target → ℕ → Meaning StreamCounts
-systems_meaning ks to r = frames_meaning_by (text_by ks to r) (whole_by ks to r) (told_by ks r) (reported_by ks r) (λ frames. counts_of (readings ks r frames))
+systems_meaning ks to r = frames_meaning_by (text_by ks to r) (whole_by ks to r) (decided_by ks r) (reported_by ks r) (λ frames. counts_of (readings ks r frames))

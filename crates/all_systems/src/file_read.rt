@@ -17,7 +17,7 @@ use crate::version::Version;
 use arrayvec::ArrayVec;
 use nav_eph::NavItem;
 use nav_rows::{Kind, Row, read_record};
-use rinex_read::{Judged, Reason, RecordLines, columns, judge3};
+use rinex_read::{Judged, RecordFault, RecordLines, columns, judge3};
 use std::marker::Model;
 
 /// What a record gives.
@@ -28,7 +28,7 @@ pub(crate) enum Given {
     /// An ephemeris of a further kind.
     Further(Kind, Row),
     /// Nothing, for this reason.
-    Refused(Reason),
+    Refused(RecordFault),
     /// Nothing, and its lines are carried: it is of another kind of RINEX 4.
     Carried(ArrayVec<[u8; 80], 12>),
     /// Nothing: it is of a kind that is not read.
@@ -47,13 +47,13 @@ fn sat_title(line: &[u8; 80]) -> [u8; 80]
 }
 
 // The row of the lines of a record of a kind, or the first reason why there is none.
-fn row_in(version: Version, kind: &Kind, lines: &[[u8; 80]]) -> Result<Row, Reason>
+fn row_in(version: Version, kind: &Kind, lines: &[[u8; 80]]) -> Result<Row, RecordFault>
     requires { IsKind kind.now }
     ensures row { Gives value result (row_in version kind.now lines.now) }
     ensures fields { IfOk result (λ row. AreFields kind.now.layout.columns.now row.columns.items) }
 {
     match lines {
-        [] => Err(Reason::Short),
+        [] => Err(RecordFault::Short),
         [first, rest @ ..] => match version {
             Version::Four => read_record(kind, first, rest),
             Version::Three => read_record(kind, &sat_title(first), lines),

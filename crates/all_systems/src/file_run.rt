@@ -6,7 +6,7 @@ ghost use Rattle.nav_io.specs.Prefix.{AppendsPrefix};
 ghost use Rattle.one_run.specs.Causes.{HasItsCause, faults_of};
 ghost use Rattle.one_run.specs.Runs.{Ran};
 ghost use Rattle.all_systems.specs.Files.{counts_of, files_meaning, first_text, held_by};
-ghost use Rattle.all_systems.specs.Files.{is_unwritten, reported_by, text_by, told_by, whole_by};
+ghost use Rattle.all_systems.specs.Files.{is_unwritten, reported_by, text_by, decided_by, whole_by};
 ghost use Rattle.all_systems.specs.FileMirrors.{AreCounted, HasFields, view_given};
 ghost use Rattle.all_systems.specs.FileReadings.{reading_report};
 
@@ -25,7 +25,7 @@ use streams::Target;
 
 // Writes the item of a record, unless it is held back, or reports why the record is rejected;
 // whether an item or carried lines have a text.
-fn tell_read<T: Sink, U: Sink>(
+fn report_item<T: Sink, U: Sink>(
     to: &Target,
     line: u32,
     given: &Given,
@@ -92,7 +92,7 @@ impl Taker<RecordRead> for Systems {
 
     ghost text = { λ s reads. text_by s.to reads };
 
-    ghost told = { λ s reads. told_by reads };
+    ghost told = { λ s reads. decided_by reads };
 
     ghost whole = { λ s reads. whole_by s.to reads };
 
@@ -120,7 +120,7 @@ impl Taker<RecordRead> for Systems {
     ) -> Result<(), BridgeFault> {
         let given = read.given();
         let line = read.line();
-        let written = tell_read(&self.to, line, given, output, report)?;
+        let written = report_item(&self.to, line, given, output, report)?;
         hold_given(&self.to, line, given, &mut state.held)?;
         count_read(given, written, &mut state.counts);
         Ok(())

@@ -17,7 +17,7 @@ ghost use Rattle.rinex_write.specs.Columns.{AreFields};
 ghost use Rattle.rinex_write.specs.declared.words.HeaderWords.{HeaderWords as HeaderWordsOf};
 ghost use Rattle.all_systems.specs.Readings.{Item};
 ghost use Rattle.all_systems.specs.CarriedOrder.{CarriedRecord, by_text, kept_record};
-ghost use Rattle.all_systems.specs.Files.{carried_lines, counts_of, is_unwritten, told_by};
+ghost use Rattle.all_systems.specs.Files.{carried_lines, counts_of, is_unwritten, decided_by};
 ghost use Rattle.all_systems.specs.Merging.{carried_of, item_of, items_of, merge_counts};
 ghost use Rattle.all_systems.specs.Merging.{merge_report};
 ghost use Rattle.all_systems.specs.Merging.{merge_text, navs_of, outlet_of, rows_of};
@@ -249,7 +249,7 @@ impl Taker<RecordRead> for SystemsMerging {
 
     ghost text = { λ m reads. prefix_text (outlet_of m.to m.words) };
 
-    ghost told = { λ m reads. told_by reads };
+    ghost told = { λ m reads. decided_by reads };
 
     ghost whole = { λ m reads. merge_text (outlet_of m.to m.words) reads };
 

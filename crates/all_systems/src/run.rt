@@ -16,7 +16,7 @@ ghost use Rattle.streams.specs.Taken.{Gives, GivesBetween, Holds};
 ghost use Rattle.all_systems.specs.Mirrors.{StandsFor};
 ghost use Rattle.all_systems.specs.Readings.{reading_in, reading_report, readings};
 ghost use Rattle.all_systems.specs.Streams.{counts_of, reported_by, systems_meaning};
-ghost use Rattle.all_systems.specs.Streams.{text_by, told_by, whole_by};
+ghost use Rattle.all_systems.specs.Streams.{text_by, decided_by, whole_by};
 
 use crate::kinds::Kinds;
 use crate::read::{message_in, row_reason, satellite_in};
@@ -63,10 +63,10 @@ impl Systems {
             state.old (text_by self.now.kinds self.now.to self.now.week) [] (frame.now ∷ [])
             (T.written output.old) (T.written output.new)) }
         ensures report { (u : Option (List ℕ)) → Gives (StandsFor self.now.kinds self.now.week)
-            state.old (told_by self.now.kinds self.now.week) (frame.now ∷ []) u u }
+            state.old (decided_by self.now.kinds self.now.week) (frame.now ∷ []) u u }
         ensures unreported { (u : Option (List ℕ))
             → GivesBetween (StandsFor self.now.kinds self.now.week)
-            state.old (told_by self.now.kinds self.now.week) [] (frame.now ∷ []) u u }
+            state.old (decided_by self.now.kinds self.now.week) [] (frame.now ∷ []) u u }
         ensures cause { HasItsCause (faults_of 0 (T.faults output.old) 0)
             (faults_of 0 (T.faults output.new) 0) result }
         ensures kinds { IfErr result IsStreamFault }
@@ -118,10 +118,10 @@ impl Systems {
             state.old (text_by self.now.kinds self.now.to self.now.week) [] (frame.now ∷ [])
             (T.written output.old) (T.written output.new)) }
         ensures report { (u : Option (List ℕ)) → Gives (StandsFor self.now.kinds self.now.week)
-            state.old (told_by self.now.kinds self.now.week) (frame.now ∷ []) u u }
+            state.old (decided_by self.now.kinds self.now.week) (frame.now ∷ []) u u }
         ensures unreported { (u : Option (List ℕ))
             → GivesBetween (StandsFor self.now.kinds self.now.week)
-            state.old (told_by self.now.kinds self.now.week) [] (frame.now ∷ []) u u }
+            state.old (decided_by self.now.kinds self.now.week) [] (frame.now ∷ []) u u }
         ensures cause { HasItsCause (faults_of 0 (T.faults output.old) 0)
             (faults_of 0 (T.faults output.new) 0) result }
         ensures kinds { IfErr result IsStreamFault }
@@ -165,10 +165,10 @@ impl Systems {
             → GivesBetween (StandsFor self.now.kinds self.now.week)
             state.old (text_by self.now.kinds self.now.to self.now.week) [] (frame.now ∷ []) w w }
         ensures report { OnOk result (Gives (StandsFor self.now.kinds self.now.week) state.old
-            (told_by self.now.kinds self.now.week) (frame.now ∷ [])
+            (decided_by self.now.kinds self.now.week) (frame.now ∷ [])
             (U.written report.old) (U.written report.new)) }
         ensures unreported { OnErr result (GivesBetween (StandsFor self.now.kinds self.now.week)
-            state.old (told_by self.now.kinds self.now.week) [] (frame.now ∷ [])
+            state.old (decided_by self.now.kinds self.now.week) [] (frame.now ∷ [])
             (U.written report.old) (U.written report.new)) }
         ensures cause { HasItsCause (faults_of 0 0 (U.faults report.old))
             (faults_of 0 0 (U.faults report.new)) result }
@@ -193,7 +193,7 @@ impl Systems {
         ensures output { (w : Option (List ℕ)) → Gives (StandsFor self.now.kinds self.now.week)
             state.old (text_by self.now.kinds self.now.to self.now.week) (frame.now ∷ []) w w }
         ensures report { (u : Option (List ℕ)) → Gives (StandsFor self.now.kinds self.now.week)
-            state.old (told_by self.now.kinds self.now.week) (frame.now ∷ []) u u }
+            state.old (decided_by self.now.kinds self.now.week) (frame.now ∷ []) u u }
     {
         let _reference = self.week.value();
         equality_is_decided();
@@ -213,7 +213,7 @@ impl Systems {
         ensures output { (w : Option (List ℕ)) → Gives (StandsFor self.now.kinds self.now.week)
             state.old (text_by self.now.kinds self.now.to self.now.week) (frame.now ∷ []) w w }
         ensures report { (u : Option (List ℕ)) → Gives (StandsFor self.now.kinds self.now.week)
-            state.old (told_by self.now.kinds self.now.week) (frame.now ∷ []) u u }
+            state.old (decided_by self.now.kinds self.now.week) (frame.now ∷ []) u u }
     {
         state.counts.unused += 1;
         state.counts.frames += 1;
@@ -237,13 +237,13 @@ fn take_row<T: Sink, U: Sink>(
         (text_by systems.now.kinds systems.now.to systems.now.week) (frame.now ∷ [])
         (T.written output.old) (T.written output.new)) }
     ensures report { OnOk result (Gives (StandsFor systems.now.kinds systems.now.week) state.old
-        (told_by systems.now.kinds systems.now.week) (frame.now ∷ [])
+        (decided_by systems.now.kinds systems.now.week) (frame.now ∷ [])
         (U.written report.old) (U.written report.new)) }
     ensures unwritten { OnErr result (GivesBetween (StandsFor systems.now.kinds systems.now.week)
         state.old (text_by systems.now.kinds systems.now.to systems.now.week) [] (frame.now ∷ [])
         (T.written output.old) (T.written output.new)) }
     ensures unreported { OnErr result (GivesBetween (StandsFor systems.now.kinds systems.now.week)
-        state.old (told_by systems.now.kinds systems.now.week) [] (frame.now ∷ [])
+        state.old (decided_by systems.now.kinds systems.now.week) [] (frame.now ∷ [])
         (U.written report.old) (U.written report.new)) }
     ensures cause { HasItsCause (faults_of 0 (T.faults output.old) (U.faults report.old))
         (faults_of 0 (T.faults output.new) (U.faults report.new)) result }
@@ -283,13 +283,13 @@ fn take_fault<T: Sink, U: Sink>(
         (text_by systems.now.kinds systems.now.to systems.now.week) (frame.now ∷ [])
         (T.written output.old) (T.written output.new)) }
     ensures report { OnOk result (Gives (StandsFor systems.now.kinds systems.now.week) state.old
-        (told_by systems.now.kinds systems.now.week) (frame.now ∷ [])
+        (decided_by systems.now.kinds systems.now.week) (frame.now ∷ [])
         (U.written report.old) (U.written report.new)) }
     ensures unwritten { OnErr result (GivesBetween (StandsFor systems.now.kinds systems.now.week)
         state.old (text_by systems.now.kinds systems.now.to systems.now.week) [] (frame.now ∷ [])
         (T.written output.old) (T.written output.new)) }
     ensures unreported { OnErr result (GivesBetween (StandsFor systems.now.kinds systems.now.week)
-        state.old (told_by systems.now.kinds systems.now.week) [] (frame.now ∷ [])
+        state.old (decided_by systems.now.kinds systems.now.week) [] (frame.now ∷ [])
         (U.written report.old) (U.written report.new)) }
     ensures cause { HasItsCause (faults_of 0 (T.faults output.old) (U.faults report.old))
         (faults_of 0 (T.faults output.new) (U.faults report.new)) result }
@@ -326,13 +326,13 @@ fn take_frame<T: Sink, U: Sink>(
         (text_by systems.now.kinds systems.now.to systems.now.week) (frame.now ∷ [])
         (T.written output.old) (T.written output.new)) }
     ensures report { OnOk result (Gives (StandsFor systems.now.kinds systems.now.week) state.old
-        (told_by systems.now.kinds systems.now.week) (frame.now ∷ [])
+        (decided_by systems.now.kinds systems.now.week) (frame.now ∷ [])
         (U.written report.old) (U.written report.new)) }
     ensures unwritten { OnErr result (GivesBetween (StandsFor systems.now.kinds systems.now.week)
         state.old (text_by systems.now.kinds systems.now.to systems.now.week) [] (frame.now ∷ [])
         (T.written output.old) (T.written output.new)) }
     ensures unreported { OnErr result (GivesBetween (StandsFor systems.now.kinds systems.now.week)
-        state.old (told_by systems.now.kinds systems.now.week) [] (frame.now ∷ [])
+        state.old (decided_by systems.now.kinds systems.now.week) [] (frame.now ∷ [])
         (U.written report.old) (U.written report.new)) }
     ensures cause { HasItsCause (faults_of 0 (T.faults output.old) (U.faults report.old))
         (faults_of 0 (T.faults output.new) (U.faults report.new)) result }
@@ -372,7 +372,7 @@ impl FrameTaker for Systems {
 
     ghost whole = { λ s frames. whole_by s.kinds s.to s.week frames };
 
-    ghost told = { λ s frames. told_by s.kinds s.week frames };
+    ghost told = { λ s frames. decided_by s.kinds s.week frames };
 
     ghost reported = { λ s frames. reported_by s.kinds s.week frames };
 

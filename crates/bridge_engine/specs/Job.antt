@@ -17,7 +17,7 @@ use Rattle.captures.specs.declared.seed_target.SeedTo.TheVariants as seeds
 use Rattle.bridge_engine.specs.declared.job.Job.{Job}
 use Rattle.bridge_engine.specs.declared.job.SeedJob.{SeedJob}
 use Rattle.bridge_engine.specs.declared.job.Job.TheVariants.{StreamToFrames, Capture, Stream, Rinex, Rinex3, SendRinex, SendRinex3, Merge, Cover, Seed}
-use Rattle.bridge_engine.specs.declared.values.Values.{Values}
+use Rattle.bridge_engine.specs.declared.values.OptionValues.{OptionValues}
 use Rattle.bridge_engine.specs.Options.{OptionsGiven, GiveValues}
 
 -- the text is the number in one to ten decimal digits
@@ -60,7 +60,7 @@ Reads kind (Some text) None = ⊥
 Reads kind (Some text) (Some value) = kind text value
 
 -- the options other than `--from` and `--to` have these values, each in its range
-pub record ReadsAs (given : OptionsGiven) (values : Values) : Type 0 where
+pub record ReadsAs (given : OptionsGiven) (values : OptionValues) : Type 0 where
   pub week : Reads IsWeekText given.week values.week
   pub leap : Reads IsLeapText given.leap values.leap
   pub date : Reads IsDateText given.date values.date
@@ -73,7 +73,7 @@ pub record ReadsAs (given : OptionsGiven) (values : Values) : Type 0 where
 pub record Row : Type 0 where
   pub from : List ℕ
   pub to : List ℕ
-  pub values : Values
+  pub values : OptionValues
 
 -- what is written: the value of `--to`, and the leap seconds and date of the RINEX header, if it
 -- has one

@@ -37,7 +37,7 @@ mod word_laws;
 
 pub use crate::done::Done;
 pub use crate::job::{CaptureJob, Job, SeedJob, StreamJob, job_of};
-pub use crate::laws::{captures_are_told, words_give_one_job};
+pub use crate::laws::{captures_are_selected, words_give_one_job};
 pub use crate::options::{Found, options_of};
 pub use crate::run::run_job;
 pub use crate::statuses::bridge;

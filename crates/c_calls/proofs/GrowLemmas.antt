@@ -12,8 +12,8 @@ use Rattle.bridge_engine.specs.Meanings.{meaning_of}
 use Rattle.bridge_engine.specs.declared.job.Job.{Job}
 use Rattle.bridge_engine.specs.declared.job.Job.TheVariants as jobs
 use Rattle.c_calls.specs.Pushes.{IsRunOf}
-use Rattle.c_calls.specs.declared.push.Run.{Run}
-use Rattle.c_calls.specs.declared.push.Run.TheVariants.{Capture, Stream}
+use Rattle.c_calls.specs.declared.push.PushedRun.{PushedRun}
+use Rattle.c_calls.specs.declared.push.PushedRun.TheVariants.{Capture, Stream}
 use Rattle.c_calls.proofs.RunLemmas.{HasFlushed}
 
 -- a text and a longer one, by other names
@@ -31,7 +31,7 @@ pub grows_by : ((prefix : List ℕ) (text : NavItem → List ℕ) (r : ℕ) (byt
     → ((to : Target) (week : Option ℕ) (bytes more : List ℕ)
     → IsPrefix (flushed_output to week bytes) (flushed_output to week (bytes ++ more))
     × IsPrefix (flushed_report week bytes) (flushed_report week (bytes ++ more)))
-    → (run : Run) (job : Job) (bytes piece output output' report report' : List ℕ) → IsRunOf run job bytes output report
+    → (run : PushedRun) (job : Job) (bytes piece output output' report report' : List ℕ) → IsRunOf run job bytes output report
     → HasFlushed job bytes output report → HasFlushed job (bytes ++ piece) output' report' → IsPrefix output output' × IsPrefix report report'
 grows_by streams captures (Capture run) (jobs.Capture job) bytes piece output output' report report' is before after =
     both_within _ _ _ _ output report output' report' before after (captures (target_of job.to) job.week bytes piece)
@@ -47,7 +47,7 @@ pub grows_to_whole : ((prefix : List ℕ) (text : NavItem → List ℕ) (r : ℕ
     → ((to : Target) (week : Option ℕ) (bytes more : List ℕ)
     → IsPrefix (flushed_output to week bytes) (output_of to week (bytes ++ more))
     × IsPrefix (flushed_report week bytes) (report_of_capture week (bytes ++ more)))
-    → (run : Run) (job : Job) (bytes output output' report report' : List ℕ) → IsRunOf run job bytes output report → HasFlushed job bytes output report
+    → (run : PushedRun) (job : Job) (bytes output output' report report' : List ℕ) → IsRunOf run job bytes output report → HasFlushed job bytes output report
     → (output' ≡ (meaning_of job).whole.output bytes) × (report' ≡ (meaning_of job).whole.report bytes) → IsPrefix output output' × IsPrefix report report'
 grows_to_whole streams captures (Capture run) (jobs.Capture job) bytes output output' report report' is before after =
     let to = target_of job.to in

@@ -12,15 +12,15 @@ use Rattle.streams.specs.declared.target.Target.{Target}
 use Rattle.streams.specs.Pushed.{IsCutShort, IsPushed, IsWhole, StreamRunState}
 use Rattle.captures.specs.Captures.{accepted_line}
 use Rattle.captures.specs.Hearings.{Stands}
-use Rattle.captures.specs.Pushed.{CaptureRunState, HasHeard, HeardSoFar}
+use Rattle.captures.specs.Pushed.{CaptureRunState, HasReceived, ReceivedSoFar}
 use Rattle.captures.specs.Pushed.{IsCutShort as IsCaptureCut, IsPushed as IsCapturePushed, IsWhole as IsCaptureWhole}
 use Rattle.captures.specs.declared.counts.CaptureCounts.{CaptureCounts}
-use Rattle.captures.specs.declared.hearing.Hearing.{Hearing}
+use Rattle.captures.specs.declared.receiving.CaptureState.{CaptureState}
 use Rattle.bridge_engine.specs.declared.job.Job.TheVariants as jobs
 use Rattle.c_calls.specs.Mirrors.{IsAsReleased, KeepsReleased}
 use Rattle.c_calls.specs.Pending.{all_of, marked_text}
 use Rattle.c_calls.specs.declared.pending.Pending.{Pending}
-use Rattle.c_calls.specs.declared.push.Run.TheVariants.{Capture, Stream}
+use Rattle.c_calls.specs.declared.push.PushedRun.TheVariants.{Capture, Stream}
 
 abbrev pub first : List ℕ → ℕ
 first [] = 0
@@ -126,9 +126,9 @@ module _ (run : StreamRunState) (bytes : List ℕ) (n n' m m' : ℕ) (output rep
 -- ---- a capture
 
 -- the first line is accepted, what was written before the items being known
-heard_marked : (to : Target) (week : Option ℕ) (given : List Line) (h : Hearing) (n m : ℕ) (output report : List ℕ) (head : _) (line : Line) (past : List Line) (led : Option (List ℕ))
+heard_marked : (to : Target) (week : Option ℕ) (given : List Line) (h : CaptureState) (n m : ℕ) (output report : List ℕ) (head : _) (line : Line) (past : List Line) (led : Option (List ℕ))
     → given ≡ line ∷ past → accepted_line week line ≡ Some head → Appends (Some []) led (prefix_text to) → Stands to head past h led (Some output) (Some []) (Some report)
-    → HasHeard to week given h (Some (n ∷ [])) (Some (n ∷ output)) (Some (m ∷ [])) (Some (m ∷ report))
+    → HasReceived to week given h (Some (n ∷ [])) (Some (n ∷ output)) (Some (m ∷ [])) (Some (m ∷ report))
 heard_marked to week given h n m output report head line past None are accepted leads stands = absurd leads
 heard_marked to week given h n m output report head line past (Some led) are accepted leads stands = record {
   head = head;
@@ -153,17 +153,17 @@ heard_marked to week given h n m output report head line past (Some led) are acc
   };
 }
 
-so_far_marked : (to : Target) (week : Option ℕ) (given : List Line) (hearing : Option Hearing) (n m : ℕ) (output report : List ℕ)
-    → HeardSoFar to week given hearing (Some []) (Some output) (Some []) (Some report)
-    → HeardSoFar to week given hearing (Some (n ∷ [])) (Some (n ∷ output)) (Some (m ∷ [])) (Some (m ∷ report))
+so_far_marked : (to : Target) (week : Option ℕ) (given : List Line) (receiving : Option CaptureState) (n m : ℕ) (output report : List ℕ)
+    → ReceivedSoFar to week given receiving (Some []) (Some output) (Some []) (Some report)
+    → ReceivedSoFar to week given receiving (Some (n ∷ [])) (Some (n ∷ output)) (Some (m ∷ [])) (Some (m ∷ report))
 so_far_marked to week given None n m output report heard = (heard.0, ap (λ (l : List ℕ). n ∷ l) heard.1, ap (λ (l : List ℕ). m ∷ l) heard.2)
 so_far_marked to week given (Some h) n m output report heard =
     heard_marked to week given h n m output report heard.head heard.line heard.past heard.led heard.given_are heard.accepted heard.leads heard.stands
 
-heard_bare : (to : Target) (week : Option ℕ) (given : List Line) (h : Hearing) (n n' m m' : ℕ) (output report : List ℕ) (head : _) (line : Line) (past : List Line) (led : Option (List ℕ))
+heard_bare : (to : Target) (week : Option ℕ) (given : List Line) (h : CaptureState) (n n' m m' : ℕ) (output report : List ℕ) (head : _) (line : Line) (past : List Line) (led : Option (List ℕ))
     → given ≡ line ∷ past → accepted_line week line ≡ Some head → Appends (Some (n ∷ [])) led (prefix_text to)
     → Stands to head past h led (Some (n' ∷ output)) (Some (m ∷ [])) (Some (m' ∷ report))
-    → HasHeard to week given h (Some []) (Some output) (Some []) (Some report)
+    → HasReceived to week given h (Some []) (Some output) (Some []) (Some report)
 heard_bare to week given h n n' m m' output report head line past None are accepted leads stands = absurd leads
 heard_bare to week given h n n' m m' output report head line past (Some []) are accepted leads stands = absurd (not_nil n (prefix_text to) leads)
 heard_bare to week given h n n' m m' output report head line past (Some (x ∷ led)) are accepted leads stands = record {
@@ -189,9 +189,9 @@ heard_bare to week given h n n' m m' output report head line past (Some (x ∷ l
   };
 }
 
-so_far_bare : (to : Target) (week : Option ℕ) (given : List Line) (hearing : Option Hearing) (n n' m m' : ℕ) (output report : List ℕ)
-    → HeardSoFar to week given hearing (Some (n ∷ [])) (Some (n' ∷ output)) (Some (m ∷ [])) (Some (m' ∷ report))
-    → HeardSoFar to week given hearing (Some []) (Some output) (Some []) (Some report)
+so_far_bare : (to : Target) (week : Option ℕ) (given : List Line) (receiving : Option CaptureState) (n n' m m' : ℕ) (output report : List ℕ)
+    → ReceivedSoFar to week given receiving (Some (n ∷ [])) (Some (n' ∷ output)) (Some (m ∷ [])) (Some (m' ∷ report))
+    → ReceivedSoFar to week given receiving (Some []) (Some output) (Some []) (Some report)
 so_far_bare to week given None n n' m m' output report heard = (heard.0, ap rest heard.1, ap rest heard.2)
 so_far_bare to week given (Some h) n n' m m' output report heard =
     heard_bare to week given h n n' m m' output report heard.head heard.line heard.past heard.led heard.given_are heard.accepted heard.leads heard.stands
@@ -209,7 +209,7 @@ module _ (run : CaptureRunState) (bytes : List ℕ) (n n' m m' : ℕ) (output re
     behind = record {
       given = is.behind.given;
       read = is.behind.read;
-      heard = so_far_marked run.to run.week is.behind.given run.hearing n m output report is.behind.heard;
+      heard = so_far_marked run.to run.week is.behind.given run.receiving n m output report is.behind.heard;
     };
   }
 
@@ -225,7 +225,7 @@ module _ (run : CaptureRunState) (bytes : List ℕ) (n n' m m' : ℕ) (output re
     behind = record {
       given = is.behind.given;
       read = is.behind.read;
-      heard = so_far_bare run.to run.week is.behind.given run.hearing n n' m m' output report is.behind.heard;
+      heard = so_far_bare run.to run.week is.behind.given run.receiving n n' m m' output report is.behind.heard;
     };
   }
 

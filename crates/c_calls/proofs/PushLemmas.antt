@@ -17,13 +17,13 @@ use Rattle.c_calls.specs.Mirrors.{BreaksOff, Ends, EndsShort, GoesOn, IsCut, Kee
 use Rattle.c_calls.specs.Pending.{all_of, marked_text}
 use Rattle.c_calls.specs.Pushes.{Begins, Finishes, IsAt, IsCutAt, IsOfJob, IsRunOf, PushState, Pushes, closed}
 use Rattle.c_calls.specs.declared.pending.Pending.{Pending}
-use Rattle.c_calls.specs.declared.push.Run.{Run}
-use Rattle.c_calls.specs.declared.push.Run.TheVariants.{Capture, Idle, Stream}
+use Rattle.c_calls.specs.declared.push.PushedRun.{PushedRun}
+use Rattle.c_calls.specs.declared.push.PushedRun.TheVariants.{Capture, Idle, Stream}
 use Rattle.c_calls.proofs.Marks.{first, stream_bare}
 use Rattle.c_calls.proofs.RunLemmas.{HasFlushed, flushed_by}
 
 -- what contracts see of a conversion with these fields
-abbrev pub state : Run → Pending → ℕ → Pending → ℕ → ℕ → PushState
+abbrev pub state : PushedRun → Pending → ℕ → Pending → ℕ → ℕ → PushState
 state run o taken r told status = record {
   run = run;
   output = all_of o;
@@ -36,13 +36,13 @@ state run o taken r told status = record {
 }
 
 -- a conversion whose run is that of a job, which can be pushed
-at_run : (run : Run) (o : Pending) (taken : ℕ) (r : Pending) (told : ℕ) (job : Job) (bytes : List ℕ) → IsRunOf run job bytes (all_of o) (all_of r)
+at_run : (run : PushedRun) (o : Pending) (taken : ℕ) (r : Pending) (told : ℕ) (job : Job) (bytes : List ℕ) → IsRunOf run job bytes (all_of o) (all_of r)
     → IsAt (state run o taken r told 0) job bytes
 at_run run o taken r told job bytes is = record { status = refl; made = flushed_by run job bytes (all_of o) (all_of r) is; run = is }
 
 -- ---- a conversion begins
 
-module _ (run₀ : Run) (o : Pending) (taken : ℕ) (r : Pending) (told status : ℕ) (was : state run₀ o taken r told status ≡ closed) where
+module _ (run₀ : PushedRun) (o : Pending) (taken : ℕ) (r : Pending) (told status : ℕ) (was : state run₀ o taken r told status ≡ closed) where
   pub none_written : all_of o ≡ []
   none_written = ap (λ (s : PushState). s.output) was
 
@@ -131,7 +131,7 @@ not_too_long answer few (inr (inr eight)) = absurd (few eight)
 
 -- ---- steps
 
-module _ (run : Run) (o o' r r' : Pending) (taken told : ℕ) (live : (job : Job) × (bytes : List ℕ) × IsRunOf run job bytes (all_of o) (all_of r)) (kept : KeepsReleased run o o' r r') where
+module _ (run : PushedRun) (o o' r r' : Pending) (taken told : ℕ) (live : (job : Job) × (bytes : List ℕ) × IsRunOf run job bytes (all_of o) (all_of r)) (kept : KeepsReleased run o o' r r') where
   abbrev old : PushState
   old = state run o taken r told 0
 
@@ -145,7 +145,7 @@ module _ (run : Run) (o o' r r' : Pending) (taken told : ℕ) (live : (job : Job
       × (length o'.released.text ≡ length o.released.text) × (length r'.released.text ≡ length r.released.text)
   keeps = (ap (λ (n : ℕ). n + taken) same_output, ap (λ (n : ℕ). n + told) same_report, same_output, same_report)
 
-  pub pushed : (run' : Run) (piece : List ℕ) → GoesOn run run' piece (all_of o) (all_of o') (all_of r) (all_of r')
+  pub pushed : (run' : PushedRun) (piece : List ℕ) → GoesOn run run' piece (all_of o) (all_of o') (all_of r) (all_of r')
       → ((job : Job) (bytes : List ℕ) → IsRunOf run job bytes (all_of o) (all_of r) → HasFlushed job bytes (all_of o) (all_of r) → HasFlushed job (bytes ++ piece) (all_of o') (all_of r')
       → IsPrefix (all_of o) (all_of o') × IsPrefix (all_of r) (all_of r'))
       → Pushes old piece (state run' o' taken r' told 0) 0
@@ -159,10 +159,10 @@ module _ (run : Run) (o o' r r' : Pending) (taken told : ℕ) (live : (job : Job
     keeps = keeps;
   }
 
-  pub pushed_lives : (run' : Run) (piece : List ℕ) → GoesOn run run' piece (all_of o) (all_of o') (all_of r) (all_of r') → IsOfJob (state run' o' taken r' told 0)
+  pub pushed_lives : (run' : PushedRun) (piece : List ℕ) → GoesOn run run' piece (all_of o) (all_of o') (all_of r) (all_of r') → IsOfJob (state run' o' taken r' told 0)
   pushed_lives run' piece goes zero = (live.0, live.1 ++ piece, goes live.0 live.1 live.2)
 
-  pub cut_off : (run' : Run) (piece : List ℕ) (fault : BridgeFault) (answer : ℕ) → Tells fault answer → BreaksOff run piece (all_of o) (all_of o') (all_of r) (all_of r') fault
+  pub cut_off : (run' : PushedRun) (piece : List ℕ) (fault : BridgeFault) (answer : ℕ) → Tells fault answer → BreaksOff run piece (all_of o) (all_of o') (all_of r) (all_of r') fault
       → Pushes old piece (state run' o' taken r' told answer) answer
   cut_off run' piece fault answer tells breaks = record {
     done = λ job bytes at zero. absurd (tells.some zero);

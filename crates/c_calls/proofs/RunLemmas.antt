@@ -24,8 +24,8 @@ use Rattle.bridge_engine.specs.declared.job.Job.TheVariants as jobs
 use Rattle.bridge_engine.specs.declared.job.StreamJob.{StreamJob}
 use Rattle.c_calls.specs.Mirrors.{BreaksOff, Ends, EndsShort, GoesOn, IsCut}
 use Rattle.c_calls.specs.Pushes.{IsRunOf}
-use Rattle.c_calls.specs.declared.push.Run.{Run}
-use Rattle.c_calls.specs.declared.push.Run.TheVariants.{Capture, Stream}
+use Rattle.c_calls.specs.declared.push.PushedRun.{PushedRun}
+use Rattle.c_calls.specs.declared.push.PushedRun.TheVariants.{Capture, Stream}
 
 -- ---- what an answer says
 
@@ -101,7 +101,7 @@ without (inr b) = inr b.1
 abbrev pub HasFlushed : Job → List ℕ → List ℕ → List ℕ → Type 0
 HasFlushed job bytes output report = IfSome (meaning_of job).flushed (λ texts. (output ≡ texts.output bytes) × (report ≡ texts.report bytes))
 
-pub flushed_by : (run : Run) (job : Job) (bytes output report : List ℕ) → IsRunOf run job bytes output report → HasFlushed job bytes output report
+pub flushed_by : (run : PushedRun) (job : Job) (bytes output report : List ℕ) → IsRunOf run job bytes output report → HasFlushed job bytes output report
 flushed_by (Capture run) (jobs.Capture job) bytes output report is =
     let of_job = named run.to (target_of job.to) run.week job.week is.0 is.1 in
     (is.2.output ∙ of_job (λ t w. flushed_output t w bytes), is.2.report ∙ of_job (λ t w. flushed_report w bytes))

@@ -4,9 +4,9 @@ use Rattle.std.specs.Prelude.{min, nat_le, if◌then◌else◌}
 use Rattle.std.proofs.lemmas.Bool.{leb-false}
 use Rattle.raw_values.specs.Rooms.{StandsIn}
 use Rattle.c_calls.specs.Pending.{all_of, released_by}
-use Rattle.c_calls.specs.Pushes.{PushState, RetainsFew, Takes, taken_more, told_more}
+use Rattle.c_calls.specs.Pushes.{PushState, RetainsFew, Takes, taken_more, reported_more}
 use Rattle.c_calls.specs.declared.pending.Pending.{Pending}
-use Rattle.c_calls.specs.declared.push.Run.{Run}
+use Rattle.c_calls.specs.declared.push.PushedRun.{PushedRun}
 use Rattle.c_calls.proofs.PushLemmas.{state}
 
 drop_behind : (gone bytes : List ℕ) (at : ℕ) → drop (length gone + at) (gone ++ bytes) ≡ drop at bytes
@@ -31,7 +31,7 @@ few written taken released = few_by written taken released (nat_le (written - ta
 
 -- ---- the state once some were taken
 
-module _ (run : Run) (o o' : Pending) (at at' : ℕ) (r r' : Pending) (told told' status count : ℕ) where
+module _ (run : PushedRun) (o o' : Pending) (at at' : ℕ) (r r' : Pending) (told told' status count : ℕ) where
   abbrev old : PushState
   old = state run o at r told status
 
@@ -86,7 +86,7 @@ module _ (run : Run) (o o' : Pending) (at at' : ℕ) (r r' : Pending) (told told
 
   pub report_taken : all_of r' ≡ all_of r → length r'.released.text + told' ≡ length r.released.text + (told + count)
       → length r'.released.text ≡ released_by (length (all_of r)) (length r.released.text + (told + count)) (length r.released.text)
-      → state run o at r' told' status ≡ told_more old count
+      → state run o at r' told' status ≡ reported_more old count
   report_taken same taken released =
       ap (λ (l : List ℕ). with_report l (length r'.released.text + told') (length r'.released.text)) same
       ∙ ap (λ (n : ℕ). with_report (all_of r) n (length r'.released.text)) (taken_is (length r.released.text) told (length r'.released.text + told') taken)

@@ -10,10 +10,10 @@ use Rattle.bridge_engine.specs.declared.job.Job.{Job}
 use Rattle.c_calls.specs.Pending.{all_of}
 use Rattle.c_calls.specs.Pushes.{IsRunOf, too_many}
 use Rattle.c_calls.specs.declared.pending.Pending.{Pending}
-use Rattle.c_calls.specs.declared.push.Run.{Run}
+use Rattle.c_calls.specs.declared.push.PushedRun.{PushedRun}
 
 -- a piece was taken, with the output and the report before and after
-abbrev pub GoesOn : Run → Run → List ℕ → List ℕ → List ℕ → List ℕ → List ℕ → Type 0
+abbrev pub GoesOn : PushedRun → PushedRun → List ℕ → List ℕ → List ℕ → List ℕ → List ℕ → Type 0
 GoesOn run run_new piece output output_new report report_new =
     (job : Job) (bytes : List ℕ) → IsRunOf run job bytes output report → IsRunOf run_new job (bytes ++ piece) output_new report_new
 
@@ -22,7 +22,7 @@ abbrev pub IsAsReleased : Pending → Pending → Type 0
 IsAsReleased old new = length new.released.text ≡ length old.released.text
 
 -- the same of the output and the report of a run
-abbrev pub KeepsReleased : Run → Pending → Pending → Pending → Pending → Type 0
+abbrev pub KeepsReleased : PushedRun → Pending → Pending → Pending → Pending → Type 0
 KeepsReleased run output output_new report report_new =
     (job : Job) (bytes : List ℕ) → IsRunOf run job bytes (all_of output) (all_of report)
     → IsAsReleased output output_new × IsAsReleased report report_new
@@ -43,19 +43,19 @@ pub record IsCut (job : Job) (bytes whole written reported : List ℕ) (fault : 
   pub counts_last : IsPrefix reported ((meaning_of job).rejections whole) ⊎ (written ≡ (meaning_of job).whole.output whole)
 
 -- a piece was not taken complete
-abbrev pub BreaksOff : Run → List ℕ → List ℕ → List ℕ → List ℕ → List ℕ → BridgeFault → Type 0
+abbrev pub BreaksOff : PushedRun → List ℕ → List ℕ → List ℕ → List ℕ → List ℕ → BridgeFault → Type 0
 BreaksOff run piece output output_new report report_new fault =
     (job : Job) (bytes more : List ℕ) → IsRunOf run job bytes output report
     → IsCut job bytes ((bytes ++ piece) ++ more) output_new report_new fault
 
 -- the input has ended, and all was written and reported
-abbrev pub Ends : Run → List ℕ → List ℕ → List ℕ → List ℕ → Type 0
+abbrev pub Ends : PushedRun → List ℕ → List ℕ → List ℕ → List ℕ → Type 0
 Ends run output output_new report report_new =
     (job : Job) (bytes : List ℕ) → IsRunOf run job bytes output report
     → (output_new ≡ (meaning_of job).whole.output bytes) × (report_new ≡ (meaning_of job).whole.report bytes)
 
 -- it has ended, and not all was; there were not too many bytes
-abbrev pub EndsShort : Run → List ℕ → List ℕ → List ℕ → List ℕ → BridgeFault → Type 0
+abbrev pub EndsShort : PushedRun → List ℕ → List ℕ → List ℕ → List ℕ → BridgeFault → Type 0
 EndsShort run output output_new report report_new fault =
     (job : Job) (bytes : List ℕ) → IsRunOf run job bytes output report
     → IsCut job bytes bytes output_new report_new fault × (fault ≢ TooLong)

@@ -6,7 +6,7 @@ use Rattle.nav_eph.specs.declared.sat.System.TheVariants.{Gal}
 use Rattle.nav_eph.specs.declared.signal.Signal.{Signal}
 use Rattle.nav_eph.specs.declared.signal.Signal.TheVariants.{E1b, E5b}
 use Rattle.inav.specs.Pages.{kept_of, kind_of}
-use Rattle.inav.specs.Heard.{AreWordsWith, StampedHalf, stamp_by}
+use Rattle.inav.specs.Received.{AreWordsWith, StampedHalf, stamp_by}
 use Rattle.inav.specs.Keeping.{IsKeptWith, Keeping, stamped}
 use Rattle.c_calls.specs.Pages.{page_bits}
 use Rattle.c_calls.specs.declared.state_pages.JoinedPage.{JoinedPage}

@@ -6,7 +6,7 @@ use Rattle.std.specs.Ptr.{Ptr, lies_at, room_at}
 use base.Fml.{Fml, ftrue, fsep, fex}
 use Rattle.c_calls.specs.Pushes.{PushState}
 use Rattle.c_calls.specs.PagePairs.{PagesState}
-use Rattle.c_calls.specs.contracts.push.Conversion.{the_row}
+use Rattle.c_calls.specs.contracts.push.PushedJob.{the_row}
 use Rattle.c_calls.specs.contracts.state_pages.PagePairs.{the_row as pages_row}
 
 -- a conversion in this state lies there, and nobody else has it

@@ -12,13 +12,13 @@ use Rattle.bridge_engine.specs.declared.job.Job.{Job}
 use Rattle.bridge_engine.specs.declared.job.Job.TheVariants as jobs
 use Rattle.raw_values.specs.Rooms.{StandsIn}
 use Rattle.c_calls.specs.Pending.{released_by}
-use Rattle.c_calls.specs.declared.push.Run.{Run}
-use Rattle.c_calls.specs.declared.push.Run.TheVariants.{Capture, Idle, Stream}
+use Rattle.c_calls.specs.declared.push.PushedRun.{PushedRun}
+use Rattle.c_calls.specs.declared.push.PushedRun.TheVariants.{Capture, Idle, Stream}
 
 -- what contracts see of a conversion
 pub record PushState : Type 0 where
   -- the run that takes the input
-  pub run : Run
+  pub run : PushedRun
   -- all that was written, how many bytes of it were taken, and how many of these are released: the
   -- others are retained
   pub output : List ℕ
@@ -61,7 +61,7 @@ too_many job = 2 ^ 64
 
 -- the run is that of the conversion and continues, these bytes were pushed, and this was written
 -- and reported of them
-abbrev pub IsRunOf : Run → Job → List ℕ → List ℕ → List ℕ → Type 0
+abbrev pub IsRunOf : PushedRun → Job → List ℕ → List ℕ → List ℕ → Type 0
 IsRunOf (Capture run) (jobs.Capture job) bytes output report =
     (run.to ≡ target_of job.to) × (run.week ≡ job.week) × IsCapturePushed run bytes (Some []) (Some output) (Some []) (Some report)
 IsRunOf (Stream run) (jobs.Stream job) bytes output report =
@@ -176,8 +176,8 @@ taken_more s count = record s {
 }
 
 -- so many bytes more were taken of the report
-abbrev pub told_more : PushState → ℕ → PushState
-told_more s count = record s {
+abbrev pub reported_more : PushState → ℕ → PushState
+reported_more s count = record s {
   told = s.told + count;
   report_released = released_by (length s.report) (s.told + count) s.report_released;
 }

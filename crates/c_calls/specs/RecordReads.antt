@@ -5,8 +5,8 @@ use Rattle.rinex_read.specs.Forms.{rinex4}
 use Rattle.rinex_read.specs.Form3.{rinex3}
 use Rattle.rinex_read.specs.declared.judged.ItemRead.{ItemRead}
 use Rattle.rinex_read.specs.declared.judged.ItemRead.TheVariants.{Item, Refused, PassedOver}
-use Rattle.rinex_read.specs.declared.reason.Reason.{Reason}
-use Rattle.rinex_read.specs.declared.reason.Reason.TheVariants.{BadSat, Short, NotANumber, Blank, OutOfRange, NoSuchDate, Week, Fit, EpochStep, EpochFar}
+use Rattle.rinex_read.specs.declared.reason.RecordFault.{RecordFault}
+use Rattle.rinex_read.specs.declared.reason.RecordFault.TheVariants.{BadSat, Short, NotANumber, Blank, OutOfRange, NoSuchDate, Week, Fit, EpochStep, EpochFar}
 use Rattle.raw_values.specs.declared.item_raw.ItemRaw.{ItemRaw}
 use Rattle.raw_values.specs.Items.{raw_item}
 
@@ -19,7 +19,7 @@ abbrev pub read_in : ℕ → List ℕ → ItemRead
 read_in version text = if version == 4 then rinex4.judged 1 (lines_of text) else rinex3.judged 1 (lines_of text)
 
 -- the number of a reason
-abbrev pub reason_status : Reason → ℕ
+abbrev pub reason_status : RecordFault → ℕ
 reason_status BadSat = 32
 reason_status Short = 33
 reason_status NotANumber = 34

@@ -17,8 +17,8 @@ abbrev pub IsHeader : HeaderRaw → Type 0
 IsHeader header = IsTrue (list_all is_shown header.date) × (header.leap < 100)
 
 -- the words of a header are these
-abbrev pub IsSaidBy : HeaderRaw → HeaderWords → Type 0
-IsSaidBy header words = (words.date ≡ header.date) × (words.leap ≡ header.leap)
+abbrev pub IsStatedBy : HeaderRaw → HeaderWords → Type 0
+IsStatedBy header words = (words.date ≡ header.date) × (words.leap ≡ header.leap)
 
 -- columns 1 to 9 of the first line of a file of version 3 or 4
 abbrev pub version_columns : ℕ → List ℕ

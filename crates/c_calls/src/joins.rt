@@ -15,7 +15,7 @@ use crate::page_raw::WordsRaw;
 use crate::subframe_raw::SubframesRaw;
 use nav_bits::U;
 use nav_eph::{GalEph, GpsEph, NavItem, RefWeek, Second, SentTag, System};
-use periods::{Digest, Finding, GalDigest, GpsDigest, Key, Seen};
+use periods::{Digest, Finding, GalDigest, GpsDigest, PeriodKey, Seen};
 use raw_values::reasons::{NO_ITEM, NO_SATELLITE, NO_WEEK};
 use raw_values::{GalRaw, GpsRaw, ItemRaw, SentRaw, gal_of, gps_of, put_item, sat_of};
 
@@ -70,7 +70,7 @@ fn gps_dated(reference: RefWeek, tag: SentTag, e: &GpsEph) -> Finding
         sent: Some((0, tag)),
         toe: None,
     });
-    digest.finding(reference, Key::Gps(e.sat, e.a.iode), None)
+    digest.finding(reference, PeriodKey::Gps(e.sat, e.a.iode), None)
 }
 
 // The same of Galileo.
@@ -85,7 +85,7 @@ fn gal_dated(reference: RefWeek, tag: SentTag, e: &GalEph) -> Finding
     });
     digest.finding(
         reference,
-        Key::Gal(e.sat, e.w1.iodnav),
+        PeriodKey::Gal(e.sat, e.w1.iodnav),
         Some((0, e.health, tag)),
     )
 }

@@ -7,25 +7,25 @@ use std::alloc::Global;
 
 /// What was written. It fails only if out of memory.
 #[derive(Drop)]
-pub struct Kept {
+pub struct GrowingSink {
     /// The bytes that were written.
     pub bytes: Vec<u8>,
     /// How many writes failed.
     pub faults: u64,
 }
 
-impl Kept {
+impl GrowingSink {
     /// Nothing was written.
-    pub fn new(alloc: Global) -> Kept
+    pub fn new(alloc: Global) -> GrowingSink
         ensures bytes { result.bytes.items ≡ [] }
         ensures faults { result.faults ≡ 0 }
     {
         let bytes = Vec::new(alloc);
-        Kept { bytes, faults: 0 }
+        GrowingSink { bytes, faults: 0 }
     }
 }
 
-impl Sink for Kept {
+impl Sink for GrowingSink {
     ghost use Rattle.std.specs.Prelude.{Some};
 
     ghost written = { λ s. Some s.bytes.items };

@@ -14,23 +14,23 @@ use crate::write::row_in;
 use nav_rows::{EncodeFault, Kind, Row, message_of_row};
 use nav_tables::TimeFault;
 use raw_values::reasons::NO_ITEM;
-use rinex_read::Reason;
+use rinex_read::RecordFault;
 
 // The number of the reason why an epoch is none of its kind.
-fn epoch_status(reason: &Reason) -> u32
+fn epoch_status(reason: &RecordFault) -> u32
     ensures { result ≡ reason_status reason.now }
 {
     match reason {
-        Reason::BadSat => 32,
-        Reason::Short => 33,
-        Reason::NotANumber => 34,
-        Reason::Blank => 35,
-        Reason::OutOfRange => 36,
-        Reason::NoSuchDate => 37,
-        Reason::Week => 38,
-        Reason::Fit => 39,
-        Reason::EpochStep => 40,
-        Reason::EpochFar => 41,
+        RecordFault::BadSat => 32,
+        RecordFault::Short => 33,
+        RecordFault::NotANumber => 34,
+        RecordFault::Blank => 35,
+        RecordFault::OutOfRange => 36,
+        RecordFault::NoSuchDate => 37,
+        RecordFault::Week => 38,
+        RecordFault::Fit => 39,
+        RecordFault::EpochStep => 40,
+        RecordFault::EpochFar => 41,
     }
 }
 

@@ -12,7 +12,7 @@ ghost use Rattle.bridge_engine.specs.Job.{GivesJob, IsJob};
 ghost use Rattle.c_calls.specs.Mirrors.{BreaksOff, Ends, EndsShort, GoesOn, KeepsReleased};
 ghost use Rattle.c_calls.specs.Pending.{all_of};
 ghost use Rattle.c_calls.specs.Pushes.{Begins, Finishes, Opens, Pushes, RetainsFew};
-ghost use Rattle.c_calls.specs.Pushes.{Takes, closed, taken_more, told_more};
+ghost use Rattle.c_calls.specs.Pushes.{Takes, closed, taken_more, reported_more};
 
 use crate::pending::Pending;
 use crate::words::{are_texts, texts_of};
@@ -37,14 +37,14 @@ const CLOSED: u32 = 12;
 
 // The run that takes the input.
 #[derive(Drop)]
-enum Run {
+enum PushedRun {
     // There is none: nothing was opened, or the input has ended.
     Idle,
     Capture(CaptureRun),
     Stream(StreamRun),
 }
 
-impl Run {
+impl PushedRun {
     // Pushes a piece of the input, where there is a run.
     fn push(
         &mut self,
@@ -59,9 +59,9 @@ impl Run {
         ensures kept { KeepsReleased self.old output.old output.new report.old report.new }
     {
         match self {
-            Run::Idle => Ok(()),
-            Run::Capture(run) => run.push(piece, output, report),
-            Run::Stream(run) => run.push(piece, output, report),
+            PushedRun::Idle => Ok(()),
+            PushedRun::Capture(run) => run.push(piece, output, report),
+            PushedRun::Stream(run) => run.push(piece, output, report),
         }
     }
 
@@ -74,12 +74,12 @@ impl Run {
         ensures kept { KeepsReleased self output.old output.new report.old report.new }
     {
         match self {
-            Run::Idle => Ok(()),
-            Run::Capture(run) => match run.finish(output, report) {
+            PushedRun::Idle => Ok(()),
+            PushedRun::Capture(run) => match run.finish(output, report) {
                 Ok(_) => Ok(()),
                 Err(fault) => Err(fault),
             },
-            Run::Stream(run) => match run.finish(output, report) {
+            PushedRun::Stream(run) => match run.finish(output, report) {
                 Ok(_) => Ok(()),
                 Err(fault) => Err(fault),
             },
@@ -91,9 +91,9 @@ impl Run {
 ///
 /// It retains what it writes and reports until that is taken.
 #[derive(Drop)]
-pub struct Conversion {
+pub struct PushedJob {
     alloc: Global,
-    run: Run,
+    run: PushedRun,
     output: Pending,
     // how many bytes of those that are retained were taken
     taken: usize,
@@ -103,7 +103,7 @@ pub struct Conversion {
     status: u32,
 }
 
-impl Model for Conversion {
+impl Model for PushedJob {
     ghost use Rattle.std.specs.Prelude.{◌+◌, length};
     ghost use Rattle.c_calls.specs.Pending.{all_of};
     ghost use Rattle.c_calls.specs.Pushes.{IsOfJob, PushState};
@@ -134,12 +134,12 @@ impl Model for Conversion {
 }
 
 /// A conversion that is not open yet.
-pub fn new(alloc: Global) -> Conversion
+pub fn new(alloc: Global) -> PushedJob
     ensures { result ≡ closed }
 {
-    Conversion {
+    PushedJob {
         alloc,
-        run: Run::Idle,
+        run: PushedRun::Idle,
         output: Pending::new(alloc),
         taken: 0,
         report: Pending::new(alloc),
@@ -177,19 +177,19 @@ pub fn job_in(alloc: Global, words: &[&[u8]]) -> Result<Job, Status>
 }
 
 // Begins a job in a closed conversion, in its place: a run is large.
-fn begin(state: &mut Conversion, job: &Job)
+fn begin(state: &mut PushedJob, job: &Job)
     requires { state.old ≡ closed }
     ensures { Begins job.now state.new }
 {
     let alloc = state.alloc;
     match job {
         Job::Capture(job) => {
-            state.run = Run::Capture(CaptureRun::new(alloc, job.week, &job.to));
+            state.run = PushedRun::Capture(CaptureRun::new(alloc, job.week, &job.to));
             state.status = 0;
         }
         Job::Stream(job) => match StreamRun::new(alloc, job.week, &job.to, &mut state.output) {
             Ok(run) => {
-                state.run = Run::Stream(run);
+                state.run = PushedRun::Stream(run);
                 state.status = 0;
             }
             Err(Failed) => {
@@ -204,7 +204,7 @@ fn begin(state: &mut Conversion, job: &Job)
 /// Opens the conversion that the arguments name, whatever was done before, and returns 0; or 2 if
 /// they give no conversion, 6 if out of memory, 9 if an argument is not UTF-8, and 10 if the input
 /// of their conversion cannot be pushed.
-pub fn open(state: &mut Conversion, words: &[&[u8]]) -> u32
+pub fn open(state: &mut PushedJob, words: &[&[u8]]) -> u32
     ensures { Opens (map (λ word. word.now) words.now) state.new result }
 {
     close(state);
@@ -241,7 +241,7 @@ fn answer_of(fault: BridgeFault) -> u32
 /// Pushes a piece of the input, and returns 0; or 5 if the first line of a capture is rejected, 6
 /// if out of memory, and 8 if a capture has 2^32 bytes, or a stream 2^64. Each return but 0 is that
 /// of each further call; if no conversion was opened it is 12, and after `finish` 11.
-pub fn push(state: &mut Conversion, piece: &[u8]) -> u32
+pub fn push(state: &mut PushedJob, piece: &[u8]) -> u32
     ensures { Pushes state.old piece.now state.new result }
 {
     if state.status != 0 {
@@ -261,7 +261,7 @@ pub fn push(state: &mut Conversion, piece: &[u8]) -> u32
 
 /// Ends the input, and returns 0; or 5 or 6 as `push`. Each further call returns 11, or again what
 /// was returned before.
-pub fn finish(state: &mut Conversion) -> u32
+pub fn finish(state: &mut PushedJob) -> u32
     ensures { Finishes state.old state.new result }
 {
     if state.status != 0 {
@@ -269,7 +269,7 @@ pub fn finish(state: &mut Conversion) -> u32
     }
     what_is_written_of_a_stream_stays();
     what_is_written_of_a_capture_stays();
-    let run = std::mem::replace(&mut state.run, Run::Idle);
+    let run = std::mem::replace(&mut state.run, PushedRun::Idle);
     match run.finish(&mut state.output, &mut state.report) {
         Ok(()) => {
             state.status = ENDED;
@@ -295,7 +295,7 @@ fn put_behind(made: &[u8], taken: usize, room: &mut [u8]) -> usize
 
 /// Puts pending output into a buffer, as many bytes as fit, and returns how many. What was taken is
 /// released: at most twice what waits is retained.
-pub fn take(state: &mut Conversion, room: &mut [u8]) -> usize
+pub fn take(state: &mut PushedJob, room: &mut [u8]) -> usize
     ensures takes { Takes state.old.output state.old.taken room.old room.new result }
     ensures state { state.new ≡ taken_more state.old result }
     ensures few { RetainsFew (length state.new.output) state.new.taken state.new.released }
@@ -306,9 +306,9 @@ pub fn take(state: &mut Conversion, room: &mut [u8]) -> usize
 }
 
 /// Puts the pending report into a buffer, as many bytes as fit, and returns how many.
-pub fn take_report(state: &mut Conversion, room: &mut [u8]) -> usize
+pub fn take_report(state: &mut PushedJob, room: &mut [u8]) -> usize
     ensures takes { Takes state.old.report state.old.told room.old room.new result }
-    ensures state { state.new ≡ told_more state.old result }
+    ensures state { state.new ≡ reported_more state.old result }
     ensures few { RetainsFew (length state.new.report) state.new.told state.new.report_released }
 {
     let count = put_behind(&state.report.bytes, state.told, room);
@@ -317,7 +317,7 @@ pub fn take_report(state: &mut Conversion, room: &mut [u8]) -> usize
 }
 
 /// Releases all memory; no conversion is open then.
-pub fn close(state: &mut Conversion)
+pub fn close(state: &mut PushedJob)
     ensures { state.new ≡ closed }
 {
     *state = new(state.alloc);

@@ -7,7 +7,7 @@ ghost use Rattle.c_calls.specs.RecordReads.{IsVersion, PutsRead, read_in, reason
 use crate::text_lines::lines_in;
 use raw_values::reasons::NO_VERSION;
 use raw_values::{ItemRaw, put_item};
-use rinex_read::{FileForm, ItemRead, Reason, Rinex3, Rinex4};
+use rinex_read::{FileForm, ItemRead, RecordFault, Rinex3, Rinex4};
 
 // The record is of another kind.
 const PASSED_OVER: u32 = 42;
@@ -21,20 +21,20 @@ fn read_by<F: FileForm<ItemRead>>(form: &F, text: &[u8]) -> ItemRead
 }
 
 // The number of a reason.
-fn status_of(reason: &Reason) -> u32
+fn status_of(reason: &RecordFault) -> u32
     ensures { result ≡ reason_status reason.now }
 {
     match reason {
-        Reason::BadSat => 32,
-        Reason::Short => 33,
-        Reason::NotANumber => 34,
-        Reason::Blank => 35,
-        Reason::OutOfRange => 36,
-        Reason::NoSuchDate => 37,
-        Reason::Week => 38,
-        Reason::Fit => 39,
-        Reason::EpochStep => 40,
-        Reason::EpochFar => 41,
+        RecordFault::BadSat => 32,
+        RecordFault::Short => 33,
+        RecordFault::NotANumber => 34,
+        RecordFault::Blank => 35,
+        RecordFault::OutOfRange => 36,
+        RecordFault::NoSuchDate => 37,
+        RecordFault::Week => 38,
+        RecordFault::Fit => 39,
+        RecordFault::EpochStep => 40,
+        RecordFault::EpochFar => 41,
     }
 }
 

@@ -8,7 +8,7 @@ ghost use Rattle.rinex_write.specs.Texts3.{item3_lines};
 ghost use Rattle.raw_values.specs.Items.{IsItemIn, item_in};
 ghost use Rattle.raw_values.specs.Rooms.{IsLeft, StandsIn};
 ghost use Rattle.c_calls.specs.RecordReads.{IsVersion};
-ghost use Rattle.c_calls.specs.RecordWrites.{IsHeader, IsSaidBy, PutsRecord, header_text};
+ghost use Rattle.c_calls.specs.RecordWrites.{IsHeader, IsStatedBy, PutsRecord, header_text};
 ghost use Rattle.c_calls.specs.RecordWrites.{is_shown, record_text, version_columns};
 
 use crate::fixed::Fixed;
@@ -76,7 +76,7 @@ fn are_shown(text: &[u8]) -> bool
 // What a header says; `None` where it has bytes below 32 or 100 leap seconds or more.
 fn words_of(header: &HeaderRaw) -> Option<HeaderWords>
     ensures exactly { IsSome result ↔ IsHeader header.now }
-    ensures same { IfSome result (IsSaidBy header.now) }
+    ensures same { IfSome result (IsStatedBy header.now) }
     ensures date { IfSome result (λ words. length words.date ≡ 19) }
 {
     if !are_shown(&header.date) || header.leap >= 100 {
@@ -122,7 +122,7 @@ fn header_of(words: &HeaderWords, version: u32) -> Fixed
 pub fn write_header(header: &HeaderRaw, version: u32, into: &mut [u8], used: &mut usize) -> u32
     ensures status { IsVersion version → IsHeader header.now → result ≡ 0 }
     ensures written { IsVersion version → (words : HeaderWords) → IsHeader header.now
-        → IsSaidBy header.now words
+        → IsStatedBy header.now words
         → StandsIn into.old into.new used.new (header_text version words) }
     ensures none { IsVersion version → (IsHeader header.now → ⊥) →
         (result ≡ 27) × IsLeft into.old into.new used.new }

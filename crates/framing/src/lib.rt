@@ -1,5 +1,5 @@
-//! Frames in streams of bytes: those of RTCM 10403.3, and the messages of receivers' logs (u-blox UBX,
-//! Septentrio SBF).
+//! Frames in streams of bytes: those of RTCM 10403.3, and the messages of receivers' logs (u-blox
+//! UBX, Septentrio SBF).
 //!
 //! Frames of RTCM 10403.3 (the transport layer, section 4): writing one, reading one, and finding
 //! them in a stream of bytes.
@@ -30,7 +30,8 @@
 //! there, the search continues after it, else one byte further. A format defines how messages
 //! begin, their size and their checksum ([`Judge`]). This crate has
 //!
-//! - [`MessageDeframer`], which takes the bytes of a stream in any pieces and gives the messages in them;
+//! - [`MessageDeframer`], which takes the bytes of a stream in any pieces and gives the messages in
+//! them;
 //! - theorems about messages of any format: at which offsets they are, and which are decided while
 //!   more bytes may come;
 //! - [`UbxJudge`]: the sync bytes B5 62, class, ID, a payload length of two bytes (low byte first),

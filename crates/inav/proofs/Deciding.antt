@@ -10,7 +10,7 @@ use Rattle.inav.specs.declared.half.HalfKind.TheVariants.{Even, Odd}
 use Rattle.nav_eph.specs.declared.signal.Signal.{Signal}
 use Rattle.nav_eph.specs.declared.signal.Signal.TheVariants.{E1b, E5b}
 use Rattle.inav.specs.Pages.{kind_of, has_right_crc}
-use Rattle.inav.specs.Heard.{StampedHalf, MakeWord, ArePartners, AreWordsWith, IsAbove, IsAscending, same_system, same_signal, same_sender, same_half, has_half, is_even, makes_word, are_partners, put_half, partners_of, words_of}
+use Rattle.inav.specs.Received.{StampedHalf, MakeWord, ArePartners, AreWordsWith, IsAbove, IsAscending, same_system, same_signal, same_sender, same_half, has_half, is_even, makes_word, are_partners, put_half, partners_of, words_of}
 use Rattle.inav.proofs.Membership.{In, contains_from_In, In-from_contains}
 use Rattle.inav.proofs.PageNumbers.{right_to, right_from}
 use Rattle.inav.proofs.InavPageSurface.{not_both}

@@ -6,7 +6,7 @@ use Rattle.std.specs.Prelude.{Contains, Result, Ok, Err, OnErr}
 use Rattle.std.specs.List.{slice_get, slice_set}
 use Rattle.inav.specs.declared.second.Second.{Second}
 use Rattle.inav.specs.declared.seconds.Seconds.{Seconds}
-use Rattle.inav.specs.Heard.{StampedHalf}
+use Rattle.inav.specs.Received.{StampedHalf}
 use Rattle.inav.specs.Mirrors.{half_of}
 use Rattle.inav.specs.Kept.{keys_held, keys_of, AreSeconds}
 use Rattle.inav.proofs.Membership.{In, contains_from_In, In-from_contains, in_map, map_in}

@@ -4,7 +4,7 @@ use Rattle.std.proofs.lemmas.Bool.{true≢false}
 use Rattle.inav.specs.declared.half.HalfKind.{HalfKind}
 use Rattle.inav.specs.declared.half.HalfKind.TheVariants.{Even, Odd}
 use Rattle.inav.specs.Pages.{kind_of}
-use Rattle.inav.specs.Heard.{StampedHalf, IsAbove, IsAscending, AreWordsWith, IsHeard, IsHeardWith, word_with}
+use Rattle.inav.specs.Received.{StampedHalf, IsAbove, IsAscending, AreWordsWith, IsReceived, IsReceivedWith, word_with}
 use Rattle.inav.proofs.Membership.{In, contains_from_In, In-from_contains}
 pub use Rattle.inav.proofs.PageNumbers.{only_parts, parts_split}
 
@@ -64,7 +64,7 @@ one_list_of among taken words more a b =
 -- ---- one more page part
 
 pub heard_with_one_more : (among : StampedHalf → Type 0) (taken even odd : StampedHalf)
-    → IsHeard (λ half. (taken ≡ half) ⊎ among half) even odd ↔ (IsHeard among even odd ⊎ IsHeardWith among taken even odd)
+    → IsReceived (λ half. (taken ≡ half) ⊎ among half) even odd ↔ (IsReceived among even odd ⊎ IsReceivedWith among taken even odd)
 heard_with_one_more among taken even odd = (
   λ h. ⊎_elim
       (λ (first : taken ≡ even). ⊎_elim
@@ -77,8 +77,8 @@ heard_with_one_more among taken even odd = (
       h.odd_among)
       h.even_among,
   λ h. ⊎_elim
-      (λ (was : IsHeard among even odd). record { even_among = inr was.even_among; odd_among = inr was.odd_among; make = was.make })
-      (λ (new : IsHeardWith among taken even odd). ⊎_elim
+      (λ (was : IsReceived among even odd). record { even_among = inr was.even_among; odd_among = inr was.odd_among; make = was.make })
+      (λ (new : IsReceivedWith among taken even odd). ⊎_elim
       (λ (first : (taken ≡ even) × among odd). record { even_among = inl first.0; odd_among = inr first.1; make = new.0 })
       (λ (second : among even × (taken ≡ odd)). record { even_among = inr second.0; odd_among = inl second.1; make = new.0 })
       new.1)
@@ -87,7 +87,7 @@ heard_with_one_more among taken even odd = (
 
 -- words received stay where page parts are added
 pub still_heard : (among more : StampedHalf → Type 0) (even odd : StampedHalf)
-    → ((half : StampedHalf) → among half → more half) → IsHeard among even odd → IsHeard more even odd
+    → ((half : StampedHalf) → among half → more half) → IsReceived among even odd → IsReceived more even odd
 still_heard among more even odd all h = record {
   even_among = all even h.even_among;
   odd_among = all odd h.odd_among;

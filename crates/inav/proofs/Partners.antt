@@ -16,7 +16,7 @@ use Rattle.inav.specs.declared.half.HalfKind.TheVariants.{Even, Odd}
 use Rattle.nav_eph.specs.declared.signal.Signal.{Signal}
 use Rattle.nav_eph.specs.declared.signal.Signal.TheVariants.{E1b, E5b}
 use Rattle.inav.specs.Pages.{kind_of}
-use Rattle.inav.specs.Heard.{StampedHalf, MakeWord, ArePartners, AreWordsWith, IsAbove, IsAscending, word_by, word_with}
+use Rattle.inav.specs.Received.{StampedHalf, MakeWord, ArePartners, AreWordsWith, IsAbove, IsAscending, word_by, word_with}
 use Rattle.inav.specs.Keeping.{stamped}
 use Rattle.inav.specs.Mirrors.{signal_number, signal_of, place_of, bucket_of, half_of, remainder_by, remainder_of, is_right_by, other_kind, key_cmp, first_partner, end_of_partners, keys_in_bucket, words_by, words_in_bucket, AreKeys, AreWordsIn, HasPartnerStamp, IsKey, IsPartnerAt}
 use Rattle.inav.specs.Kept.{IsSecondOf}

@@ -10,7 +10,7 @@ use Rattle.nav_eph.specs.declared.signal.Signal.{Signal}
 use Rattle.inav.specs.declared.half.HalfKind.{HalfKind}
 use Rattle.inav.specs.declared.half.HalfKind.TheVariants.{Even, Odd}
 use Rattle.inav.specs.Pages.{kind_of}
-use Rattle.inav.specs.Heard.{IsAbove, IsAscending, word_by}
+use Rattle.inav.specs.Received.{IsAbove, IsAscending, word_by}
 use Rattle.inav.specs.Keeping.{stamped}
 use Rattle.inav.specs.Mirrors.{half_of, place_of, lane_of, number_of, remainder_of, bucket_of, is_right_by, other_kind, first_number, key_at, keys_shown, words_of_numbers, AreWordsIn, IsKey, IsPartnerAt, Rises}
 use Rattle.inav.proofs.Membership.{contains_from_In, In-from_contains, contains_cons, filter_in, in_filter, in_map, map_in}

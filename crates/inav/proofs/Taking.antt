@@ -3,7 +3,7 @@ use Rattle.std.proofs.Common.{◌≡◌, ℕ, ◌+◌, ◌<◌, List, ◌⊎◌,
 use Rattle.std.specs.Prelude.{Contains, Result, Ok, Err, IfOk, OnOk}
 use Rattle.nav_eph.specs.Satellite.{Satellite}
 use Rattle.nav_eph.specs.declared.sat.System.TheVariants.{Gal}
-use Rattle.inav.specs.Heard.{StampedHalf}
+use Rattle.inav.specs.Received.{StampedHalf}
 use Rattle.inav.specs.Keeping.{IsRecent}
 use Rattle.inav.specs.declared.seconds.Seconds.{Seconds}
 use Rattle.inav.specs.Mirrors.{half_of, IsKey, AreKeys}

@@ -22,7 +22,7 @@ use Rattle.inav.specs.declared.parts.WordParts.{WordParts}
 use Rattle.inav.specs.Reading.{all_parts, health_of, ion_of, is_sisa, orbit1_of, orbit2_of, orbit3_of, orbit4_of, reading, reading_of, word_in}
 use Rattle.inav.specs.Words.{word1_at, word2_at, word3_at, word4_at, word5_at}
 
-record IsHeardPart (sat : Satellite) (stamp : ℕ) (p : Part) : Type 0 where
+record IsReceivedPart (sat : Satellite) (stamp : ℕ) (p : Part) : Type 0 where
   at : p.stamp ≡ stamp
   from : p.sat ≡ sat
   value : IsBodyValue p.body
@@ -30,9 +30,9 @@ record IsHeardPart (sat : Satellite) (stamp : ℕ) (p : Part) : Type 0 where
   system : system_of p.body ≡ Gal
   week : HasGpsWeek p.body
 
-abbrev AreHeard : Satellite → ℕ → Result WordParts WordFault → Type 0
-AreHeard sat stamp (Ok parts) = IsHeardPart sat stamp parts.first × IfSome parts.second (IsHeardPart sat stamp)
-AreHeard sat stamp (Err fault) = Unit {0}
+abbrev AreWordsReceived : Satellite → ℕ → Result WordParts WordFault → Type 0
+AreWordsReceived sat stamp (Ok parts) = IsReceivedPart sat stamp parts.first × IfSome parts.second (IsReceivedPart sat stamp)
+AreWordsReceived sat stamp (Err fault) = Unit {0}
 
 -- the fields of a word are within their widths in bits; those that are tested, after the test
 abbrev Fits : Word → Type 0
@@ -120,18 +120,18 @@ word_fits bits =
     cond_both (nat_eq n 3) _ _ Fits (λ e. three_fits bits) (λ e. cond_both (nat_eq n 4) _ _ Fits (λ e. four_fits bits) (λ e.
     cond_both (nat_eq n 5) _ _ Fits (λ e. five_fits bits) (λ e. tt)))))
 
-heard_word : (sat : Satellite) (stamp : ℕ) (word : Word) → Fits word → AreHeard sat stamp (reading sat stamp word)
+heard_word : (sat : Satellite) (stamp : ℕ) (word : Word) → Fits word → AreWordsReceived sat stamp (reading sat stamp word)
 heard_word sat stamp (One w) fits =
-    cond_both (nat_lt w.toe 10080) _ _ (AreHeard sat stamp) (λ e. (record { at = refl; from = refl; value = tt; ranges = fits (ltb-true w.toe 10080 e); system = refl; week = tt }, tt)) (λ e. tt)
+    cond_both (nat_lt w.toe 10080) _ _ (AreWordsReceived sat stamp) (λ e. (record { at = refl; from = refl; value = tt; ranges = fits (ltb-true w.toe 10080 e); system = refl; week = tt }, tt)) (λ e. tt)
 heard_word sat stamp (Two w) fits = (record { at = refl; from = refl; value = tt; ranges = fits; system = refl; week = tt }, tt)
 heard_word sat stamp (Three w) fits =
-    cond_both (is_sisa w.sisa) _ _ (AreHeard sat stamp) (λ e. (record { at = refl; from = refl; value = tt; ranges = fits (sisa_is w.sisa e); system = refl; week = tt }, tt)) (λ e. tt)
+    cond_both (is_sisa w.sisa) _ _ (AreWordsReceived sat stamp) (λ e. (record { at = refl; from = refl; value = tt; ranges = fits (sisa_is w.sisa e); system = refl; week = tt }, tt)) (λ e. tt)
 heard_word sat stamp (Four w) fits =
-    cond_both (nat_eq w.svid sat.number) _ _ (AreHeard sat stamp)
-    (λ named. cond_both (nat_lt w.toc 10080) _ _ (AreHeard sat stamp) (λ e. (record { at = refl; from = refl; value = tt; ranges = fits (ltb-true w.toc 10080 e); system = refl; week = tt }, tt)) (λ e. tt))
+    cond_both (nat_eq w.svid sat.number) _ _ (AreWordsReceived sat stamp)
+    (λ named. cond_both (nat_lt w.toc 10080) _ _ (AreWordsReceived sat stamp) (λ e. (record { at = refl; from = refl; value = tt; ranges = fits (ltb-true w.toc 10080 e); system = refl; week = tt }, tt)) (λ e. tt))
     (λ e. tt)
 heard_word sat stamp (Five w) fits =
-    cond_both (nat_lt w.tow 604800) _ _ (AreHeard sat stamp)
+    cond_both (nat_lt w.tow 604800) _ _ (AreWordsReceived sat stamp)
     (λ e. let second : w.tow < 604800 = ltb-true w.tow 604800 e in (
       record { at = refl; from = refl; value = (fits.0, (fits.2, second)); ranges = fits.0; system = refl; week = tt },
       record { at = refl; from = refl; value = (fits.1, second); ranges = fits.1; system = refl; week = tt },
@@ -139,11 +139,11 @@ heard_word sat stamp (Five w) fits =
     (λ e. tt)
 heard_word sat stamp (Other number) fits = tt
 
-heard : (bits : List ℕ) (sat : Satellite) (stamp : ℕ) (parts : WordParts) → reading_of bits sat stamp ≡ Ok parts → AreHeard sat stamp (Ok parts)
-heard bits sat stamp parts e = subst (AreHeard sat stamp) e (heard_word sat stamp (word_in bits) (word_fits bits))
+heard : (bits : List ℕ) (sat : Satellite) (stamp : ℕ) (parts : WordParts) → reading_of bits sat stamp ≡ Ok parts → AreWordsReceived sat stamp (Ok parts)
+heard bits sat stamp parts e = subst (AreWordsReceived sat stamp) e (heard_word sat stamp (word_in bits) (word_fits bits))
 
-each : (P : Part → Type 0) (sat : Satellite) (stamp : ℕ) (first : Part) (second : Option Part) → ((p : Part) → IsHeardPart sat stamp p → P p)
-    → AreHeard sat stamp (Ok (record { first = first; second = second })) → All P (all_parts (record { first = first; second = second }))
+each : (P : Part → Type 0) (sat : Satellite) (stamp : ℕ) (first : Part) (second : Option Part) → ((p : Part) → IsReceivedPart sat stamp p → P p)
+    → AreWordsReceived sat stamp (Ok (record { first = first; second = second })) → All P (all_parts (record { first = first; second = second }))
 each P sat stamp first None f h = let one : AllByRecursion P (first ∷ []) = (f first h.0, tt) in All-from_recursion P (first ∷ []) one
 each P sat stamp first (Some second) f h = let two : AllByRecursion P (first ∷ second ∷ []) = (f first h.0, (f second h.1, tt)) in All-from_recursion P (first ∷ second ∷ []) two
 

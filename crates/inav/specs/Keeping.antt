@@ -2,7 +2,7 @@
 use Rattle.std.specs.Prelude.{◌≡◌, ℕ, ◌+◌, ◌%◌, ◌≤◌, ◌⊎◌, List, Contains}
 use Rattle.nav_eph.specs.Satellite.{Satellite}
 use Rattle.nav_eph.specs.declared.signal.Signal.{Signal}
-use Rattle.inav.specs.Heard.{StampedHalf}
+use Rattle.inav.specs.Received.{StampedHalf}
 
 -- what contracts see: the window in seconds, the greatest time tag taken (0 before the first), the
 -- stored page parts, and all allocated ones: those stored, and those too old but not freed yet

@@ -1,5 +1,5 @@
 pub mod Pages
-pub mod Heard
+pub mod Received
 pub mod Keeping
 pub mod Mirrors
 pub mod Kept

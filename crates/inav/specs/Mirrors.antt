@@ -13,7 +13,7 @@ use Rattle.inav.specs.declared.half.HalfKind.TheVariants.{Even, Odd}
 use Rattle.nav_eph.specs.declared.signal.Signal.{Signal}
 use Rattle.nav_eph.specs.declared.signal.Signal.TheVariants.{E1b, E5b}
 use Rattle.inav.specs.Pages.{bits_at, has_right_crc, kind_of, page_crc}
-use Rattle.inav.specs.Heard.{StampedHalf, IsAscending, word_by}
+use Rattle.inav.specs.Received.{StampedHalf, IsAscending, word_by}
 
 -- the number of a signal in the order of signals
 abbrev pub signal_number : Signal → ℕ

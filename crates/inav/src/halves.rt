@@ -5,7 +5,7 @@ ghost use Rattle.std.specs.Prelude.{max};
 ghost use Rattle.std.specs.Prelude.{Contains};
 ghost use Rattle.nav_eph.specs.declared.sat.System.TheVariants.{Gal};
 ghost use Rattle.inav.specs.Pages.{kind_of};
-ghost use Rattle.inav.specs.Heard.{AreWordsWith, stamp_by, StampedHalf};
+ghost use Rattle.inav.specs.Received.{AreWordsWith, stamp_by, StampedHalf};
 ghost use Rattle.inav.specs.Keeping.{stamped, HoldsOneSecond, IsKeptWith};
 
 use crate::half::Half;

@@ -4,7 +4,7 @@ ghost use Rattle.std.specs.Prelude.{◌≡◌, ℕ, ◌+◌, ◌<◌, ◌≤◌,
 ghost use Rattle.std.specs.Prelude.{OnErr, OnOk, [], length, map, max, Contains};
 ghost use Rattle.nav_eph.specs.declared.sat.System.TheVariants.{Gal};
 ghost use Rattle.inav.specs.Pages.{kind_of};
-ghost use Rattle.inav.specs.Heard.{AreWordsWith, stamp_by};
+ghost use Rattle.inav.specs.Received.{AreWordsWith, stamp_by};
 ghost use Rattle.inav.specs.Keeping.{stamped};
 ghost use Rattle.inav.specs.Mirrors.{half_of, HasPartnerStamp};
 ghost use Rattle.inav.specs.Kept.{keys_held, keys_in, AreSeconds, HoldsKey, PutsKey};

@@ -17,7 +17,7 @@ use std::ops::Range;
 
 // The bucket of a page part (the number of its stamp, satellite and signal, followed by its CRC
 // remainder), and its bits.
-pub(crate) type Key = (u64, u128);
+pub(crate) type PageKey = (u64, u128);
 
 // The bucket of a stamp, the number of a satellite and signal, and a CRC remainder.
 pub(crate) fn bucket(stamp: u32, lane: u64, remainder: u64) -> u64
@@ -30,7 +30,7 @@ pub(crate) fn bucket(stamp: u32, lane: u64, remainder: u64) -> u64
 }
 
 // The key of the page part with this number in the second of a stamp.
-pub(crate) fn key_of(stamp: u32, number: u128) -> Key
+pub(crate) fn key_of(stamp: u32, number: u128) -> PageKey
     ensures { result ≡ key_at stamp number }
 {
     let lane = (number / (1 << 120)) as u64;
@@ -39,7 +39,7 @@ pub(crate) fn key_of(stamp: u32, number: u128) -> Key
 }
 
 // Inserts a key, and says whether it was there.
-pub(crate) fn put_key(keys: &mut BTreeSet<Key>, key: Key) -> Result<bool, AllocError>
+pub(crate) fn put_key(keys: &mut BTreeSet<PageKey>, key: PageKey) -> Result<bool, AllocError>
     ensures there { IfOk result (λ there. IsTrue there ↔ Contains keys.old.keys key) }
     ensures keys { OnOk result ((other : ℕ × ℕ) → Contains keys.new.keys other ↔
         (Contains keys.old.keys other ⊎ (key ≡ other))) }
@@ -55,7 +55,7 @@ pub(crate) fn tree_of(
     alloc: Global,
     stamp: u32,
     numbers: &[u128],
-) -> Result<BTreeSet<Key>, AllocError>
+) -> Result<BTreeSet<PageKey>, AllocError>
     ensures keys { IfOk result (λ keys. (other : ℕ × ℕ) → Contains keys.keys other ↔
         Contains (map (key_at stamp) numbers.now) other) }
     ensures room { IfOk result (λ keys. length keys.keys ≤ length numbers.now) }
@@ -68,7 +68,7 @@ pub(crate) fn tree_of(
 }
 
 // The range of the page parts of the other kind in a bucket.
-fn others_in(bucket: u64, kind: HalfKind) -> Range<Key>
+fn others_in(bucket: u64, kind: HalfKind) -> Range<PageKey>
     requires { bucket < 2 ^ 63 }
     ensures start { result.start ≡ first_partner bucket kind }
     ensures end { result.end ≡ end_of_partners bucket kind }
@@ -82,7 +82,7 @@ fn others_in(bucket: u64, kind: HalfKind) -> Range<Key>
 // The words of a page part with those stored in a bucket.
 pub(crate) fn words_with(
     alloc: Global,
-    kept: &BTreeSet<Key>,
+    kept: &BTreeSet<PageKey>,
     bucket: u64,
     half: &Half,
 ) -> Result<Vec<Bits<16>>, AllocError>

@@ -7,9 +7,9 @@ ghost use Rattle.nav_bits.specs.Packed.{AreBytes};
 ghost use Rattle.inav.specs.declared.half.HalfKind.TheVariants.{Even, Odd};
 ghost use Rattle.inav.specs.Pages.{bytes_of_half, bits_at, even_of, has_right_crc, kept_of};
 ghost use Rattle.inav.specs.Pages.{kind_of, odd_of, word_of, HasRightCrc, IsHalf, IsSplit};
-ghost use Rattle.inav.specs.Heard.{StampedHalf, ArePartners, AreWordsWith, IsHeard};
-ghost use Rattle.inav.specs.Heard.{IsHeardWith};
-ghost use Rattle.inav.specs.Heard.{MakeWord, are_partners, has_half, makes_word, words_of};
+ghost use Rattle.inav.specs.Received.{StampedHalf, ArePartners, AreWordsWith, IsReceived};
+ghost use Rattle.inav.specs.Received.{IsReceivedWith};
+ghost use Rattle.inav.specs.Received.{MakeWord, are_partners, has_half, makes_word, words_of};
 
 /// The bits of a page part, as a number, are those of its bytes.
 pub fn parts_are_their_bits()
@@ -67,8 +67,8 @@ pub fn one_list_of_words()
 {}
 
 /// One more page part adds exactly the words that it makes with its partners.
-pub fn words_heard_with_one_more()
+pub fn words_received_with_one_more()
     ensures { (kept : List StampedHalf) (taken even odd : StampedHalf) →
-        IsHeard (Contains (taken ∷ kept)) even odd ↔
-        (IsHeard (Contains kept) even odd ⊎ IsHeardWith (Contains kept) taken even odd) }
+        IsReceived (Contains (taken ∷ kept)) even odd ↔
+        (IsReceived (Contains kept) even odd ⊎ IsReceivedWith (Contains kept) taken even odd) }
 {}

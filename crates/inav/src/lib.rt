@@ -72,7 +72,7 @@ pub use crate::joined::Joined;
 pub use crate::laws::{
     halves_are_decided, halves_are_read_again, halves_are_the_functions, one_list_of_words,
     parts_are_their_bits, right_crc_is_decided, split_is_a_word, words_are_the_function,
-    words_heard_with_one_more,
+    words_received_with_one_more,
 };
 pub use crate::page::{join, split};
 pub use crate::parts::WordParts;

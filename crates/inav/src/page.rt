@@ -6,7 +6,7 @@ ghost use Rattle.nav_bits.specs.Bits.{number_at};
 ghost use Rattle.inav.specs.declared.half.HalfKind.TheVariants.{Even, Odd};
 ghost use Rattle.inav.specs.Pages.{bits_at, even_of, has_right_crc, kind_of, odd_of};
 ghost use Rattle.inav.specs.Pages.{page_crc, word_of, HasRightCrc, IsHalf, IsSplit};
-ghost use Rattle.inav.specs.Heard.{word_by};
+ghost use Rattle.inav.specs.Received.{word_by};
 ghost use Rattle.inav.specs.Mirrors.{is_right_by, remainder_of};
 
 use crate::half::{Half, HalfKind, ODD};

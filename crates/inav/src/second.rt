@@ -8,7 +8,7 @@ ghost use Rattle.inav.specs.Mirrors.{key_at, place_of, AreKeys, AreWordsIn};
 ghost use Rattle.inav.specs.Kept.{keys_of};
 
 use crate::half::{Half, ODD};
-use crate::keys::{Key, bucket, key_of, put_key, tree_of, words_with};
+use crate::keys::{PageKey, bucket, key_of, put_key, tree_of, words_with};
 use crate::numbers::{between, first_other, lane, only, put_number, words_among};
 use crate::page::remainder;
 use nav_bits::Bits;
@@ -27,7 +27,7 @@ pub(crate) struct Second {
     // All of them, while they are few.
     few: Vec<u128>,
     // All of them, once they were more; empty before.
-    many: BTreeSet<Key>,
+    many: BTreeSet<PageKey>,
 }
 
 impl Model for Second {

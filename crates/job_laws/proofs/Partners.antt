@@ -4,7 +4,7 @@ use Rattle.nav_eph.specs.Satellite.{Satellite}
 use Rattle.inav.specs.declared.half.HalfKind.{HalfKind}
 use Rattle.inav.specs.declared.half.HalfKind.TheVariants.{Even, Odd}
 use Rattle.inav.specs.Pages.{kind_of}
-use Rattle.inav.specs.Heard.{StampedHalf, MakeWord, ArePartners, AreWordsWith, IsAbove, IsAscending, stamp_by, word_with}
+use Rattle.inav.specs.Received.{StampedHalf, MakeWord, ArePartners, AreWordsWith, IsAbove, IsAscending, stamp_by, word_with}
 use Rattle.inav.specs.Reading.{reading_of}
 use Rattle.capture_log.specs.Events.{of_word, of_words}
 use Rattle.capture_log.specs.declared.event.Event.{Event}

@@ -6,7 +6,7 @@ use Rattle.capture_lines.specs.declared.item.LineItem.{LineItem}
 use Rattle.periods.specs.PeriodsOf.{periods_of}
 use Rattle.periods.specs.declared.closed.Closed.{Closed}
 use Rattle.capture_log.specs.Events.{item_line}
-use Rattle.capture_log.specs.Heard.{NoneLate, SameItems}
+use Rattle.capture_log.specs.Received.{NoneLate, SameItems}
 use Rattle.capture_log.specs.Log.{line_items_of, parts_of}
 use Rattle.capture_log.proofs.Surface.{contains_from_in, in_from_contains, in_map, map_in}
 use Rattle.streams.specs.Targets.{prefix_text}

@@ -150,7 +150,7 @@ static PREFIXES: [Prefix; 26] = [
 ];
 
 #[test]
-fn prefixes_tell_forms(rt: HostRuntime) {
+fn prefixes_decide_formats(rt: HostRuntime) {
     for prefix in &PREFIXES {
         let read = kind_text(kind_of(prefix.bytes));
         assert_eq!(rt; read, kind_text(prefix.kind), "{}", prefix.name);
@@ -212,7 +212,7 @@ fn is_told(alloc: Global, bytes: &[u8], kind: Kind) -> Result<bool, AllocError> 
 }
 
 #[test]
-fn logs_that_are_cut_tell_forms(rt: HostRuntime) -> Result<(), Fail> {
+fn logs_that_are_cut_decide_formats(rt: HostRuntime) -> Result<(), Fail> {
     for log in &LOGS {
         for cut in 0..40 {
             if cut <= log.last {

@@ -1,5 +1,5 @@
-//! Broadcast ephemerides and ionosphere parameters of GPS and Galileo as integers, with their weeks and
-//! times.
+//! Broadcast ephemerides and ionosphere parameters of GPS and Galileo as integers, with their weeks
+//! and times.
 //!
 //! Week numbers, GPS times and calendar dates.
 //!

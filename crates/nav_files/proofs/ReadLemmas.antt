@@ -12,7 +12,7 @@ use Rattle.nav_eph.specs.declared.items.NavItem.{NavItem}
 use Rattle.nav_eph.specs.declared.items.NavItem.TheVariants as kinds
 use Rattle.rinex_read.specs.Forms.{Form}
 use Rattle.rinex_read.specs.Files.{file_reads, items_of}
-use Rattle.rinex_read.specs.Lines.{told_lines}
+use Rattle.rinex_read.specs.Lines.{lines_stated}
 use Rattle.rinex_read.specs.States.{BreaksRecord, GivesNone, GivesRead, GivesRecord, HeaderSteps, IsNew, MayCome, PassesHeader, RecordsState, Steps, file_by, file_to_come, held_count, lines_left, records_to_come}
 use Rattle.rinex_read.specs.declared.judged.HeaderFault.{HeaderFault}
 use Rattle.rinex_read.specs.declared.judged.HeaderState.{HeaderState}

@@ -20,7 +20,7 @@ use rinex_read::ItemRead;
 use streams::Target;
 
 // Writes the item of a record, or reports why the record is refused.
-fn tell_read<T: Sink, U: Sink>(
+fn report_item<T: Sink, U: Sink>(
     to: &Target,
     read: &ItemRead,
     output: &mut T,
@@ -90,7 +90,7 @@ impl Taker<ItemRead> for Target {
         output: &mut T,
         report: &mut U,
     ) -> Result<(), BridgeFault> {
-        tell_read(self, read, output, report)?;
+        report_item(self, read, output, report)?;
         count_read(read, state);
         Ok(())
     }

@@ -15,11 +15,12 @@ ghost use Rattle.nav_files.specs.Files.{convert_meaning};
 ghost use Rattle.rinex_read.specs.declared.judged.ItemRead.{ItemRead};
 ghost use Rattle.sent_captures.specs.Sendable.{sendable, slots_items};
 ghost use Rattle.sent_captures.specs.Slots.{text_of_items};
-ghost use Rattle.nav_files.specs.Sends.{told_text, tolds};
+ghost use Rattle.nav_files.specs.Sends.{outcome_text, send_outcomes};
 
 /// What is written record by record is the capture that transmits the items of the records.
 pub fn what_is_written_is_the_sent_text()
-    ensures { (r slot : ℕ) (reads : List ItemRead) → flat_map told_text (tolds r slot reads)
+    ensures { (r slot : ℕ) (reads : List ItemRead)
+        → flat_map outcome_text (send_outcomes r slot reads)
         ≡ text_of_items (slots_items slot (sendable r slot (items_of reads))) }
 {}
 

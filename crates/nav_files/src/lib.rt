@@ -1,4 +1,5 @@
-//! Runs over RINEX navigation files: converted, transmitted, merged, compared, and the times covered.
+//! Runs over RINEX navigation files: converted, transmitted, merged, compared, and the times
+//! covered.
 //!
 //! The runs over RINEX navigation files: converted, transmitted, merged, and the times that they
 //! cover.
@@ -69,6 +70,7 @@ mod merge_records;
 mod names;
 mod numbers;
 mod ordered;
+mod outcome;
 mod read;
 mod records;
 mod runs;
@@ -79,7 +81,6 @@ mod sent_records;
 mod taker;
 mod target;
 mod texts;
-mod told;
 mod walk;
 
 pub use crate::counts::RinexCounts;
@@ -90,11 +91,11 @@ pub use crate::file_items::FileItems;
 pub use crate::files::{run_rinex, run_rinex3};
 pub use crate::laws::{what_is_written_is_the_sent_text, what_is_written_is_the_text_of_a_list};
 pub use crate::merge_counts::MergeCounts;
+pub use crate::outcome::SendOutcome;
 pub use crate::read::read_items;
 pub use crate::records::reason_word;
 pub use crate::runs::{run_cover, run_merge};
 pub use crate::send::{send_rinex, send_rinex3};
 pub use crate::taker::{Taker, run_file};
 pub use crate::target::RinexTo;
-pub use crate::told::Told;
 pub use crate::walk::write_differences;

@@ -58,8 +58,8 @@ pub record AreTurned (parts : List Part) : Type 0 where
   pub earlier : ionosphere.stamp < word.stamp
 
 -- each part of the first lines is received of the second, at whichever second of its slot
-abbrev pub IsHeardAgain : List Line → List Line → Type 0
-IsHeardAgain sent received =
+abbrev pub IsReceivedAgain : List Line → List Line → Type 0
+IsReceivedAgain sent received =
     (q : Part) → Contains (parts_of 7200 sent) q → (p : Part) × Contains (parts_of 7200 received) p × IsSentAgain p q
 
 -- the item of a line, with a later time tag

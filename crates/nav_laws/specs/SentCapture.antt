@@ -18,5 +18,5 @@ IsOfLines some other =
     (item : LineItem) (s : ℕ) → stamp_of item ≡ Some s → Contains (line_items_of some) item → Contains (line_items_of other) item
 
 -- each part received in the first is received in the second, with a window of 7,200 s
-abbrev pub IsStillHeard : List Line → List Line → Type 0
-IsStillHeard some other = (part : Part) → Contains (parts_of 7200 some) part → Contains (parts_of 7200 other) part
+abbrev pub IsStillReceived : List Line → List Line → Type 0
+IsStillReceived some other = (part : Part) → Contains (parts_of 7200 some) part → Contains (parts_of 7200 other) part

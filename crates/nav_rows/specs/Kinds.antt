@@ -163,10 +163,10 @@ has_columns (Weeks c) links =
 has_columns (Daily step) links = true
 
 -- each field from k on is said by a link or constant
-abbrev pub are_said : List Part → List Link → ℕ → List TableField → Bool
-are_said parts links k [] = true
-are_said parts links k (f ∷ fs) =
-    (say parts links k || int_le f.high f.low) && are_said parts links (suc k) fs
+abbrev pub are_stated : List Part → List Link → ℕ → List TableField → Bool
+are_stated parts links k [] = true
+are_stated parts links k (f ∷ fs) =
+    (say parts links k || int_le f.high f.low) && are_stated parts links (suc k) fs
 
 abbrev pub has_weeks : Clock → Bool
 has_weeks Frame = false
@@ -176,7 +176,7 @@ has_weeks (Daily step) = false
 -- the columns, the satellite and the times of a record say all of its message
 abbrev pub is_whole : Kind → Bool
 is_whole k =
-    has_weeks k.clock && are_said k.parts.now (all_links k.clock k.links.now) 0 k.table.fields.now
+    has_weeks k.clock && are_stated k.parts.now (all_links k.clock k.links.now) 0 k.table.fields.now
 
 -- records that may lack the last of five lines have five
 abbrev pub is_long : Bool → ℕ → Bool

@@ -11,7 +11,7 @@ use Rattle.nav_rows.specs.declared.times.RowTimes.{RowTimes}
 use Rattle.nav_rows.specs.declared.row.Row.{Row}
 use Rattle.nav_rows.specs.declared.row.RowFault.{RowFault}
 use Rattle.nav_rows.specs.declared.row.RowFault.TheVariants.{Message, SpareSisa, Day}
-use Rattle.nav_rows.specs.Times.{number, times_told}
+use Rattle.nav_rows.specs.Times.{number, times_stated}
 
 -- the SISA index is one of 126 to 254
 abbrev pub has_spare_sisa : Option ℕ → List ℤ → Bool
@@ -47,7 +47,7 @@ abbrev pub row_by : Kind → ℕ → Result (List ℤ) TableFault → Result Row
 row_by k r (Err fault) = Err (Message fault)
 row_by k r (Ok numbers)
     = if has_spare_sisa k.sisa numbers then Err SpareSisa else row_at k numbers
-    (times_told k.clock numbers r)
+    (times_stated k.clock numbers r)
 
 -- the records of a kind
 abbrev pub record_kind : Kind → RowKind

@@ -46,10 +46,10 @@ weekly c numbers r = times_in_week c (week_to c.rule r (number numbers c.week))
     (number numbers c.toe) (number numbers c.toc)
 
 -- the times of a message near reference week r
-abbrev pub times_told : Clock → List ℤ → ℕ → Option RowTimes
-times_told Frame numbers r = framed (times_to (frame_of numbers) r)
-times_told (Weeks c) numbers r = Some (weekly c numbers r)
-times_told (Daily step) numbers r = None
+abbrev pub times_stated : Clock → List ℤ → ℕ → Option RowTimes
+times_stated Frame numbers r = framed (times_to (frame_of numbers) r)
+times_stated (Weeks c) numbers r = Some (weekly c numbers r)
+times_stated (Daily step) numbers r = None
 
 -- the ranges of what records tell of these times
 pub record IsGiven (clock : Clock) (t : RowTimes) : Type 0 where

@@ -11,7 +11,7 @@ ghost use Rattle.nav_rows.specs.Rows.{SisaInside, body_text, given_of, has_spare
 ghost use Rattle.nav_rows.specs.Rows.{record_text, row_in, value};
 
 use crate::kind::Kind;
-use crate::times::{RowTimes, times_told};
+use crate::times::{RowTimes, times_stated};
 use arrayvec::ArrayVec;
 use nav_eph::{Moment, RefWeek};
 use nav_io::{Failed, Sink};
@@ -82,7 +82,7 @@ pub fn row_of_message(kind: &Kind, payload: &[u8], reference: RefWeek) -> Result
     if has_spare_sisa(kind.sisa, numbers.as_slice()) {
         return Err(RowFault::SpareSisa);
     }
-    let Some(times) = times_told(&kind.clock, numbers.as_slice(), reference) else {
+    let Some(times) = times_stated(&kind.clock, numbers.as_slice(), reference) else {
         return Err(RowFault::Day);
     };
     let given = given_of(&times);

@@ -8,7 +8,7 @@ ghost use Rattle.nav_tables.specs.Times.{IsFrameTime, times_to};
 ghost use Rattle.nav_rows.specs.declared.kind.Clock.TheVariants.{Frame, Weeks};
 ghost use Rattle.nav_rows.specs.Kinds.{is_week_clock};
 ghost use Rattle.nav_rows.specs.Times.{HasFrame, HasTimes, HasWeek, IsGiven, IsNumber, frame_of};
-ghost use Rattle.nav_rows.specs.Times.{framed, times_told, weekly};
+ghost use Rattle.nav_rows.specs.Times.{framed, times_stated, weekly};
 
 use crate::kind::{Clock, WeekClock};
 use nav_eph::{Moment, RefWeek, Second, Week, nearest_moment};
@@ -93,9 +93,9 @@ fn week_times(clock: &WeekClock, numbers: &[i64], reference: RefWeek) -> RowTime
 }
 
 // The times of a message near a reference week; None where no day has its number.
-pub(crate) fn times_told(clock: &Clock, numbers: &[i64], reference: RefWeek) -> Option<RowTimes>
+pub(crate) fn times_stated(clock: &Clock, numbers: &[i64], reference: RefWeek) -> Option<RowTimes>
     requires { HasTimes clock.now numbers.now }
-    ensures value { result ≡ times_told clock.now numbers.now reference }
+    ensures value { result ≡ times_stated clock.now numbers.now reference }
     ensures range { IfSome result (IsGiven clock.now) }
 {
     match clock {

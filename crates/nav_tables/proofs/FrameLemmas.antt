@@ -9,7 +9,7 @@ use Rattle.nav_eph.specs.Functions.{first_from}
 use Rattle.nav_tables.specs.declared.times.FrameTime.{FrameTime}
 use Rattle.nav_tables.specs.declared.times.Times.{Times}
 use Rattle.nav_tables.specs.declared.times.TimeFault.TheVariants.{Epoch, Sent, Day}
-use Rattle.nav_tables.specs.Times.{IsTimeOf, epoch_at, frame_in, frame_told, has_day, is_sent}
+use Rattle.nav_tables.specs.Times.{IsTimeOf, epoch_at, frame_in, frame_numbers, has_day, is_sent}
 use Rattle.nav_tables.specs.Times.{time_of}
 use Rattle.nav_tables.specs.Days.{start, days_of, day_of_number, period_of}
 use Rattle.nav_tables.proofs.WeekLemmas.{both}
@@ -78,12 +78,12 @@ epoch_again e f quarter before after late = omega arith
 told_is : (t : Times) → (t.epoch + 10800) % 900 ≡ 0 → (t.frame + 10800) % 30 ≡ 0
     → t.frame < t.epoch + 43200 → t.epoch < t.frame + 43200
     → 504489600 ≤ t.frame + 10800 → t.frame + 10800 < 4417545600
-    → IsTimeOf (frame_told (t.epoch + 10800) (t.frame + 10800)) t
+    → IsTimeOf (frame_numbers (t.epoch + 10800) (t.frame + 10800)) t
 told_is t quarter half before after from to =
     let e = t.epoch + 10800 in
     let f = t.frame + 10800 in
     let d = f / 86400 in
-    let x = frame_told e f in
+    let x = frame_numbers e f in
     let n = numbered d (nat_lt d 45285) refl (omega arith) (omega arith) in
     let near : 86400 * d + time_of x ≡ f
     = omega (arith, time_again (f % 86400) (omega arith) (omega arith)) in
@@ -123,7 +123,7 @@ frame_is times t h =
     let f = times.frame + 10800 in
     let a = passed (nat_eq (e % 900) 0) Epoch _ t h in
     let b = passed (is_sent e f) Sent _ t a.1 in
-    let c = passed (has_day f) Day (Ok (frame_told e f)) t b.1 in
+    let c = passed (has_day f) Day (Ok (frame_numbers e f)) t b.1 in
     let sent = both (nat_eq (f % 30) 0 && nat_lt f (e + 43200)) (nat_lt e (f + 43200)) b.0 in
     let half = both (nat_eq (f % 30) 0) (nat_lt f (e + 43200)) sent.0 in
     let day = both (nat_le 504489600 f) (nat_lt f 4417545600) c.0 in
@@ -134,7 +134,7 @@ frame_is times t h =
     let is = told_is times quarter whole (omega (arith, before)) (omega (arith, after))
     (leb-true 504489600 f day.0) (ltb-true f 4417545600 day.1) in
     subst (λ x. IsTimeOf x times × (x.additional ≡ 0))
-    (ok_same (Ok (frame_told e f)) (frame_told e f) t refl c.1) (is, refl)
+    (ok_same (Ok (frame_numbers e f)) (frame_numbers e f) t refl c.1) (is, refl)
 
 pub frame_epoch : (times : Times) (t : FrameTime) → frame_in times ≡ Ok t → times.epoch % 900 ≡ 0
 unfolding frame_in

@@ -22,7 +22,7 @@ use Rattle.nav_tables.specs.declared.link.Link.TheVariants.{Fixed}
 use Rattle.nav_tables.specs.Links.{nth, parts_from, joined, column_of, columns_of, split, filled_by}
 use Rattle.nav_tables.specs.Links.{filled, width_of, are_parts, is_part, says, say, is_link}
 use Rattle.nav_tables.specs.Links.{are_links, PartsFit, IsFit, AreFit, parts_once, parts_apart}
-use Rattle.nav_tables.specs.Links.{is_apart, are_apart, IsSaid, AreSaid, field_at, is_middling}
+use Rattle.nav_tables.specs.Links.{is_apart, are_apart, IsStated, AreStated, field_at, is_middling}
 use Rattle.nav_tables.specs.Links.{ranges_fit_parts, range_fits, ranges_fit}
 
 nat_eq_is : (a b : ℕ) → nat_eq a b ≡ true → a ≡ b
@@ -324,7 +324,7 @@ neg_twice z = omega (arith, ints)
 
 back_link : (nf : ℕ) (parts : List Part) (l : Link) (ls : List Link) (z : ℤ) (cs given zs : List ℤ)
     → is_link nf parts l ≡ true → is_apart parts l ls ≡ true
-    → IsSaid parts l given z → length zs ≡ nf
+    → IsStated parts l given z → length zs ≡ nf
     → column_of parts l (filled parts ls cs (filled_by parts l z zs)) given ≡ z
 back_link nf parts (Field f) ls z cs given zs e apart said count
     = back_field nf parts ls cs zs f z e apart count
@@ -348,7 +348,7 @@ back_link nf parts (Fixed n) ls z cs given zs e apart said count = sym said
 
 pub back_all : (nf : ℕ) (parts : List Part) (ls : List Link) (cs given zs : List ℤ)
     → are_links nf parts ls ≡ true → are_apart parts ls ≡ true
-    → AreSaid parts ls given cs → length zs ≡ nf
+    → AreStated parts ls given cs → length zs ≡ nf
     → columns_of parts ls (filled parts ls cs zs) given ≡ cs
 unfolding filled columns_of
 back_all nf parts [] [] given zs e apart said count = refl
@@ -489,8 +489,8 @@ fit_append parts [] ms zs a b = b
 fit_append parts (l ∷ ls) ms zs a b = (a.0, fit_append parts ls ms zs a.1 b)
 
 pub said_append : (parts : List Part) (ls ms : List Link) (given cs ds : List ℤ)
-    → AreSaid parts ls given cs → AreSaid parts ms given ds
-    → AreSaid parts (ls ++ ms) given (cs ++ ds)
+    → AreStated parts ls given cs → AreStated parts ms given ds
+    → AreStated parts (ls ++ ms) given (cs ++ ds)
 said_append parts [] ms given [] ds a b = b
 said_append parts [] ms given (c ∷ cs) ds a b = absurd a
 said_append parts (l ∷ ls) ms given [] ds a b = absurd a

@@ -150,20 +150,20 @@ are_apart parts [] = true
 are_apart parts (l ∷ ls) = is_apart parts l ls && are_apart parts ls
 
 -- the column has a number that its link can give
-abbrev pub IsSaid : List Part → Link → List ℤ → ℤ → Type 0
-IsSaid parts (Field f) given z = Unit {0}
-IsSaid parts (Opposite f) given z = Unit {0}
-IsSaid parts (Raised f plus) given z = Unit {0}
-IsSaid parts (Parts first count) given z
+abbrev pub IsStated : List Part → Link → List ℤ → ℤ → Type 0
+IsStated parts (Field f) given z = Unit {0}
+IsStated parts (Opposite f) given z = Unit {0}
+IsStated parts (Raised f plus) given z = Unit {0}
+IsStated parts (Parts first count) given z
     = (pos 0 ≤ℤ z) × (unsigned_abs z < 2 ^ width_of (parts_from parts first count))
-IsSaid parts (Given place) given z = z ≡ nth given place
-IsSaid parts (Fixed n) given z = z ≡ n
+IsStated parts (Given place) given z = z ≡ nth given place
+IsStated parts (Fixed n) given z = z ≡ n
 
-abbrev pub AreSaid : List Part → List Link → List ℤ → List ℤ → Type 0
-AreSaid parts [] given [] = Unit {0}
-AreSaid parts [] given (z ∷ zs) = ⊥
-AreSaid parts (l ∷ ls) given [] = ⊥
-AreSaid parts (l ∷ ls) given (z ∷ zs) = IsSaid parts l given z × AreSaid parts ls given zs
+abbrev pub AreStated : List Part → List Link → List ℤ → List ℤ → Type 0
+AreStated parts [] given [] = Unit {0}
+AreStated parts [] given (z ∷ zs) = ⊥
+AreStated parts (l ∷ ls) given [] = ⊥
+AreStated parts (l ∷ ls) given (z ∷ zs) = IsStated parts l given z × AreStated parts ls given zs
 
 -- each column has at most 33 bits
 abbrev pub AreSmall : List ℤ → Type 0

@@ -62,8 +62,8 @@ abbrev pub has_day : ℕ → Bool
 has_day frame = nat_le 504489600 frame && nat_lt frame 4417545600
 
 -- the numbers of a frame without additional data, from Moscow times
-abbrev pub frame_told : ℕ → ℕ → FrameTime
-frame_told epoch frame = record {
+abbrev pub frame_numbers : ℕ → ℕ → FrameTime
+frame_numbers epoch frame = record {
   additional = 0;
   period = period_of (frame / 86400);
   day = frame / 86400 - start (period_of (frame / 86400)) + 1;
@@ -78,7 +78,7 @@ frame_by epoch frame =
     if not (nat_eq (epoch % 900) 0) then Err Epoch
     else if not (is_sent epoch frame) then Err Sent
     else if not (has_day frame) then Err Day
-    else Ok (frame_told epoch frame)
+    else Ok (frame_numbers epoch frame)
 
 -- the numbers of the frame of these times, without additional data, or the first error
 unfoldable pub frame_in : Times → Result FrameTime TimeFault

@@ -1,5 +1,5 @@
-//! Messages by tables: their bit fields, the columns of their records, and weeks and days of further
-//! systems.
+//! Messages by tables: their bit fields, the columns of their records, and weeks and days of
+//! further systems.
 //!
 //! Messages of bit fields, read and written by tables.
 //!

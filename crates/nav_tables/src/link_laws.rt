@@ -3,7 +3,8 @@ ghost use Rattle.nav_tables.specs.declared.field.Field.{Field};
 ghost use Rattle.nav_tables.specs.Messages.{AreInRange};
 ghost use Rattle.nav_tables.specs.declared.link.Link.{Link};
 ghost use Rattle.nav_tables.specs.declared.link.Part.{Part};
-ghost use Rattle.nav_tables.specs.Links.{AreFit, AreSaid, are_apart, are_links, columns_of, filled};
+ghost use Rattle.nav_tables.specs.Links.{AreFit, AreStated, are_apart, are_links, columns_of};
+ghost use Rattle.nav_tables.specs.Links.{filled};
 ghost use Rattle.nav_tables.specs.Links.{nth, ranges_fit, say};
 
 /// Columns return the numbers that they are of, if those that no column has were right before.
@@ -19,7 +20,7 @@ pub fn numbers_come_back()
 pub fn columns_come_back()
     ensures { (parts : List Part) (links : List Link) (columns given before : List ℤ) →
         IsTrue (are_links (length before) parts links) → IsTrue (are_apart parts links) →
-        AreSaid parts links given columns →
+        AreStated parts links given columns →
         columns_of parts links (filled parts links columns before) given ≡ columns }
 {}
 

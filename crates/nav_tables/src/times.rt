@@ -1,7 +1,7 @@
 ghost use Rattle.std.specs.Prelude.{◌≡◌, ◌≤◌, ◌<◌, ◌+◌, ◌*◌, ◌-◌, ◌%◌, ◌/◌, IfSome};
 ghost use Rattle.std.specs.Prelude.{MatchOption, Some};
 ghost use Rattle.nav_tables.specs.Days.{day_of_number};
-ghost use Rattle.nav_tables.specs.Times.{IsFrameTime, day_of, epoch_at, frame_in, frame_told};
+ghost use Rattle.nav_tables.specs.Times.{IsFrameTime, day_of, epoch_at, frame_in, frame_numbers};
 ghost use Rattle.nav_tables.specs.Times.{has_day, is_sent, time_of, times_on, times_to};
 
 use crate::day::{day_of_number, nearest_day, number_of_day};
@@ -122,10 +122,10 @@ fn has_day(frame: u64) -> bool
 }
 
 // The numbers of a frame, from Moscow times.
-fn frame_told(epoch: u64, frame: u64) -> FrameTime
+fn frame_numbers(epoch: u64, frame: u64) -> FrameTime
     requires from { 504489600 ≤ frame }
     requires to { frame < 4417545600 }
-    ensures { result ≡ frame_told epoch frame }
+    ensures { result ≡ frame_numbers epoch frame }
 {
     let (period, day) = number_of_day((frame / 86_400) as u32);
     let time = (frame % 86_400) as u32;
@@ -158,5 +158,5 @@ pub fn frame_time(times: &Times) -> Result<FrameTime, TimeFault>
     if !has_day(frame) {
         return Err(TimeFault::Day);
     }
-    Ok(frame_told(epoch, frame))
+    Ok(frame_numbers(epoch, frame))
 }

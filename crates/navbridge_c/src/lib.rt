@@ -43,7 +43,7 @@ ghost use Rattle.c_calls.specs.Pages.{ArePair, BelongTogether, IsAlert, IsPageOf
 ghost use Rattle.c_calls.specs.Pages.{IsContent as IsWord, content_in as word_in, word_read};
 ghost use Rattle.c_calls.specs.RecordEnds.{EndsHeader, EndsRecord};
 ghost use Rattle.c_calls.specs.RecordReads.{IsVersion, PutsRead, read_in};
-ghost use Rattle.c_calls.specs.RecordWrites.{IsHeader, IsSaidBy, PutsRecord, header_text};
+ghost use Rattle.c_calls.specs.RecordWrites.{IsHeader, IsStatedBy, PutsRecord, header_text};
 ghost use Rattle.c_calls.specs.Weeks.{unix_week};
 ghost use Rattle.c_calls.specs.Rows.{GivesColumn, ReadsRow, WritesFrame, WritesRow};
 ghost use Rattle.navbridge_c.specs.Conversions.{Converts};
@@ -322,7 +322,7 @@ pub extern "C" fn nb_header_write(
 ) -> u32
     ensures status { IsVersion version → IsHeader header.now → result ≡ 0 }
     ensures written { IsVersion version → (words : HeaderWords) → IsHeader header.now
-        → IsSaidBy header.now words
+        → IsStatedBy header.now words
         → StandsIn text.old text.new used.new (header_text version words) }
     ensures none { IsVersion version → (IsHeader header.now → ⊥) →
         (result ≡ 27) × IsLeft text.old text.new used.new }

@@ -73,7 +73,7 @@ pub record IsGalItemOf (r : ℕ) (satellite : Satellite) (members : Part → Typ
   pub w3 : IsOnly (HasValue Word3 members) e.w3
   pub w4 : IsOnly (HasValue Word4 members) e.w4
   pub heard : ℕ × GalHealth × SentTag
-  pub heard_is : IsHealth before behind heard
+  pub received_is : IsHealth before behind heard
   pub health : e.health ≡ heard.1
   pub toe_week : e.toe_week ≡ toe_week_of (gal_moment r heard.2) (60 * e.w1.toe)
   pub sent : e.sent ≡ sent_second heard.2 (gal_moment r heard.2) e.toe_week

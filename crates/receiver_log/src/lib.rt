@@ -3,8 +3,9 @@
 //! Decoding of GNSS receiver messages for a capture: times, GPS LNAV subframes and Galileo I/NAV
 //! pages, from u-blox UBX and Septentrio SBF.
 //!
-//! - [`ubx_said`] and [`sbf_said`], the content of a complete message ([`Said`]): a time, a
-//!   subframe or a page ([`Content`]), or nothing that is used;
+//! - [`ubx_message`] and [`sbf_message`], the content of a complete message ([`LogMessage`]): a
+//! time, a
+//!   subframe or a page ([`LogContent`]), or nothing that is used;
 //! - [`read_words`], the ten words of a subframe as sent, in whichever of three ways the receiver
 //!   logged them (IS-GPS-200, 20.3.5.2), and [`subframe_bits`], their 300 bits.
 //!
@@ -23,7 +24,7 @@
 //! counted from the start of the week in the first line.
 //!
 //! - [`Receiver`], a format of messages and their content: `UbxJudge` and `SbfJudge`;
-//! - [`hear`], the lines of one subframe or page;
+//! - [`receive`], the lines of one subframe or page;
 //! - [`run_log`], which writes the capture of a log, and reports rejected messages and counts;
 //! - [`LogSource`], over a source of the log's bytes, which gives the same capture however reads
 //!   split it, so that a conversion of captures can read a log; [`Refused`], who is notified of its
@@ -37,18 +38,18 @@
 //! ```
 #![tactic(auto)]
 
+mod content;
 mod halves;
-mod hearing;
 mod laws;
 mod lines;
 mod log;
 mod numbers;
 mod queue;
 mod receiver;
+mod receiving;
 mod reception;
 mod report;
 mod run;
-mod said;
 mod sbf;
 mod source;
 mod state;
@@ -56,16 +57,16 @@ mod times;
 mod ubx;
 mod words;
 
-pub use crate::hearing::hear;
+pub use crate::content::{LogContent, LogMessage, LogReason};
 pub use crate::laws::{one_reading_is_good, sent_words_are_read};
 pub use crate::lines::LineBuffer;
 pub use crate::receiver::Receiver;
+pub use crate::receiving::receive;
 pub use crate::reception::Reception;
 pub use crate::report::{Nobody, Refused, counts_text, refusal};
 pub use crate::run::run_log;
-pub use crate::said::{Content, Reason, Said};
-pub use crate::sbf::sbf_said;
+pub use crate::sbf::sbf_message;
 pub use crate::source::{LogParts, LogSource};
 pub use crate::state::{CaptureCounts, LogCounts, LogState, MessageCounts};
-pub use crate::ubx::ubx_said;
+pub use crate::ubx::ubx_message;
 pub use crate::words::{ReadWords, read_words, subframe_bits};

@@ -3,7 +3,7 @@
 ghost use Rattle.std.specs.Prelude.{◌≡◌, ◌≤◌, length, true, None};
 ghost use Rattle.receiver_log.specs.Log.{begun, counted, none_counted};
 
-use crate::Said;
+use crate::LogMessage;
 use crate::lines::LineBuffer;
 use crate::queue::Queue;
 use crate::receiver::Receiver;
@@ -108,15 +108,15 @@ impl MessageCounts {
     }
 
     // LogCounts a message of this many bytes and this content.
-    pub(crate) fn count(&mut self, bytes: usize, said: &Said)
+    pub(crate) fn count(&mut self, bytes: usize, said: &LogMessage)
         ensures { self.new ≡ counted self.old bytes said.now }
     {
         self.messages = self.messages.saturating_add(1);
         self.within = self.within.saturating_add(bytes as u64);
         match said {
-            Said::Other | Said::Time(None) => self.other = self.other.saturating_add(1),
-            Said::Time(Some(_)) => self.times = self.times.saturating_add(1),
-            Said::Heard(_) | Said::Dated(..) => {}
+            LogMessage::Other | LogMessage::Time(None) => self.other = self.other.saturating_add(1),
+            LogMessage::Time(Some(_)) => self.times = self.times.saturating_add(1),
+            LogMessage::Received(_) | LogMessage::Dated(..) => {}
         }
     }
 }

@@ -10,7 +10,7 @@ use Rattle.rinex_write.specs.declared.columns.Column.{Column}
 use Rattle.rinex_write.specs.Columns.{AreFields, row_text, row_lines, joined_rows, are_good}
 use Rattle.rinex_write.specs.RowTexts.{RowKind, row_record, row_satellite}
 use Rattle.rinex_write.specs.Texts.{date_text}
-use Rattle.rinex_read.specs.declared.reason.Reason.TheVariants as reasons
+use Rattle.rinex_read.specs.declared.reason.RecordFault.TheVariants as reasons
 use Rattle.rinex_read.specs.Fields.{read_rows}
 use Rattle.rinex_read.specs.Judging.{date_of, moment_at, need}
 use Rattle.rinex_read.specs.RowReads.{flat_said, row_said}

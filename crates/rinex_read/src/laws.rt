@@ -152,8 +152,8 @@ pub fn whole_records_are_given<R, F: FileForm<R>>(form: &F)
 }
 
 /// The records that are complete in all bytes taken but the last 4,096 were given, also if the
-/// reader broke off; before the end of a header there are none. Those that are complete in the first
-/// bytes of a file are its first.
+/// reader broke off; before the end of a header there are none. Those that are complete in the
+/// first bytes of a file are its first.
 pub fn early_records_are_given<R, F: FileForm<R>>(form: &F)
     ensures records { (left middle left_new : Option (List ℕ)) (old now new : RecordsState)
         (given : List R) → IsNew old → (header : PassesHeader (F.form form.now) left middle old now)

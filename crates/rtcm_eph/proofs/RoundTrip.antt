@@ -16,8 +16,8 @@ use Rattle.nav_eph.specs.declared.items.NavItem.TheVariants.{Gps as GpsItem, Gal
 use Rattle.nav_eph.specs.declared.items.SentSecond.TheVariants.{Unknown}
 use Rattle.rtcm_eph.specs.declared.message1019.Message1019.{Message1019}
 use Rattle.rtcm_eph.specs.declared.message1046.Message1046.{Message1046}
-use Rattle.rtcm_eph.specs.declared.content.Content.{Content}
-use Rattle.rtcm_eph.specs.declared.content.Content.TheVariants.{Gps as OfGps, Gal as OfGal}
+use Rattle.rtcm_eph.specs.declared.content.EphemerisMessage.{EphemerisMessage}
+use Rattle.rtcm_eph.specs.declared.content.EphemerisMessage.TheVariants.{Gps as OfGps, Gal as OfGal}
 use Rattle.rtcm_eph.specs.declared.fault.MessageFault.{MessageFault}
 use Rattle.rtcm_eph.specs.Messages.{fields_1019, fields_1046, message1019_at, message1046_at}
 use Rattle.rtcm_eph.specs.Reading.{GivesItem, content_1019, content_1046, content_by, content_of, gps_eph, gal_eph, is_sisa}
@@ -190,11 +190,11 @@ pub sent_is_read_1019 : (e : GpsEph) (payload : List ℕ) (r : ℕ) (answer : Re
     → answer ≡ Ok (GpsItem (record e { sent = Unknown }))
 sent_is_read_1019 e payload r answer g near begins given =
     answer_1019 e r g near answer
-    (subst (λ (c : Result Content MessageFault). GivesItem r c answer) (sent_content_1019 e payload g begins) given)
+    (subst (λ (c : Result EphemerisMessage MessageFault). GivesItem r c answer) (sent_content_1019 e payload g begins) given)
 
 pub sent_is_read_1046 : (e : GalEph) (payload : List ℕ) (r : ℕ) (answer : Result NavItem MessageFault) → IsGal e
     → IsNearGalileo r e.toe_week → Begins1046 payload e → GivesItem r (content_of payload) answer
     → answer ≡ Ok (GalItem (record e { sent = Unknown }))
 sent_is_read_1046 e payload r answer g near begins given =
     answer_1046 e r g near answer
-    (subst (λ (c : Result Content MessageFault). GivesItem r c answer) (sent_content_1046 e payload g begins) given)
+    (subst (λ (c : Result EphemerisMessage MessageFault). GivesItem r c answer) (sent_content_1046 e payload g begins) given)

@@ -29,7 +29,7 @@ mod read;
 mod satellite;
 mod write;
 
-pub use crate::content::{Content, GalContent, GpsContent};
+pub use crate::content::{EphemerisMessage, GalContent, GpsContent};
 pub use crate::fault::MessageFault;
 pub use crate::laws::{
     item_function, message_bytes, message_parts, messages_are_the_functions, one_message_1019,

@@ -15,7 +15,7 @@ use nav_eph::{
 use nav_io::{MemSink, MemSource};
 use nav_laws::PlainAssembly;
 use one_run::{Text, append, append_decimal, append_hex};
-use periods::{Closed, Key, Verdict};
+use periods::{Closed, PeriodKey, Verdict};
 use sent_captures::{Sats, make_capture};
 use slot_assembly::add_periods;
 use std::alloc::{AllocError, Global};
@@ -134,13 +134,13 @@ fn line_of(closed: &Closed) -> Text {
     append_decimal(&mut text, u64::from(closed.end));
     append(&mut text, b" ");
     match &closed.key {
-        Key::Gps(sat, issue) => append_issue(&mut text, *sat, issue.value()),
-        Key::Gal(sat, issue) => append_issue(&mut text, *sat, issue.value()),
-        Key::GpsIon(content) => {
+        PeriodKey::Gps(sat, issue) => append_issue(&mut text, *sat, issue.value()),
+        PeriodKey::Gal(sat, issue) => append_issue(&mut text, *sat, issue.value()),
+        PeriodKey::GpsIon(content) => {
             append(&mut text, b"ION G ");
             append_hex(&mut text, 16, content.number());
         }
-        Key::GalIon(content) => {
+        PeriodKey::GalIon(content) => {
             append(&mut text, b"ION E ");
             append_hex(&mut text, 11, content.number());
         }

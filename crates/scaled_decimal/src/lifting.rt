@@ -5,7 +5,7 @@ ghost use Rattle.std.specs.Prelude.{◌<◌, ◌≤◌, MatchOption};
 ghost use Rattle.scaled_decimal.specs.Fractions.{IsNearest, scaled};
 ghost use Rattle.scaled_decimal.specs.NumberText.{parts_to};
 ghost use Rattle.scaled_decimal.specs.ScaleValue.{size_of, AreWithin};
-ghost use Rattle.scaled_decimal.specs.Mirrors.{AreDigitsAt, IsToldPlace};
+ghost use Rattle.scaled_decimal.specs.Mirrors.{AreDigitsAt, IsReportedPlace};
 
 use crate::powers::{rank_of, wide_power_of_five};
 use crate::scales::Scale;
@@ -113,7 +113,7 @@ fn digits_at_rank(over: u128, rank: u32, up: u32, down: u32) -> Option<u128>
 fn parts_with(digits: u128, place: u32, whole: bool) -> Option<Parts>
     requires { place ≤ 2000 }
     ensures { MatchOption result (Unit {0})
-        (λ p. IsToldPlace digits place whole p.digits p.exponent) }
+        (λ p. IsReportedPlace digits place whole p.digits p.exponent) }
 {
     let least = if whole {
         1_000_000_000_000

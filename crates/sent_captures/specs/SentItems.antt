@@ -5,7 +5,7 @@ use Rattle.nav_eph.specs.declared.ion.IonContent.TheVariants.{Gal as OfGal}
 use Rattle.nav_eph.specs.declared.items.SentSecond.TheVariants.{At}
 use Rattle.nav_eph.specs.declared.items.NavItem.{NavItem}
 use Rattle.nav_eph.specs.declared.items.NavItem.TheVariants.{Gps as GpsItem, Gal as GalItem, Ion as IonItem}
-use Rattle.periods.specs.declared.key.Key.TheVariants.{Gps, Gal}
+use Rattle.periods.specs.declared.key.PeriodKey.TheVariants.{Gps, Gal}
 use Rattle.periods.specs.KeyTests.{same_key}
 use Rattle.sent_captures.specs.Slots.{galileo_second, gps_transmission, no_ionosphere}
 use Rattle.sent_captures.specs.Sendable.{sendable}

@@ -4,7 +4,8 @@ ghost use Rattle.std.specs.Prelude.{◌≡◌, ℕ, ◌+◌, ◌*◌, ◌<◌};
 ghost use Rattle.std.specs.Prelude.{◌≤◌, ◌++◌, List, length, None, true};
 ghost use Rattle.std.specs.Prelude.{All};
 ghost use Rattle.nav_eph.specs.declared.items.NavItem.{NavItem};
-ghost use Rattle.sent_captures.specs.Sendable.{IsEphemeris, is_sent, send_fault, sendable, slots_items};
+ghost use Rattle.sent_captures.specs.Sendable.{IsEphemeris, is_sent, send_fault, sendable};
+ghost use Rattle.sent_captures.specs.Sendable.{slots_items};
 ghost use Rattle.sent_captures.specs.Slots.{text_of_items};
 
 /// An item is sent in a slot exactly if it is an ephemeris without an error.

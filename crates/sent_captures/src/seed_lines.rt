@@ -6,7 +6,8 @@ ghost use Rattle.nav_eph.specs.declared.sat.System.TheVariants.{Gps};
 ghost use Rattle.lnav_subframe.specs.declared.out.SubframeOut.TheVariants.{Other};
 ghost use Rattle.lnav_subframe.specs.Writing.{IsWritable};
 ghost use Rattle.sent_captures.specs.Values.{gal_ion_of, gal_of};
-ghost use Rattle.sent_captures.specs.Lines.{ArePage, IsHalfLine, IsLine, IsSubframeLine, subframe_of};
+ghost use Rattle.sent_captures.specs.Lines.{ArePage, IsHalfLine, IsLine, IsSubframeLine};
+ghost use Rattle.sent_captures.specs.Lines.{subframe_of};
 ghost use Rattle.sent_captures.specs.Mirrors.{AreTables, GrowsByLines, IsOf};
 
 use crate::pages::{PAGES, Page, gal_sat};

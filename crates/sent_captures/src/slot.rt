@@ -65,7 +65,7 @@ fn push_gps(stamp: u32, e: &GpsEph, text: &mut SlotText)
 }
 
 // Ionosphere parameters and disturbance flags that are all 0.
-fn nothing_said() -> GalIon
+fn nothing_stated() -> GalIon
     ensures { result ≡ no_ionosphere }
 {
     GalIon {
@@ -101,7 +101,7 @@ fn push_galileo(stamp: u32, e: &GalEph, text: &mut SlotText)
     push_page(stamp + 2, e.sat, &write_word2(&e.w2), text);
     push_page(stamp + 4, e.sat, &write_word3(&e.w3), text);
     push_page(stamp + 6, e.sat, &write_word4(&e.w4, e.sat), text);
-    let word = write_word5(&e.health, &nothing_said(), week_number(e), toe_second(e));
+    let word = write_word5(&e.health, &nothing_stated(), week_number(e), toe_second(e));
     push_page(stamp + 8, e.sat, &word, text);
 }
 

@@ -9,7 +9,7 @@ use crate::healths::Healths;
 use crate::order::Rank;
 use crate::slots::OpenSlots;
 use nav_eph::{NavItem, Part, RefWeek};
-use periods::{Closed, Place, key_of_part, note_value};
+use periods::{Closed, PeriodId, key_of_part, note_value};
 use std::alloc::{AllocError, Global};
 use std::collections::{BTreeMap, BTreeSet};
 use std::marker::Model;
@@ -28,7 +28,7 @@ pub struct SlotAssembly {
     reference: RefWeek,
     window: u32,
     watermark: u64,
-    last: Option<Place>,
+    last: Option<PeriodId>,
     none_at: u64,
     known: BTreeMap<Rank, NavItem>,
 }

@@ -1,8 +1,8 @@
 -- The line of a period in a list.
 use Rattle.std.specs.Prelude.{ℕ, List, ◌++◌, codes, decimal}
 use Rattle.nav_eph.specs.Numbers.{gps_ion_number, gal_ion_number}
-use Rattle.periods.specs.declared.key.Key.{Key}
-use Rattle.periods.specs.declared.key.Key.TheVariants.{Gps, Gal, GpsIon, GalIon}
+use Rattle.periods.specs.declared.key.PeriodKey.{PeriodKey}
+use Rattle.periods.specs.declared.key.PeriodKey.TheVariants.{Gps, Gal, GpsIon, GalIon}
 use Rattle.periods.specs.declared.closed.Closed.{Closed}
 use Rattle.periods.specs.declared.closed.Verdict.{Verdict}
 use Rattle.periods.specs.declared.closed.Verdict.TheVariants.{Whole, Partial, Contradicted, NoHealth, Again}
@@ -10,7 +10,7 @@ use Rattle.streams.specs.ItemTexts.{issue_text}
 use Rattle.one_run.specs.Texts.{hex_digits}
 
 -- the key of a period: an ephemeris by satellite and issue of data, ionosphere parameters by system and their bits
-abbrev pub key_text : Key → List ℕ
+abbrev pub key_text : PeriodKey → List ℕ
 key_text (Gps sat issue) = issue_text sat issue
 key_text (Gal sat issue) = issue_text sat issue
 key_text (GpsIon content) = codes "ION G " ++ hex_digits 16 (gps_ion_number content)

@@ -21,7 +21,7 @@ use one_run::BridgeFault;
 const PIECE: usize = 16_384;
 
 // Lines that are written together: those of the frames that one feed of bytes decides.
-type Gathered = ArrayVec<u8, 1024>;
+type LineBatch = ArrayVec<u8, 1024>;
 
 /// What a run over the frames of a stream counts.
 #[derive(Clone, Copy, PartialEq, Eq)]
@@ -126,7 +126,7 @@ fn process_some<T: Sink>(
 }
 
 // Writes the lines that were gathered, if any.
-fn write_gathered<T: Sink>(lines: &Gathered, output: &mut T) -> Result<(), Failed>
+fn write_gathered<T: Sink>(lines: &LineBatch, output: &mut T) -> Result<(), Failed>
     ensures text { OnOk result
         (Appends (T.written output.old) (T.written output.new) lines.now.items) }
     ensures part { OnErr result
@@ -140,7 +140,7 @@ fn write_gathered<T: Sink>(lines: &Gathered, output: &mut T) -> Result<(), Faile
 }
 
 // Appends a line to the gathered ones; where there is no room for it, those are written first.
-fn gather<T: Sink>(line: &FrameLine, lines: &mut Gathered, output: &mut T) -> Result<(), Failed>
+fn gather<T: Sink>(line: &FrameLine, lines: &mut LineBatch, output: &mut T) -> Result<(), Failed>
     ensures gathers { OnOk result (Gathers (T.written output.old) (T.written output.new)
         lines.old.items lines.new.items line.now.items) }
     ensures part { OnErr result
@@ -175,7 +175,7 @@ fn process_frames<T: Sink>(
         (T.written output.old) (T.written output.new)) }
     ensures cause { HasCause (T.faults output.old) (T.faults output.new) result }
 {
-    let mut lines = Gathered::new();
+    let mut lines = LineBatch::new();
     let mut frame = Frame::without_payload();
     'giving: while deframer.next_into(&mut frame) {
         gather(&frame_line(&frame), &mut lines, output)?;

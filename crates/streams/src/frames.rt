@@ -67,7 +67,7 @@ fn pass(counts: &mut StreamCounts)
 }
 
 // Counts the frame with this number as refused or not used, and reports it where it is refused.
-fn tell_fault<U: Sink>(
+fn report_fault<U: Sink>(
     fault: MessageFault,
     number: u64,
     report: &mut U,
@@ -178,7 +178,7 @@ fn convert_frame<T: Sink, U: Sink>(
     }
     match read_item(payload, r) {
         Ok(item) => give_item(to, &item, payload, given, output, counts),
-        Err(fault) => tell_fault(fault, counts.frames + 1, report, counts),
+        Err(fault) => report_fault(fault, counts.frames + 1, report, counts),
     }
 }
 

@@ -6,23 +6,23 @@ ghost use Rattle.streams.specs.PeriodLines.{key_text, list_period, verdict_text}
 
 use crate::append_issue;
 use one_run::{Text, append, append_decimal, append_hex};
-use periods::{Closed, Key, Verdict};
+use periods::{Closed, PeriodKey, Verdict};
 
 // Appends the key of a period: an ephemeris by satellite and issue of data, ionosphere parameters
 // by system letter and their bits in hexadecimal.
-fn append_key(text: &mut Text, key: &Key)
+fn append_key(text: &mut Text, key: &PeriodKey)
     requires { array_vec_len text.old + 48 ≤ 640 }
     ensures items { text.new.items ≡ text.old.items ++ key_text key.now }
     ensures short { array_vec_len text.new ≤ array_vec_len text.old + 48 }
 {
     match key {
-        Key::Gps(sat, issue) => append_issue(text, *sat, issue.value()),
-        Key::Gal(sat, issue) => append_issue(text, *sat, issue.value()),
-        Key::GpsIon(content) => {
+        PeriodKey::Gps(sat, issue) => append_issue(text, *sat, issue.value()),
+        PeriodKey::Gal(sat, issue) => append_issue(text, *sat, issue.value()),
+        PeriodKey::GpsIon(content) => {
             append(text, b"ION G ");
             append_hex(text, 16, content.number());
         }
-        Key::GalIon(content) => {
+        PeriodKey::GalIon(content) => {
             append(text, b"ION E ");
             append_hex(text, 11, content.number());
         }

@@ -20,7 +20,8 @@ impl Target {
     /// `Failed` only if the sink's count of errors rose in this call or is at its maximum; a prefix
     /// of the text was appended then. So in the other three.
     pub fn begin<T: Sink>(&self, out: &mut T) -> Result<(), Failed>
-        ensures { Writes (T.written out.old) (T.written out.new) (T.faults out.old) (T.faults out.new)
+        ensures { Writes (T.written out.old) (T.written out.new) (T.faults out.old)
+            (T.faults out.new)
             result (prefix_text self.now) }
     {
         match self {
@@ -32,7 +33,8 @@ impl Target {
 
     /// Writes an item; its record is at this line of its file.
     pub fn put<T: Sink>(&self, line: u32, item: &NavItem, out: &mut T) -> Result<(), Failed>
-        ensures { Writes (T.written out.old) (T.written out.new) (T.faults out.old) (T.faults out.new)
+        ensures { Writes (T.written out.old) (T.written out.new) (T.faults out.old)
+            (T.faults out.new)
             result (item_text self.now line item.now) }
     {
         match self {
@@ -46,7 +48,8 @@ impl Target {
 
     /// Writes a closed period.
     pub fn list<T: Sink>(&self, closed: &Closed, out: &mut T) -> Result<(), Failed>
-        ensures { Writes (T.written out.old) (T.written out.new) (T.faults out.old) (T.faults out.new)
+        ensures { Writes (T.written out.old) (T.written out.new) (T.faults out.old)
+            (T.faults out.new)
             result (period_text self.now closed.now) }
     {
         match self {
@@ -65,7 +68,8 @@ impl Target {
 
     /// Writes the last text: the counts, if only these are asked for.
     pub fn end<T: Sink>(&self, counts: &[u8], out: &mut T) -> Result<(), Failed>
-        ensures { Writes (T.written out.old) (T.written out.new) (T.faults out.old) (T.faults out.new)
+        ensures { Writes (T.written out.old) (T.written out.new) (T.faults out.old)
+            (T.faults out.new)
             result (back_text self.now counts.now) }
     {
         match self {

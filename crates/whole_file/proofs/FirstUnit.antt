@@ -11,7 +11,7 @@ use Rattle.framing.specs.UbxForm.{ubx}
 use Rattle.framing.specs.UbxFormLaws.{ubx_is_heading}
 use Rattle.framing.specs.Frames.{frame_size, is_open}
 use Rattle.whole_file.proofs.FrameForms.{frame-append}
-use Rattle.whole_file.specs.Kinds.{is_head, kind_of, prefix_kind, told_by}
+use Rattle.whole_file.specs.Kinds.{is_head, kind_of, prefix_kind, decided_by}
 use Rattle.whole_file.specs.Units.{IsPast, first_of, first_unit, opens_unit, unit_of}
 use Rattle.whole_file.specs.declared.kinds.Kind.{Kind}
 use Rattle.whole_file.specs.declared.kinds.Kind.TheVariants.{Stream, Ubx, Sbf}
@@ -100,14 +100,14 @@ pub told_by_unit : (bytes : List ℕ) (head : Kind) (unit : Option Kind) → hea
     → unit ≡ first_unit (take 65536 bytes) → unwrap_or unit head ≡ kind_of bytes
 unfolding kind_of
 told_by_unit bytes head unit is none first =
-    sym (ap (λ (h : Kind). told_by h (first_unit (take 65536 bytes))) (sym is) ∙ ap (told_by head) (sym first)
+    sym (ap (λ (h : Kind). decided_by h (first_unit (take 65536 bytes))) (sym is) ∙ ap (decided_by head) (sym first)
     ∙ ap (λ (b : Bool). if b then head else unwrap_or unit head) none)
 
 -- what the head tells alone
 pub told_by_head : (bytes : List ℕ) (head : Kind) → head ≡ prefix_kind (take 80 bytes) → is_head head ≡ true → head ≡ kind_of bytes
 unfolding kind_of
 told_by_head bytes head is some =
-    sym (ap (λ (h : Kind). told_by h (first_unit (take 65536 bytes))) (sym is)
+    sym (ap (λ (h : Kind). decided_by h (first_unit (take 65536 bytes))) (sym is)
     ∙ ap (λ (b : Bool). if b then head else unwrap_or (first_unit (take 65536 bytes)) head) some)
 
 -- the head of bytes that more bytes follow

@@ -103,7 +103,7 @@ fn size_at<J: Judge>(judge: &mut J, bytes: &[u8], place: usize) -> usize
 }
 
 // The size of a frame by the length in its header.
-fn size_told(bytes: &[u8]) -> usize
+fn size_reported(bytes: &[u8]) -> usize
     requires { 3 ≤ length bytes.now }
     ensures { result ≡ announced (slice_index bytes.now 1) (slice_index bytes.now 2) }
 {
@@ -117,7 +117,7 @@ fn opens_frame(bytes: &[u8]) -> bool
 {
     match bytes {
         [] => false,
-        [start, _, _, ..] => *start == 0xd3 && bytes.len() < size_told(bytes),
+        [start, _, _, ..] => *start == 0xd3 && bytes.len() < size_reported(bytes),
         [start, ..] => *start == 0xd3,
     }
 }
@@ -132,7 +132,7 @@ fn begins_frame(bytes: &[u8]) -> bool
     if bytes[0] != 0xd3 {
         return false;
     }
-    let size = size_told(bytes);
+    let size = size_reported(bytes);
     if bytes.len() < size {
         return false;
     }

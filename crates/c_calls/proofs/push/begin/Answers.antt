@@ -1,7 +1,7 @@
 use Rattle.std.proofs.Common.{◌≡◌, sym, ◌∙◌, subst}
 use Rattle.bridge_engine.specs.declared.job.Job.{Job}
 use Rattle.c_calls.specs.Pushes.{Begins, closed}
-use Rattle.c_calls.specs.declared.push.Run.TheVariants.{Capture, Stream}
+use Rattle.c_calls.specs.declared.push.PushedRun.TheVariants.{Capture, Stream}
 use Rattle.c_calls.proofs.PushLemmas.{capture_begins, capture_lives, state, stream_begins, stream_lives}
 use Rattle.c_calls.proofs.push.begin.Goals as goal
 

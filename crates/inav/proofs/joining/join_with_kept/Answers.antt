@@ -4,7 +4,7 @@ use Rattle.std.specs.Prelude.{Contains}
 use Rattle.nav_eph.specs.declared.sat.System.TheVariants.{Gal}
 use Rattle.inav.specs.declared.half.HalfKind.{HalfKind}
 use Rattle.inav.specs.Pages.{kind_of}
-use Rattle.inav.specs.Heard.{AreWordsWith, word_by}
+use Rattle.inav.specs.Received.{AreWordsWith, word_by}
 use Rattle.inav.specs.Keeping.{stamped}
 use Rattle.inav.specs.Mirrors.{half_of, place_of, AreWordsIn, HasPartnerStamp}
 use Rattle.inav.specs.Kept.{keys_in}

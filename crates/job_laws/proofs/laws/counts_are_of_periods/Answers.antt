@@ -8,8 +8,8 @@ use Rattle.job_laws.proofs.laws.counts_are_of_periods.Goals as goal
 pub returns : goal.returns
 returns c capture some are =
     let same : periods capture ≡ some =
-    c.lines_yield_what_is_heard.ensures.only capture.week capture.window capture.lines (periods capture) some
-    (c.lines_yield_what_is_heard.ensures.periods capture.week capture.window capture.lines) are in
+    c.lines_yield_what_is_received.ensures.only capture.week capture.window capture.lines (periods capture) some
+    (c.lines_yield_what_is_received.ensures.periods capture.week capture.window capture.lines) are in
     record {
       whole = ap (verdicts is_whole) same;
       partial = ap (verdicts is_partial) same;

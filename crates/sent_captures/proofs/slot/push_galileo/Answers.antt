@@ -23,5 +23,5 @@ returns c =
     (c.push_page-3.ensures.text ∙ ap (λ w. c.push_page-2.new.text.items ++ page (s + 4) w) c.write_word3.ensures.bytes)
     (c.push_page-4.ensures.text ∙ ap (λ w. c.push_page-3.new.text.items ++ page (s + 6) w) c.write_word4.ensures.bytes)
     (c.push_page-5.ensures.text ∙ ap (λ w. c.push_page-4.new.text.items ++ page (s + 8) w)
-    (c.write_word5-word.ensures.bytes ∙ word5_same e.health c.nothing_said.result no_ionosphere c.week_number.result (galileo_week_number e)
-    c.toe_second.result (galileo_second e) c.nothing_said.ensures c.week_number.ensures c.toe_second.ensures))
+    (c.write_word5-word.ensures.bytes ∙ word5_same e.health c.nothing_stated.result no_ionosphere c.week_number.result (galileo_week_number e)
+    c.toe_second.result (galileo_second e) c.nothing_stated.ensures c.week_number.ensures c.toe_second.ensures))

@@ -17,14 +17,14 @@ returns-in_err-written-clause-output g c =
     let p = err_from_is_err_and c.from_residual.result c.from_residual.ensures.1 in
     let s = c.args.self.now in
     rw p.1 (λ reads start held so_far. grew_between (prefix_text s.to) (read_text s.to) reads c.args.read.now start _ _ so_far
-    (subst (λ (l : List ℕ). AppendsPrefix (g.T.Sink.written c.args.output.now) (g.T.Sink.written c.tell_read.new.output) l)
+    (subst (λ (l : List ℕ). AppendsPrefix (g.T.Sink.written c.args.output.now) (g.T.Sink.written c.report_item.new.output) l)
     (same_text s.to _ _ _ _ c.line-line.ensures c.given-given.ensures.same) c.in_err-written.ensures.part))
 
 pub returns-in_err-written-clause-report : goal.returns-in_err-written-clause-report
 returns-in_err-written-clause-report g c =
     let p = err_from_is_err_and c.from_residual.result c.from_residual.ensures.1 in
     rw p.1 (λ reads start held so_far. grew_between [] read_report reads c.args.read.now start _ _ so_far
-    (subst (λ (l : List ℕ). AppendsPrefix (g.U.Sink.written c.args.report.now) (g.U.Sink.written c.tell_read.new.report) l)
+    (subst (λ (l : List ℕ). AppendsPrefix (g.U.Sink.written c.args.report.now) (g.U.Sink.written c.report_item.new.report) l)
     (same_report _ _ _ _ c.line-line.ensures c.given-given.ensures.same) c.in_err-written.ensures.report_part))
 
 pub returns-in_err-hold_given-clause-output : goal.returns-in_err-hold_given-clause-output
@@ -33,7 +33,7 @@ returns-in_err-hold_given-clause-output g c =
     let s = c.args.self.now in
     rw p.1 (λ reads start held so_far. between_all start _ _ _ (prefix_after (prefix_text s.to) _ _ (texts_prefix (read_text s.to) reads (c.args.read.now ∷ [])))
     (grew_more (prefix_text s.to) (read_text s.to) reads c.args.read.now start _ _ so_far
-    (subst (λ (l : List ℕ). Appends (g.T.Sink.written c.args.output.now) (g.T.Sink.written c.tell_read.new.output) l)
+    (subst (λ (l : List ℕ). Appends (g.T.Sink.written c.args.output.now) (g.T.Sink.written c.report_item.new.output) l)
     (same_text s.to _ _ _ _ c.line-line.ensures c.given-given.ensures.same) c.in_ok-written.ensures.output)))
 
 pub returns-in_err-hold_given-clause-report : goal.returns-in_err-hold_given-clause-report
@@ -41,19 +41,19 @@ returns-in_err-hold_given-clause-report g c =
     let p = err_from_is_err_and c.from_residual-in_err-hold_given.result c.from_residual-in_err-hold_given.ensures.1 in
     rw p.1 (λ reads start held so_far. between_all start _ _ _ (texts_prefix read_report reads (c.args.read.now ∷ []))
     (grew_more [] read_report reads c.args.read.now start _ _ so_far
-    (subst (λ (l : List ℕ). Appends (g.U.Sink.written c.args.report.now) (g.U.Sink.written c.tell_read.new.report) l)
+    (subst (λ (l : List ℕ). Appends (g.U.Sink.written c.args.report.now) (g.U.Sink.written c.report_item.new.report) l)
     (same_report _ _ _ _ c.line-line.ensures c.given-given.ensures.same) c.in_ok-written.ensures.report)))
 
 pub returns-clause-output : goal.returns-clause-output
 returns-clause-output g c =
     let s = c.args.self.now in
     λ reads start held so_far. grew_more (prefix_text s.to) (read_text s.to) reads c.args.read.now start _ _ so_far
-    (subst (λ (l : List ℕ). Appends (g.T.Sink.written c.args.output.now) (g.T.Sink.written c.tell_read.new.output) l)
+    (subst (λ (l : List ℕ). Appends (g.T.Sink.written c.args.output.now) (g.T.Sink.written c.report_item.new.output) l)
     (same_text s.to _ _ _ _ c.line-line.ensures c.given-given.ensures.same) c.in_ok-written.ensures.output)
 
 pub returns-clause-report : goal.returns-clause-report
 returns-clause-report g c = λ reads start held so_far. grew_more [] read_report reads c.args.read.now start _ _ so_far
-    (subst (λ (l : List ℕ). Appends (g.U.Sink.written c.args.report.now) (g.U.Sink.written c.tell_read.new.report) l)
+    (subst (λ (l : List ℕ). Appends (g.U.Sink.written c.args.report.now) (g.U.Sink.written c.report_item.new.report) l)
     (same_report _ _ _ _ c.line-line.ensures c.given-given.ensures.same) c.in_ok-written.ensures.report)
 
 pub returns-clause-held : goal.returns-clause-held

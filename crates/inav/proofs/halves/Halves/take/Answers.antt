@@ -1,7 +1,7 @@
 use Rattle.std.proofs.Common.{◌≡◌, ◌+◌, ◌≤◌, ◌⊎◌, ◌↔◌, inl, length, map, ap, subst, ◌∙◌, arith}
 use Rattle.std.specs.Prelude.{Contains, IfOk, OnOk}
 use Rattle.nav_eph.specs.Satellite.{Satellite}
-use Rattle.inav.specs.Heard.{StampedHalf, AreWordsWith}
+use Rattle.inav.specs.Received.{StampedHalf, AreWordsWith}
 use Rattle.inav.specs.Keeping.{Keeping, stamped, HoldsOneSecond, IsKeptWith}
 use Rattle.inav.specs.Mirrors.{half_of}
 use Rattle.inav.specs.Kept.{keys_held, keys_in}
