@@ -196,7 +196,7 @@ impl<'a> Folder for HostPlace<'a> {
 
     type Input = Watched<'a>;
 
-    type HostDraft = HostDraft<'a>;
+    type Draft = HostDraft<'a>;
 
     ghost files = { λ _. None };
 
