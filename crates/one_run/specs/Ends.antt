@@ -26,7 +26,7 @@ uncounted m = giving (λ counts. tt) m
 
 -- the number of an exit status
 abbrev pub number_of : Status → ℕ
-number_of statuses.IsDone = 0
+number_of statuses.Done = 0
 number_of statuses.NoJob = 2
 number_of statuses.ReadFault = 3
 number_of statuses.WriteFault = 4

@@ -9,7 +9,7 @@ use crate::BridgeFault;
 #[derive(Clone, Copy, PartialEq, Eq)]
 pub enum Status {
     /// All was read and written.
-    IsDone,
+    Done,
     /// The arguments ask for no conversion that there is.
     NoJob,
     /// A read failed.
@@ -34,7 +34,7 @@ impl Status {
         ensures { result ≡ number_of self }
     {
         match self {
-            Status::IsDone => 0,
+            Status::Done => 0,
             Status::NoJob => 2,
             Status::ReadFault => 3,
             Status::WriteFault => 4,
@@ -51,7 +51,7 @@ impl Status {
         ensures { number_of result ≡ status_of ended.now }
     {
         match ended {
-            Ok(_) => Status::IsDone,
+            Ok(_) => Status::Done,
             Err(fault) => Status::from(*fault),
         }
     }
