@@ -5,7 +5,7 @@ use Rattle.receiver_log.specs.Numbers.{two_at}
 use Rattle.receiver_log.specs.Sbf.{block_content, pages_content, sbf_message, subframe_content}
 use Rattle.receiver_log.specs.Systems.{SaysTimes}
 use Rattle.receiver_log.specs.Ubx.{payload_of, payload_content, ubx_message, words_content}
-use Rattle.receiver_log.specs.declared.said.LogMessage.{LogMessage}
+use Rattle.receiver_log.specs.declared.content.LogMessage.{LogMessage}
 
 says_if : (has_times b : Bool) (x y : LogMessage) → SaysTimes has_times x → SaysTimes has_times y
     → SaysTimes has_times (if b then x else y)

@@ -10,9 +10,9 @@
 //!   logged them (IS-GPS-200, 20.3.5.2), and [`subframe_bits`], their 300 bits.
 //!
 //! ```rust
-//! match ubx_said(message) {
-//!     Said::Time(time) => set_time(time),
-//!     Said::Heard(Content::Subframe { sat, words }) => use_bits(sat, &subframe_bits(&words)),
+//! match ubx_message(message) {
+//!     LogMessage::Time(time) => set_time(time),
+//!     LogMessage::Received(LogContent::Subframe { sat, words }) => use_bits(sat, &subframe_bits(&words)),
 //!     _ => {}
 //! }
 //! ```
