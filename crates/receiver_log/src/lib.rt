@@ -12,7 +12,9 @@
 //! ```rust
 //! match ubx_message(message) {
 //!     LogMessage::Time(time) => set_time(time),
-//!     LogMessage::Received(LogContent::Subframe { sat, words }) => use_bits(sat, &subframe_bits(&words)),
+//!     LogMessage::Received(LogContent::Subframe { sat, words }) => {
+//!         use_bits(sat, &subframe_bits(&words));
+//!     }
 //!     _ => {}
 //! }
 //! ```
