@@ -132,7 +132,7 @@ fn follow<S: Source, T: Sink, U: Sink>(
     requires ready { IsReady to.now week lines.old receiving.old }
     ensures follows { Follows to.now week (S.left input.old) (S.left input.new)
         lines.old lines.new receiving.old receiving.new (T.written output.old)
-            (T.written output.new)
+        (T.written output.new)
         (U.written report.old) (U.written report.new) result }
     ensures cause { HasItsCause
         (faults_of (S.faults input.old) (T.faults output.old) (U.faults report.old))
