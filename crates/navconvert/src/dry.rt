@@ -22,9 +22,10 @@ pub(crate) fn show_files(
     name: Option<&str>,
 ) -> u8 {
     let files = inputs.names;
-    let takes_several = settings.wanted.target.takes_several();
-    if files.len() > 1 || takes_several && older_kind(settings, first).is_some() {
-        return show_own(settings, files, name);
+    for file in files {
+        if settings.wanted.target.takes_several() && older_kind(settings, file).is_some() {
+            return show_own(settings, files, name);
+        }
     }
     match input_kind(settings, settings.wanted.form, opened(settings.rt, inputs)) {
         Ok(kind) => show_kind(settings, first, files, name, kind),
@@ -32,8 +33,7 @@ pub(crate) fn show_files(
     }
 }
 
-// Prints the command of this program, which ends the last line of each file, and converts files of
-// RINEX 3 and 2 first.
+// Prints the command of this program, which converts the files of RINEX 3 and 2 first.
 fn show_own(settings: &Settings, files: &[&str], name: Option<&str>) -> u8 {
     let mut line = Line::new(settings.rt);
     line.text("navconvert -o -");
@@ -55,10 +55,10 @@ fn show_kind(
         return print_file(settings, first, &Refusal::NoSuchConversion(kind));
     };
     let mut line = Line::new(settings.rt);
-    match reader_of(kind) {
-        Some(program) => {
+    match reader_of(kind, files.len()) {
+        Some((program, mark)) => {
             line.text(program);
-            line.files(" < ", files);
+            line.files(mark, files);
             if !matches!(task, Task::Copied) {
                 line.text(" | ");
                 line.text(program_of(&task, kind));
@@ -110,11 +110,13 @@ fn from_word(kind: Kind) -> &'static str {
     }
 }
 
-// The program that reads a file of this form, where that is not navbridge.
-fn reader_of(kind: Kind) -> Option<&'static str> {
+// The program that reads so many files of this form, and the mark before their names, where that is
+// not navbridge.
+fn reader_of(kind: Kind, count: usize) -> Option<(&'static str, &'static str)> {
     match kind {
-        Kind::Ubx => Some("navlog --from ubx"),
-        Kind::Sbf => Some("navlog --from sbf"),
+        Kind::Ubx => Some(("navlog --from ubx", " < ")),
+        Kind::Sbf => Some(("navlog --from sbf", " < ")),
+        _ if count > 1 => Some(("cat --", " ")),
         _ => None,
     }
 }

@@ -94,12 +94,7 @@ fn leap_of_file(settings: &Settings, file: &str, staged: &[Staged]) -> Option<u8
 
 // The leap seconds of the first header of inputs.
 fn leap_in<'a>(rt: &'a HostRuntime, names: &'a [&'a str], staged: &'a [Staged]) -> Option<u8> {
-    let inputs = Inputs {
-        names,
-        staged,
-        starts: &[],
-    };
-    match opened(rt, inputs) {
+    match opened(rt, Inputs { names, staged }) {
         Ok(input) => leap_of_header(input),
         Err(_) => None,
     }

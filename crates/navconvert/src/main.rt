@@ -10,7 +10,6 @@
 mod choices;
 mod clock;
 mod command;
-mod counts;
 mod diff;
 mod dry;
 mod files;

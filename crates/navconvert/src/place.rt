@@ -10,7 +10,7 @@ use crate::made::Made;
 use crate::parts::begun;
 use crate::systems::Skips;
 use crate::watch::{Watch, Watched};
-use file_conversion::{Refusal, Target};
+use file_conversion::Refusal;
 use nav_io::{Failed, Sink, WriteSink};
 use std::fs::File;
 use std::io::Stdout;
@@ -107,7 +107,6 @@ pub(crate) struct HostPlace<'a> {
     named: Option<Kind>,
     inputs: Inputs<'a>,
     goal: Goal,
-    target: Target,
     watch: Watch,
     made: Made,
     // the system of what is made, where its name has it
@@ -126,9 +125,8 @@ impl<'a> HostPlace<'a> {
             named: settings.wanted.form,
             inputs,
             goal,
-            target: settings.wanted.target,
             watch: Watch::new(settings.wanted.form),
-            made: Made::new(settings.wanted.target),
+            made: Made::new(),
             letter: match settings.site {
                 None => None,
                 Some(_) => Some(settings.letter),
@@ -224,7 +222,7 @@ impl<'a> Folder for HostPlace<'a> {
         match self.outlet(part) {
             Ok(outlet) => Ok(HostDraft {
                 outlet,
-                made: Made::new(self.target),
+                made: Made::new(),
                 letters: self.letters(),
             }),
             Err(fault) => Err(self.folder.failed(fault)),

@@ -200,8 +200,8 @@ pub(crate) fn version_of(line: &[u8]) -> u8 {
     b' '
 }
 
-/// Whether a line begins as a record of RINEX 3: `R05 2024 `.
-pub(crate) fn begins_record3(line: &[u8]) -> bool {
+// Whether a line begins as a record of RINEX 3: `R05 2024 `.
+fn begins_record3(line: &[u8]) -> bool {
     match line {
         [letter, _, ones, b' ', a, b, c, d, b' ', ..] => {
             letter.is_ascii_uppercase()
