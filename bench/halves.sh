@@ -1,5 +1,5 @@
 #!/usr/bin/env bash
-# Measures how many I/NAV page parts a second inav_page takes. First thirty satellites on two signals, a part of each every second,
+# Measures how many I/NAV page parts a second inav takes. First thirty satellites on two signals, a part of each every second,
 # in a window of 7,200 s; then 100,000 parts of one satellite on one signal in two seconds, 50,000 even ones and 50,000 odd ones of
 # other words.
 #
@@ -13,15 +13,15 @@ set -eu
 . "$(dirname "$(readlink -f "$0")")/lib.sh"
 options '..' "$@"
 seconds=${arguments[0]:-7200}
-over halves nav_bits nav_eph inav_page
-over crowded nav_bits nav_eph inav_page
+over halves nav_bits nav_eph inav
+over crowded nav_bits nav_eph inav
 cat > "$work/crates/halves/src/main.rt" <<'PROGRAM'
 #![tactic(auto)]
 
 ghost use Rattle.std.specs.Prelude.{◌≡◌};
 ghost use Rattle.nav_eph.specs.declared.sat.System.TheVariants.{Gal};
 
-use inav_page::{Half, Halves, split};
+use inav::{Half, Halves, split};
 use nav_bits::Bits;
 use nav_eph::{Sat, Signal, System};
 use std::alloc::AllocError;
@@ -68,7 +68,7 @@ cat > "$work/crates/crowded/src/main.rt" <<'PROGRAM'
 ghost use Rattle.std.specs.Prelude.{◌≡◌};
 ghost use Rattle.nav_eph.specs.declared.sat.System.TheVariants.{Gal};
 
-use inav_page::{Halves, split};
+use inav::{Halves, split};
 use nav_bits::Bits;
 use nav_eph::{Sat, Signal, System};
 use std::alloc::AllocError;

@@ -10,7 +10,7 @@ set -eu
 . "$(dirname "$(readlink -f "$0")")/lib.sh"
 options '..' "$@"
 parts=${arguments[0]:-200000}
-over slots nav_bits gnss_week nav_eph periods slot_assembly
+over slots nav_bits nav_eph periods slot_assembly
 mkdir -p "$work/crates/slots/proofs"
 touch "$work/crates/slots/proofs/Lib.antt"
 cat > "$work/crates/slots/src/main.rt" <<'PROGRAM'
@@ -18,9 +18,10 @@ cat > "$work/crates/slots/src/main.rt" <<'PROGRAM'
 
 ghost use Rattle.std.specs.Prelude.{◌<◌};
 
-use gnss_week::{RefWeek, Second};
 use nav_bits::{S, U};
-use nav_eph::{Body, GpsIon, GpsOrbitB, NavItem, Part, Sat, SentTag, System};
+use nav_eph::{
+    Body, GpsIon, GpsOrbitB, NavItem, Part, RefWeek, Sat, Second, SentTag, System,
+};
 use periods::Closed;
 use slot_assembly::{SlotAssembly, add_periods};
 use std::alloc::{AllocError, Global};

@@ -1,5 +1,5 @@
 #!/usr/bin/env bash
-# Measures the seconds in which nav_vectors makes a capture of an hour, and its megabytes.
+# Measures the seconds in which sent_captures makes a capture of an hour, and its megabytes.
 #
 #   bench/vectors.sh [SATELLITES]      of each system; default 32
 #
@@ -9,12 +9,12 @@ set -eu
 . "$(dirname "$(readlink -f "$0")")/lib.sh"
 options '..' "$@"
 satellites=${arguments[0]:-32}
-over vectors gnss_week nav_vectors
+over vectors nav_eph sent_captures
 cat > "$work/crates/vectors/src/main.rt" <<'PROGRAM'
 #![tactic(auto)]
 
-use gnss_week::RefWeek;
-use nav_vectors::make_capture;
+use nav_eph::RefWeek;
+use sent_captures::make_capture;
 use std::io::Write;
 use std::process::ExitCode;
 

@@ -412,7 +412,7 @@ def sources_of(page):
 def reasons(page):
     known = {"malformed", "late"} if page == "navbridge" else set()
     for path in sources_of(page):
-        arms = r"(?:Refusal|Reason|SendFault|MessageFault)::\w+(?: \{ \w+ \})? => \{?\s*(?:append\(text, |refuse\(number, )?b\"(\w+)"
+        arms = r"(?:\w*Refusal|\w*Reason|EventFault|RecordFault|SendFault|MessageFault)::\w+(?: \{ \w+ \})? => \{?\s*(?:append\(text, |refuse\(number, )?b\"(\w+)"
         known |= set(re.findall(arms, read(path)))
     return printed(page, known, "Reason")
 

@@ -8,7 +8,7 @@ use Rattle.capture_lines.specs.declared.item.LineItem.{LineItem}
 use Rattle.periods.specs.PeriodLists.{ArePeriods, items_in}
 use Rattle.periods.specs.PeriodsOf.{periods_of}
 use Rattle.periods.specs.declared.closed.Closed.{Closed}
-use Rattle.capture_log.specs.Heard.{IsPartHeard}
+use Rattle.capture_log.specs.Received.{IsPartReceived}
 use Rattle.capture_log.specs.Log.{line_items_of, parts_of}
 use Rattle.rinex_write.specs.Texts.{rinex_text}
 use Rattle.rinex_write.specs.declared.words.HeaderWords.{HeaderWords}
@@ -22,8 +22,8 @@ use Rattle.one_run.proofs.Surface.{accepted_of, done_by, end_of, no_prefix, noth
 use Rattle.captures.specs.Captures.{Capture as CaptureOf, capture_meaning, capture_of, counts_in, output_of, periods as periods_in, target_of}
 use Rattle.captures.specs.Converts.{CapturePrefix, CountsLast}
 use Rattle.captures.specs.declared.target.CaptureTo.TheVariants as captures
-use Rattle.outlets.specs.declared.target.Target.{Target}
-use Rattle.outlets.specs.declared.target.Target.TheVariants as targets
+use Rattle.streams.specs.declared.target.Target.{Target}
+use Rattle.streams.specs.declared.target.Target.TheVariants as targets
 use Rattle.bridge_engine.specs.declared.job.Job.{Job}
 use Rattle.bridge_engine.specs.declared.job.Job.TheVariants.{StreamToFrames, Capture, Stream, Rinex, Rinex3, SendRinex, SendRinex3, Merge, Cover, Seed}
 use Rattle.bridge_engine.specs.CaptureBytes.{IsCapture, StandFor}
@@ -37,12 +37,12 @@ pub record Readings : Type 0 where
   pub capture : (week : Option ℕ) (bytes : List ℕ) (c : CaptureOf) → (capture_of week bytes ≡ Some c) ↔ IsCapture week bytes c
   pub items : (lines : List Line) (items : List LineItem) → StandFor lines items ↔ (items ≡ line_items_of lines)
   pub periods : (r window : ℕ) (lines : List Line)
-      → ArePeriods r window (IsPartHeard window (line_items_of lines)) (periods_of r window (parts_of window lines))
+      → ArePeriods r window (IsPartReceived window (line_items_of lines)) (periods_of r window (parts_of window lines))
 
 pub readings : ((week : Option ℕ) (bytes : List ℕ) (c : CaptureOf) → (capture_of week bytes ≡ Some c) ↔ IsCapture week bytes c)
     → ((lines : List Line) (items : List LineItem) → StandFor lines items ↔ (items ≡ line_items_of lines))
     → ((r window : ℕ) (lines : List Line)
-    → ArePeriods r window (IsPartHeard window (line_items_of lines)) (periods_of r window (parts_of window lines)))
+    → ArePeriods r window (IsPartReceived window (line_items_of lines)) (periods_of r window (parts_of window lines)))
     → Readings
 readings capture items periods = record { capture = capture; items = items; periods = periods }
 
@@ -51,7 +51,7 @@ abbrev Converts : Option ℕ → HeaderWords → List ℕ → Option (List ℕ) 
 Converts week header bytes o w w' =
     (capture : CaptureOf) × (items : List LineItem) × (periods : List Closed)
     × IsCapture week bytes capture × StandFor capture.lines items
-    × ArePeriods capture.week capture.window (IsPartHeard capture.window items) periods
+    × ArePeriods capture.week capture.window (IsPartReceived capture.window items) periods
     × Appends w w' (rinex_text header (items_in periods)) × IsAtEnd o
 
 converts : Readings → (week : Option ℕ) (header : HeaderWords) (bytes : List ℕ) (o w w' : Option (List ℕ))

@@ -10,9 +10,9 @@ use Rattle.periods.specs.declared.closed.Verdict.TheVariants.{Whole, Partial, Co
 use Rattle.rinex_write.specs.Texts.{header_lines, item_lines, rinex_text, text_of}
 use Rattle.rinex_write.specs.declared.words.HeaderWords.{HeaderWords}
 use Rattle.captures.specs.Captures.{Capture, capture_of, items, output_of, periods, texts_of, whole_text}
-use Rattle.outlets.specs.Targets.{verdict_item}
-use Rattle.outlets.specs.ItemTexts.{rinex_item}
-use Rattle.outlets.specs.declared.target.Target.TheVariants.{Rinex}
+use Rattle.streams.specs.Targets.{verdict_item}
+use Rattle.streams.specs.ItemTexts.{rinex_item}
+use Rattle.streams.specs.declared.target.Target.TheVariants.{Rinex}
 
 -- the text of concatenated lists of lines
 text_append : (some more : List (List ℕ)) → text_of (some ++ more) ≡ text_of some ++ text_of more

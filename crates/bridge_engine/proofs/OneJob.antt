@@ -1,7 +1,7 @@
 -- Words ask for at most one job.
 use Rattle.std.proofs.Common.{◌≡◌, ℕ, List, Option, Some, None, refl, sym, ap, ◌∙◌, subst}
 use Rattle.bridge_engine.specs.declared.job.Job.{Job}
-use Rattle.bridge_engine.specs.declared.values.Values.{Values}
+use Rattle.bridge_engine.specs.declared.values.OptionValues.{OptionValues}
 use Rattle.bridge_engine.specs.Options.{OptionsGiven}
 use Rattle.bridge_engine.proofs.Given.{same_given}
 use Rattle.bridge_engine.specs.Job.{IsWeekText, IsLeapText, IsDateText, IsSeedText, IsSatsText, Reads, ReadsAs, Row, Asks, IsJob, row_of}
@@ -17,10 +17,10 @@ reads_once kind once (Some t) (Some a) None x y = absurd y
 reads_once kind once (Some t) (Some a) (Some b) x y = ap Some (once t a b x y)
 
 -- the values of options are one list
-abbrev values_of : Option ℕ → Option ℕ → Option (List ℕ) → Option ℕ → Option ℕ → Values
+abbrev values_of : Option ℕ → Option ℕ → Option (List ℕ) → Option ℕ → Option ℕ → OptionValues
 values_of week leap date seed sats = record { week = week; leap = leap; date = date; seed = seed; sats = sats }
 
-pub same_values : (v w : Values) → v.week ≡ w.week → v.leap ≡ w.leap → v.date ≡ w.date → v.seed ≡ w.seed → v.sats ≡ w.sats → v ≡ w
+pub same_values : (v w : OptionValues) → v.week ≡ w.week → v.leap ≡ w.leap → v.date ≡ w.date → v.seed ≡ w.seed → v.sats ≡ w.sats → v ≡ w
 same_values v w week leap date seed sats =
     ap (λ (x : Option ℕ). values_of x v.leap v.date v.seed v.sats) week
     ∙ ap (λ (x : Option ℕ). values_of w.week x v.date v.seed v.sats) leap
@@ -28,7 +28,7 @@ same_values v w week leap date seed sats =
     ∙ ap (λ (x : Option ℕ). values_of w.week w.leap w.date x v.sats) seed
     ∙ ap (λ (x : Option ℕ). values_of w.week w.leap w.date w.seed x) sats
 
-pub reads_same : (g : OptionsGiven) (v w : Values) → ReadsAs g v → ReadsAs g w → v ≡ w
+pub reads_same : (g : OptionsGiven) (v w : OptionValues) → ReadsAs g v → ReadsAs g w → v ≡ w
 reads_same g v w a b =
     same_values v w (reads_once IsWeekText (λ t x y p q. sym p.0.value ∙ q.0.value) g.week v.week w.week a.week b.week)
     (reads_once IsLeapText (λ t x y p q. sym p.0.value ∙ q.0.value) g.leap v.leap w.leap a.leap b.leap)
@@ -40,7 +40,7 @@ reads_same g v w a b =
 inside : (a b : List ℕ) → Some a ≡ Some b → a ≡ b
 inside a b e = cc
 
-abbrev row_with : List ℕ → List ℕ → Values → Row
+abbrev row_with : List ℕ → List ℕ → OptionValues → Row
 row_with from to values = record { from = from; to = to; values = values }
 
 same_row : (r s : Row) → r.from ≡ s.from → r.to ≡ s.to → r.values ≡ s.values → r ≡ s

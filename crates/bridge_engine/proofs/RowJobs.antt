@@ -6,8 +6,8 @@ use Rattle.std.specs.Prelude.{if◌then◌else◌, ◌&&◌, nat_eq, nat_lt, opt
 use Rattle.rinex_write.specs.declared.words.HeaderWords.{HeaderWords}
 use Rattle.captures.specs.declared.target.CaptureTo.{CaptureTo}
 use Rattle.captures.specs.declared.target.CaptureTo.TheVariants as captures
-use Rattle.streams.specs.declared.target.StreamTo.{StreamTo}
-use Rattle.streams.specs.declared.target.StreamTo.TheVariants as streams
+use Rattle.streams.specs.declared.stream_target.StreamTo.{StreamTo}
+use Rattle.streams.specs.declared.stream_target.StreamTo.TheVariants as streams
 use Rattle.nav_files.specs.declared.target.RinexTo.{RinexTo}
 use Rattle.nav_files.specs.declared.target.RinexTo.TheVariants as files
 use Rattle.captures.specs.declared.seed_target.SeedTo.{SeedTo}

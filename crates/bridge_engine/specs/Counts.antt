@@ -1,6 +1,6 @@
 -- What is read of the counts of a conversion that is done.
 use Rattle.std.specs.Prelude.{ℕ, Option, None, Some}
-use Rattle.outlets.specs.declared.times.Times.{Times}
+use Rattle.streams.specs.declared.times.Times.{Times}
 use Rattle.captures.specs.declared.seed_target.SeedCounts.TheVariants.{Written, Counted}
 use Rattle.bridge_engine.specs.declared.done.Done.{Done}
 use Rattle.bridge_engine.specs.declared.done.Done.TheVariants.{Frames, Capture, Stream, File, Sent, Merged, Covered, Generated}

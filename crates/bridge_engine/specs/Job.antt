@@ -3,13 +3,13 @@ use Rattle.std.specs.Prelude.{◌≡◌, ◌≤◌, ◌^◌, ◌<◌, ℕ, List,
 use Rattle.std.specs.Str.Parse.{digits_value}
 use Rattle.std.specs.Char.{is_ascii_digit}
 use Rattle.std.specs.List.{list_all}
-use Rattle.gnss_week.specs.Weeks.{IsReference}
-use Rattle.nav_vectors.specs.Sats.{IsSats}
+use Rattle.nav_eph.specs.Weeks.{IsReference}
+use Rattle.sent_captures.specs.Sats.{IsSats}
 use Rattle.rinex_write.specs.declared.words.HeaderWords.{HeaderWords}
 use Rattle.captures.specs.declared.target.CaptureTo.{CaptureTo}
 use Rattle.captures.specs.declared.target.CaptureTo.TheVariants as captures
-use Rattle.streams.specs.declared.target.StreamTo.{StreamTo}
-use Rattle.streams.specs.declared.target.StreamTo.TheVariants as streams
+use Rattle.streams.specs.declared.stream_target.StreamTo.{StreamTo}
+use Rattle.streams.specs.declared.stream_target.StreamTo.TheVariants as streams
 use Rattle.nav_files.specs.declared.target.RinexTo.{RinexTo}
 use Rattle.nav_files.specs.declared.target.RinexTo.TheVariants as files
 use Rattle.captures.specs.declared.seed_target.SeedTo.{SeedTo}
@@ -17,7 +17,7 @@ use Rattle.captures.specs.declared.seed_target.SeedTo.TheVariants as seeds
 use Rattle.bridge_engine.specs.declared.job.Job.{Job}
 use Rattle.bridge_engine.specs.declared.job.SeedJob.{SeedJob}
 use Rattle.bridge_engine.specs.declared.job.Job.TheVariants.{StreamToFrames, Capture, Stream, Rinex, Rinex3, SendRinex, SendRinex3, Merge, Cover, Seed}
-use Rattle.bridge_engine.specs.declared.values.Values.{Values}
+use Rattle.bridge_engine.specs.declared.values.OptionValues.{OptionValues}
 use Rattle.bridge_engine.specs.Options.{OptionsGiven, GiveValues}
 
 -- the text is the number in one to ten decimal digits
@@ -60,7 +60,7 @@ Reads kind (Some text) None = ⊥
 Reads kind (Some text) (Some value) = kind text value
 
 -- the options other than `--from` and `--to` have these values, each in its range
-pub record ReadsAs (given : OptionsGiven) (values : Values) : Type 0 where
+pub record ReadsAs (given : OptionsGiven) (values : OptionValues) : Type 0 where
   pub week : Reads IsWeekText given.week values.week
   pub leap : Reads IsLeapText given.leap values.leap
   pub date : Reads IsDateText given.date values.date
@@ -73,7 +73,7 @@ pub record ReadsAs (given : OptionsGiven) (values : Values) : Type 0 where
 pub record Row : Type 0 where
   pub from : List ℕ
   pub to : List ℕ
-  pub values : Values
+  pub values : OptionValues
 
 -- what is written: the value of `--to`, and the leap seconds and date of the RINEX header, if it
 -- has one

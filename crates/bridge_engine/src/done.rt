@@ -7,8 +7,7 @@ ghost use Rattle.bridge_engine.specs.declared.done.Done.TheVariants as dones;
 use captures::{CaptureCounts, SeedCounts};
 use nav_files::{MergeCounts, RinexCounts};
 use one_run::BridgeFault;
-use outlets::Times;
-use streams::{FrameCounts, StreamCounts};
+use streams::{FrameCounts, StreamCounts, Times};
 
 /// What a conversion that is done has counted.
 #[derive(Clone, Copy)]

@@ -9,10 +9,10 @@ use crate::table::job_in;
 use crate::values::values_of;
 use crate::{Found, options_of};
 use captures::{CaptureTo, SeedTo};
-use gnss_week::RefWeek;
+use nav_eph::RefWeek;
 use nav_files::RinexTo;
-use nav_vectors::Sats;
 use rinex_write::HeaderWords;
+use sent_captures::Sats;
 use std::alloc::{AllocError, Global};
 use streams::StreamTo;
 

@@ -17,7 +17,7 @@ pub fn words_give_one_job()
 
 /// `capture_of` finds a capture exactly if the bytes are one, and each line is read as the item
 /// that it encodes: bytes are at most one capture, and its lines encode one list of items.
-pub fn captures_are_told()
+pub fn captures_are_selected()
     ensures capture { (week : Option ℕ) (bytes : List ℕ) (c : Capture)
         → (capture_of week bytes ≡ Some c) ↔ IsCapture week bytes c }
     ensures items { (lines : List Line) (items : List LineItem)

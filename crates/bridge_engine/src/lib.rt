@@ -37,7 +37,7 @@ mod word_laws;
 
 pub use crate::done::Done;
 pub use crate::job::{CaptureJob, Job, SeedJob, StreamJob, job_of};
-pub use crate::laws::{captures_are_told, words_give_one_job};
+pub use crate::laws::{captures_are_selected, words_give_one_job};
 pub use crate::options::{Found, options_of};
 pub use crate::run::run_job;
 pub use crate::statuses::bridge;
@@ -50,7 +50,6 @@ pub use nav_files::{
     MergeCounts, RinexCounts, RinexTo, run_cover, run_merge, run_rinex, run_rinex3, send_rinex,
     send_rinex3,
 };
-pub use nav_vectors::Sats;
 pub use one_run::{BridgeFault, Status};
-pub use outlets::Times;
-pub use streams::{FrameCounts, StreamCounts, StreamTo, run_frames, run_stream};
+pub use sent_captures::Sats;
+pub use streams::{FrameCounts, StreamCounts, StreamTo, Times, run_frames, run_stream};

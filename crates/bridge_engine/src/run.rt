@@ -26,7 +26,8 @@ pub fn run_job<S: Source, T: Sink, U: Sink>(
         S.left S.never_fails S.faults T.written T.faults U.written U.faults
         input.old input.new output.old output.new report.old report.new result }
     ensures also { OnErr result (IsAhead job.now (S.left input.old) (S.left input.new)
-        (T.written output.old) (T.written output.new) (U.written report.old) (U.written report.new)) }
+        (T.written output.old) (T.written output.new) (U.written report.old)
+        (U.written report.new)) }
 {
     match job {
         Job::StreamToFrames => done::frames(run_frames(input, output)),

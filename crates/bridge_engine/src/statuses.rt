@@ -8,7 +8,7 @@ ghost use Rattle.rinex_write.specs.declared.words.HeaderWords.{HeaderWords};
 ghost use Rattle.capture_lines.specs.declared.item.LineItem.{LineItem};
 ghost use Rattle.periods.specs.PeriodLists.{ArePeriods, items_in};
 ghost use Rattle.periods.specs.declared.closed.Closed.{Closed};
-ghost use Rattle.capture_log.specs.Heard.{IsPartHeard};
+ghost use Rattle.capture_log.specs.Received.{IsPartReceived};
 ghost use Rattle.one_run.specs.Ends.{RanBy};
 ghost use Rattle.captures.specs.Captures.{Capture};
 ghost use Rattle.captures.specs.declared.target.CaptureTo.TheVariants.{Rinex};
@@ -18,9 +18,9 @@ ghost use Rattle.bridge_engine.specs.Meanings.{IsAhead, meaning_of};
 ghost use Rattle.bridge_engine.specs.declared.job.Job.{Job};
 
 use crate::job::{Job, job_of};
-use crate::laws::captures_are_told;
+use crate::laws::captures_are_selected;
 use crate::run::run_job;
-use capture_log::lines_yield_what_is_heard;
+use capture_log::lines_yield_what_is_received;
 use nav_io::{Sink, Source};
 use one_run::Status;
 use std::alloc::{AllocError, Global};
@@ -72,7 +72,7 @@ pub fn bridge<S: Source, T: Sink, U: Sink>(
         → result ≡ 0 → IfSome (S.left input.old) (λ bytes.
         (capture : Capture) × (items : List LineItem) × (periods : List Closed)
         × IsCapture week bytes capture × StandFor capture.lines items
-        × ArePeriods capture.week capture.window (IsPartHeard capture.window items) periods
+        × ArePeriods capture.week capture.window (IsPartReceived capture.window items) periods
         × Appends (T.written output.old) (T.written output.new)
         (rinex_text header (items_in periods))
         × IsAtEnd (S.left input.new)) }
@@ -84,8 +84,8 @@ pub fn bridge<S: Source, T: Sink, U: Sink>(
         (S.left input.old) (S.left input.new) (T.written output.old) (T.written output.new)
         (U.written report.old) (U.written report.new) }
 {
-    lines_yield_what_is_heard();
-    captures_are_told();
+    lines_yield_what_is_received();
+    captures_are_selected();
     match job_of(alloc, words) {
         Err(AllocError) => Status::NoMemory.number(),
         Ok(None) => Status::NoJob.number(),

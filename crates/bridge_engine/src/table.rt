@@ -10,14 +10,14 @@ ghost use Rattle.bridge_engine.specs.Found.{IsRow, IsTarget};
 ghost use Rattle.bridge_engine.specs.declared.job.Job.{Job};
 
 use crate::job::{CaptureJob, Job, SeedJob, StreamJob};
-use crate::values::Values;
+use crate::values::OptionValues;
 use captures::{CaptureTo, SeedTo};
 use nav_files::RinexTo;
 use rinex_write::HeaderWords;
 use streams::StreamTo;
 
 // The job with these `--from` and `--to` words and exactly these values.
-pub(crate) fn job_in(from: &[u8], to: &[u8], values: &Values) -> Option<Job>
+pub(crate) fn job_in(from: &[u8], to: &[u8], values: &OptionValues) -> Option<Job>
     ensures { MatchOption result ((job : Job) → ¬ IsRow (row_of job) from.now to.now values.now)
         (λ job. IsRow (row_of job) from.now to.now values.now) }
 {
@@ -47,7 +47,7 @@ pub(crate) fn job_in(from: &[u8], to: &[u8], values: &Values) -> Option<Job>
 }
 
 // The job from a seed to this form that has exactly these values.
-fn from_seed(to: &[u8], values: &Values) -> Option<Job>
+fn from_seed(to: &[u8], values: &OptionValues) -> Option<Job>
     ensures { MatchOption result
         ((job : Job) → ¬ IsRow (row_of job) (codes "seed") to.now values.now)
         (λ job. IsRow (row_of job) (codes "seed") to.now values.now) }
@@ -82,7 +82,7 @@ fn seed_to(to: &[u8]) -> Option<SeedTo>
 }
 
 // The job from a stream to this form that has exactly these values.
-fn from_stream(to: &[u8], values: &Values) -> Option<Job>
+fn from_stream(to: &[u8], values: &OptionValues) -> Option<Job>
     requires seed { values.now.seed ≡ None }
     requires sats { values.now.sats ≡ None }
     ensures { MatchOption result
@@ -105,7 +105,7 @@ fn from_stream(to: &[u8], values: &Values) -> Option<Job>
 }
 
 // The job from a navigation file of RINEX 4 to this form that has exactly these values.
-fn from_rinex(to: &[u8], values: &Values) -> Option<Job>
+fn from_rinex(to: &[u8], values: &OptionValues) -> Option<Job>
     requires seed { values.now.seed ≡ None }
     requires sats { values.now.sats ≡ None }
     ensures { MatchOption result
@@ -125,7 +125,7 @@ fn from_rinex(to: &[u8], values: &Values) -> Option<Job>
 }
 
 // The job from a navigation file of RINEX 4 without a week.
-fn whole_file(to: &[u8], values: &Values) -> Option<Job>
+fn whole_file(to: &[u8], values: &OptionValues) -> Option<Job>
     requires week { values.now.week ≡ None }
     requires seed { values.now.seed ≡ None }
     requires sats { values.now.sats ≡ None }
@@ -153,7 +153,7 @@ fn whole_file(to: &[u8], values: &Values) -> Option<Job>
 }
 
 // The job from a navigation file of RINEX 3 to this form that has exactly these values.
-fn from_rinex3(to: &[u8], values: &Values) -> Option<Job>
+fn from_rinex3(to: &[u8], values: &OptionValues) -> Option<Job>
     requires seed { values.now.seed ≡ None }
     requires sats { values.now.sats ≡ None }
     ensures { MatchOption result
@@ -176,7 +176,7 @@ fn from_rinex3(to: &[u8], values: &Values) -> Option<Job>
 }
 
 // The target of a capture.
-fn capture_to(to: &[u8], values: &Values) -> Option<CaptureTo>
+fn capture_to(to: &[u8], values: &OptionValues) -> Option<CaptureTo>
     ensures { MatchOption result
         ((target : CaptureTo) → ¬ IsTarget (capture_target target) to.now values.now)
         (λ target. IsTarget (capture_target target) to.now values.now) }
@@ -209,7 +209,7 @@ fn capture_to(to: &[u8], values: &Values) -> Option<CaptureTo>
 }
 
 // The target of the ephemerides of a stream.
-fn stream_to(to: &[u8], values: &Values) -> Option<StreamTo>
+fn stream_to(to: &[u8], values: &OptionValues) -> Option<StreamTo>
     ensures { MatchOption result
         ((target : StreamTo) → ¬ IsTarget (stream_target target) to.now values.now)
         (λ target. IsTarget (stream_target target) to.now values.now) }
@@ -232,7 +232,7 @@ fn stream_to(to: &[u8], values: &Values) -> Option<StreamTo>
 }
 
 // The target of a navigation file.
-fn file_to(to: &[u8], values: &Values) -> Option<RinexTo>
+fn file_to(to: &[u8], values: &OptionValues) -> Option<RinexTo>
     ensures { MatchOption result
         ((target : RinexTo) → ¬ IsTarget (file_target target) to.now values.now)
         (λ target. IsTarget (file_target target) to.now values.now) }
@@ -262,7 +262,7 @@ fn file_to(to: &[u8], values: &Values) -> Option<RinexTo>
 }
 
 // The header's leap seconds and date, where both are given and the leap seconds are at most 99.
-fn header_of(values: &Values) -> Option<HeaderWords>
+fn header_of(values: &OptionValues) -> Option<HeaderWords>
     ensures { MatchOption result ((words : HeaderWords)
         → ¬ ((values.now.leap ≡ Some words.leap) × (values.now.date ≡ Some words.date)))
         (λ words. (values.now.leap ≡ Some words.leap) × (values.now.date ≡ Some words.date)) }
@@ -276,7 +276,7 @@ fn header_of(values: &Values) -> Option<HeaderWords>
 }
 
 // Whether the leap seconds or the date of a header is given.
-fn has_header(values: &Values) -> bool
+fn has_header(values: &OptionValues) -> bool
     ensures { IsFalse result ↔ ((values.now.leap ≡ None) × (values.now.date ≡ None)) }
 {
     values.leap.is_some() || values.date.is_some()

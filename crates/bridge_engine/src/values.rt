@@ -10,12 +10,12 @@ ghost use Rattle.bridge_engine.specs.Job.{IsSeedText, IsSatsText, Reads, ReadsAs
 ghost use Rattle.bridge_engine.specs.WordsFound.{given_of};
 
 use crate::Found;
-use gnss_week::RefWeek;
-use nav_vectors::Sats;
+use nav_eph::RefWeek;
+use sent_captures::Sats;
 
 /// The values of the options other than `--from` and `--to`; `None` if the option is absent.
 #[derive(Clone, Copy)]
-pub struct Values {
+pub struct OptionValues {
     /// The reference week, against which truncated week numbers are resolved.
     pub week: Option<RefWeek>,
     /// The leap seconds between UTC and GPS time, 0 to 99.
@@ -29,8 +29,8 @@ pub struct Values {
 }
 
 // The values of the options, where each is in its range; `None` otherwise.
-pub(crate) fn values_of(found: &Found) -> Option<Values>
-    ensures { MatchOption result ((values : Values) → ¬ ReadsAs (given_of found.now) values)
+pub(crate) fn values_of(found: &Found) -> Option<OptionValues>
+    ensures { MatchOption result ((values : OptionValues) → ¬ ReadsAs (given_of found.now) values)
         (ReadsAs (given_of found.now)) }
 {
     let week = match week_of(found.week) {
@@ -41,7 +41,7 @@ pub(crate) fn values_of(found: &Found) -> Option<Values>
     let date = date_of(found.date)?;
     let seed = seed_of(found.seed)?;
     let sats = sats_of(found.sats)?;
-    Some(Values {
+    Some(OptionValues {
         week,
         leap,
         date,

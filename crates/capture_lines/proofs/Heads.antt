@@ -10,7 +10,7 @@ use Rattle.std.specs.List.{starts_with}
 use Rattle.std.specs.Char.{is_ascii_digit}
 use Rattle.std.specs.Str.{bytes_eq}
 use Rattle.std.specs.Str.Parse.{AllDigits}
-use Rattle.gnss_week.specs.Weeks.{IsReference}
+use Rattle.nav_eph.specs.Weeks.{IsReference}
 use Rattle.capture_lines.specs.Heads.{IsWindow, plain_head, NamesWeek, Names, IsHead, digit_count, whole_number_in, number_behind, ranged, head_with, own_head, head_of}
 use Rattle.capture_lines.specs.Reading.{number_in}
 use Rattle.capture_lines.specs.Spellings.{IsNumberText}

@@ -4,7 +4,7 @@ use Rattle.std.specs.Prelude.{◌≡◌, ℕ, ◌≤◌, ◌==◌, ◌&&◌, nat
 use Rattle.std.specs.List.{prefix_len, starts_with}
 use Rattle.std.specs.Char.{is_ascii_digit}
 use Rattle.std.specs.Str.{bytes_eq}
-use Rattle.gnss_week.specs.Weeks.{IsReference}
+use Rattle.nav_eph.specs.Weeks.{IsReference}
 use Rattle.capture_lines.specs.Reading.{number_in}
 use Rattle.capture_lines.specs.Spellings.{IsNumberText}
 use Rattle.capture_lines.specs.declared.head.CaptureHead.{CaptureHead}

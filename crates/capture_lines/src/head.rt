@@ -7,7 +7,7 @@ ghost use Rattle.capture_lines.specs.Heads.{whole_number_in};
 ghost use Rattle.capture_lines.specs.declared.head.CaptureHead.{CaptureHead};
 
 use crate::numbers::{decimal_number, digit_count};
-use gnss_week::RefWeek;
+use nav_eph::RefWeek;
 
 /// The content of the first line of a capture.
 #[derive(Clone, Copy, PartialEq, Eq)]

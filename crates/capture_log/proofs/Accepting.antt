@@ -4,13 +4,13 @@ use Rattle.std.proofs.Common.{unwrap_or, refl, sym, ap, subst, ◌∙◌, ⊎_el
 use Rattle.nav_eph.specs.Satellite.{Satellite}
 use Rattle.nav_eph.specs.declared.part.Part.{Part}
 use Rattle.nav_eph.specs.declared.signal.Signal.{Signal}
-use Rattle.inav_page.specs.Heard.{StampedHalf}
-use Rattle.inav_page.proofs.Surface.{still_heard}
+use Rattle.inav.specs.Received.{StampedHalf}
+use Rattle.inav.proofs.Surface.{still_heard}
 use Rattle.capture_lines.specs.Late.{stamp_of, IsLate, IsAccepted, greatest_stamp}
 use Rattle.capture_lines.specs.declared.item.LineItem.{LineItem}
 use Rattle.capture_lines.specs.declared.item.LineItem.TheVariants.{Lnav, Half}
 use Rattle.capture_log.specs.Events.{half_of, is_alert}
-use Rattle.capture_log.specs.Heard.{IsOfSubframe, IsOfFrame, IsHalfHeard, IsOfWord, IsPartHeard}
+use Rattle.capture_log.specs.Received.{IsOfSubframe, IsOfFrame, IsHalfReceived, IsOfWord, IsPartReceived}
 use Rattle.capture_log.proofs.Lists.{last_or_not}
 
 -- the greatest stamp with one more item
@@ -70,7 +70,7 @@ accepted_cases w items item other h = elim (last_or_not items h.before h.after i
 -- ---- where more is accepted, more is received
 
 module _ (w : ℕ) (items more : List LineItem) (keeps : (item : LineItem) → IsAccepted w items item → IsAccepted w more item) where
-  pub half_keeps : (half : StampedHalf) → IsHalfHeard w items half → IsHalfHeard w more half
+  pub half_keeps : (half : StampedHalf) → IsHalfReceived w items half → IsHalfReceived w more half
   half_keeps half h = record {
     stamp = h.stamp;
     sat = h.sat;
@@ -91,11 +91,11 @@ module _ (w : ℕ) (items more : List LineItem) (keeps : (item : LineItem) → I
   word_keeps part h = record {
     even = h.even;
     odd = h.odd;
-    heard = still_heard (IsHalfHeard w items) (IsHalfHeard w more) h.even h.odd half_keeps h.heard;
+    heard = still_heard (IsHalfReceived w items) (IsHalfReceived w more) h.even h.odd half_keeps h.heard;
     is = h.is;
   }
 
-  pub part_keeps : (part : Part) → IsPartHeard w items part → IsPartHeard w more part
+  pub part_keeps : (part : Part) → IsPartReceived w items part → IsPartReceived w more part
   part_keeps part h =
       ⊎_elim
       (λ (one : IsOfSubframe w items part). inl (subframe_keeps part one))
@@ -120,8 +120,8 @@ some_one : (a b : ℕ) → Some a ≡ Some b → a ≡ b
 some_one a b e = cc
 
 pub half_cases : (w : ℕ) (items : List LineItem) (item : LineItem) (half : StampedHalf)
-    → IsHalfHeard w (items ++ item ∷ []) half
-    → IsHalfHeard w items half ⊎ IsNewHalf w items item half
+    → IsHalfReceived w (items ++ item ∷ []) half
+    → IsHalfReceived w items half ⊎ IsNewHalf w items item half
 half_cases w items item half h = elim (accepted_cases w items item (Half h.stamp h.sat h.signal h.bits) h.accepted) [
   | inl was ↦ inl (record {
     stamp = h.stamp;

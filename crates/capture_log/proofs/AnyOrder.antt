@@ -8,7 +8,7 @@ use Rattle.capture_lines.specs.Late.{stamp_of, IsAccepted}
 use Rattle.capture_lines.specs.declared.item.LineItem.{LineItem}
 use Rattle.capture_log.specs.Events.{nothing_known}
 use Rattle.capture_log.specs.Log.{log_from, parts_in}
-use Rattle.capture_log.specs.Heard.{IsPartHeard, SameItems, NoneLate}
+use Rattle.capture_log.specs.Received.{IsPartReceived, SameItems, NoneLate}
 use Rattle.capture_log.proofs.Lists.{contains_from_in, in_middle}
 use Rattle.capture_log.proofs.Accepting.{part_keeps}
 
@@ -23,18 +23,18 @@ accepted_there w some other same none item h =
 -- so the same is received
 pub heard_there : (w : ℕ) (some other : List LineItem) → SameItems some other → NoneLate w some
     → NoneLate w other → (part : Part)
-    → IsPartHeard w some part ↔ IsPartHeard w other part
+    → IsPartReceived w some part ↔ IsPartReceived w other part
 heard_there w some other same first second part = (
   λ h. part_keeps w some other (accepted_there w some other (λ item s is there. (same item s is).0 there) second) part h,
   λ h. part_keeps w other some (accepted_there w other some (λ item s is there. (same item s is).1 there) first) part h,
 )
 
 -- the parts in the log of some items are those received in them
-abbrev pub TakesHeard : Type 0
-TakesHeard = (w number : ℕ) (items : List LineItem) (part : Part)
-    → Contains (parts_in (log_from w nothing_known number items)) part ↔ IsPartHeard w items part
+abbrev pub TakesReceived : Type 0
+TakesReceived = (w number : ℕ) (items : List LineItem) (part : Part)
+    → Contains (parts_in (log_from w nothing_known number items)) part ↔ IsPartReceived w items part
 
-pub taken_there : (taken : TakesHeard) (w m n : ℕ) (some other : List LineItem)
+pub taken_there : (taken : TakesReceived) (w m n : ℕ) (some other : List LineItem)
     → SameItems some other → NoneLate w some → NoneLate w other
     → (part : Part)
     → Contains (parts_in (log_from w nothing_known m some)) part ↔ Contains (parts_in (log_from w nothing_known n other)) part
@@ -45,19 +45,19 @@ taken_there taken w m n some other same first second part =
     )
 
 -- the periods of the log are those of what is received
-pub periods_heard : (taken : TakesHeard) (r w number : ℕ) (items : List LineItem)
+pub periods_received : (taken : TakesReceived) (r w number : ℕ) (items : List LineItem)
     → ArePeriods r w (Contains (parts_in (log_from w nothing_known number items))) (periods_of r w (parts_in (log_from w nothing_known number items)))
-    → ArePeriods r w (IsPartHeard w items) (periods_of r w (parts_in (log_from w nothing_known number items)))
-periods_heard taken r w number items h =
+    → ArePeriods r w (IsPartReceived w items) (periods_of r w (parts_in (log_from w nothing_known number items)))
+periods_received taken r w number items h =
     let parts = parts_in (log_from w nothing_known number items) in
-    ArePeriods-same r w (Contains parts) (IsPartHeard w items) (periods_of r w parts)
+    ArePeriods-same r w (Contains parts) (IsPartReceived w items) (periods_of r w parts)
     (record { to = λ p. (taken w number items p).0; from = λ p. (taken w number items p).1 })
     h
 
 -- and so are those that are closed
 pub closed_heard : (r w watermark number : ℕ) (items : List LineItem)
-    → ArePeriods r w (IsPartHeard w items) (periods_of r w (parts_in (log_from w nothing_known number items)))
-    → AreClosed r w (IsPartHeard w items) watermark (closed_of r w watermark (parts_in (log_from w nothing_known number items)))
+    → ArePeriods r w (IsPartReceived w items) (periods_of r w (parts_in (log_from w nothing_known number items)))
+    → AreClosed r w (IsPartReceived w items) watermark (closed_of r w watermark (parts_in (log_from w nothing_known number items)))
 unfolding closed_of
 closed_heard r w watermark number items h =
-    closed_at-are r w (IsPartHeard w items) watermark (periods_of r w (parts_in (log_from w nothing_known number items))) h
+    closed_at-are r w (IsPartReceived w items) watermark (periods_of r w (parts_in (log_from w nothing_known number items))) h

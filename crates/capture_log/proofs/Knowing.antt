@@ -5,14 +5,14 @@ use Rattle.std.proofs.Common.{⊎_elim, lt-ltb, ltb-true}
 use Rattle.std.proofs.lemmas.Bool.{cond_both, both_ways, false_from_ne_true}
 use Rattle.nav_eph.specs.Satellite.{Satellite}
 use Rattle.nav_eph.specs.declared.signal.Signal.{Signal}
-use Rattle.inav_page.specs.Heard.{StampedHalf, AreWordsWith, has_half, words_of}
+use Rattle.inav.specs.Received.{StampedHalf, AreWordsWith, has_half, words_of}
 use Rattle.capture_lines.specs.Late.{stamp_of, IsLate, greatest_stamp}
 use Rattle.capture_lines.specs.declared.item.LineItem.{LineItem}
 use Rattle.capture_lines.specs.declared.item.LineItem.TheVariants.{Pass, Lnav, Half, Frame}
 use Rattle.capture_lines.specs.declared.item.LineItem.TheVariants.{Malformed as MalformedItem}
 use Rattle.capture_log.specs.Events.{Known, half_of, is_alert, is_late, with_half, halves_with}
 use Rattle.capture_log.specs.Events.{known_with}
-use Rattle.capture_log.specs.Heard.{IsHalfHeard}
+use Rattle.capture_log.specs.Received.{IsHalfReceived}
 use Rattle.capture_log.proofs.Lists.{In, in_from_contains, contains_from_in}
 use Rattle.capture_log.proofs.Accepting.{greatest_more, still_accepted, last_accepted, half_keeps}
 use Rattle.capture_log.proofs.Accepting.{IsNewHalf, half_cases}
@@ -29,8 +29,8 @@ pub record HalfLaws : Type 0 where
 -- the state after the items: their greatest stamp, and the received page parts
 pub record Knows (w : ℕ) (items : List LineItem) (known : Known) : Type 0 where
   pub greatest : known.greatest ≡ greatest_stamp items
-  pub halves_to : (half : StampedHalf) → Contains known.halves half → IsHalfHeard w items half
-  pub halves_from : (half : StampedHalf) → IsHalfHeard w items half → Contains known.halves half
+  pub halves_to : (half : StampedHalf) → Contains known.halves half → IsHalfReceived w items half
+  pub halves_from : (half : StampedHalf) → IsHalfReceived w items half → Contains known.halves half
 
 -- ---- late or in time
 
@@ -103,13 +103,13 @@ gets_known laws w known stamp sat signal bits timely nominal =
 
 module _ (laws : HalfLaws) (w : ℕ) (items : List LineItem) (known : Known) (knows : Knows w items known) where
   still : (item : LineItem) (half : StampedHalf) → Contains known.halves half
-      → IsHalfHeard w (items ++ item ∷ []) half
+      → IsHalfReceived w (items ++ item ∷ []) half
   still item half h = half_keeps w items (items ++ item ∷ []) (still_accepted w items item) half (knows.halves_to half h)
 
   -- the page part of an item in time is received, unless an alert
   pub half_heard : (stamp : ℕ) (sat : Satellite) (signal : Signal) (bits : List ℕ)
       → is_late w known stamp ≡ false → is_alert bits ≡ false
-      → IsHalfHeard w (items ++ Half stamp sat signal bits ∷ []) (half_of stamp sat signal bits)
+      → IsHalfReceived w (items ++ Half stamp sat signal bits ∷ []) (half_of stamp sat signal bits)
   half_heard stamp sat signal bits timely nominal = record {
     stamp = stamp;
     sat = sat;
@@ -121,7 +121,7 @@ module _ (laws : HalfLaws) (w : ℕ) (items : List LineItem) (known : Known) (kn
   }
 
   halves_known : (item : LineItem) (half : StampedHalf) → Contains (halves_with w known item) half
-      → IsHalfHeard w (items ++ item ∷ []) half
+      → IsHalfReceived w (items ++ item ∷ []) half
   halves_known Pass half h = still Pass half h
   halves_known MalformedItem half h = still MalformedItem half h
   halves_known (Lnav stamp sat bits) half h = still (Lnav stamp sat bits) half h
@@ -129,7 +129,7 @@ module _ (laws : HalfLaws) (w : ℕ) (items : List LineItem) (known : Known) (kn
   halves_known (Half stamp sat signal bits) half h =
       let item = Half stamp sat signal bits in
       let own = half_of stamp sat signal bits in
-      let Is : List StampedHalf → Type 0 = λ hs. Contains hs half → IsHalfHeard w (items ++ item ∷ []) half in
+      let Is : List StampedHalf → Type 0 = λ hs. Contains hs half → IsHalfReceived w (items ++ item ∷ []) half in
       let more = with_half known.halves own in
       cond_both (is_late w known stamp) known.halves (if is_alert bits then known.halves else more) Is
       (λ late k. still item half k)
@@ -137,7 +137,7 @@ module _ (laws : HalfLaws) (w : ℕ) (items : List LineItem) (known : Known) (kn
       (λ alert k. still item half k)
       (λ nominal k.
       ⊎_elim
-      (λ (new : own ≡ half). subst (IsHalfHeard w (items ++ item ∷ [])) new (half_heard stamp sat signal bits timely nominal))
+      (λ (new : own ≡ half). subst (IsHalfReceived w (items ++ item ∷ [])) new (half_heard stamp sat signal bits timely nominal))
       (λ (old : Contains known.halves half). still item half old)
       (put_half_to laws known.halves own half k)))
       h
@@ -152,11 +152,11 @@ module _ (laws : HalfLaws) (w : ℕ) (items : List LineItem) (known : Known) (kn
       (gets_known laws w known h.stamp h.sat h.signal h.bits (not_late laws w items known knows.greatest h.stamp h.in_time) h.nominal) in
       subst (Contains (halves_with w known item)) (sym h.half_is) there
 
-  known_halves : (item : LineItem) (half : StampedHalf) → IsHalfHeard w (items ++ item ∷ []) half
+  known_halves : (item : LineItem) (half : StampedHalf) → IsHalfReceived w (items ++ item ∷ []) half
       → Contains (halves_with w known item) half
   known_halves item half h =
       ⊎_elim
-      (λ (was : IsHalfHeard w items half). stays_known w known item half (knows.halves_from half was))
+      (λ (was : IsHalfReceived w items half). stays_known w known item half (knows.halves_from half was))
       (λ (new : IsNewHalf w items item half). new_known item half new)
       (half_cases w items item half h)
 

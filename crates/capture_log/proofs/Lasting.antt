@@ -18,7 +18,7 @@ use Rattle.capture_log.specs.Events.{Known, nothing_known, item_line, known_with
 use Rattle.capture_log.specs.Log.{noted, line_items_of, known_from, log_from, log_of, watermark_after}
 use Rattle.capture_log.specs.Log.{parts_of_event, parts_in, parts_of}
 use Rattle.capture_log.proofs.Lists.{all_in}
-use Rattle.capture_log.proofs.HeardValues.{StampsFit}
+use Rattle.capture_log.proofs.ReceivedValues.{StampsFit}
 use Rattle.capture_log.proofs.LaterParts.{ReadsStamps, greatest_from, log_later}
 
 -- ---- further items

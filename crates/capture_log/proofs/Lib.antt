@@ -5,10 +5,10 @@ pub mod Knowing
 pub mod Surface
 pub mod Bringing
 pub mod AllItems
-pub mod HeardValues
+pub mod ReceivedValues
 pub mod LaterParts
 pub mod Lasting
 pub mod AnyOrder
 pub mod Sendable
-pub mod HeardRanges
-pub mod HeardItems
+pub mod ReceivedRanges
+pub mod ReceivedItems

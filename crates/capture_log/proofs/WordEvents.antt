@@ -2,9 +2,9 @@
 use Rattle.std.proofs.Common.{◌≡◌, ℕ, inl, inr, List, map, flat_map, refl, sym, ap, subst, ◌∙◌}
 use Rattle.std.proofs.Common.{⊎_elim}
 use Rattle.nav_eph.specs.Satellite.{Satellite}
-use Rattle.inav_page.specs.Pages.{kind_of, word_of}
-use Rattle.inav_page.specs.Heard.{StampedHalf, MakeWord, ArePartners, AreWordsWith, IsHeardWith}
-use Rattle.inav_page.specs.Heard.{word_by, word_with, stamp_by}
+use Rattle.inav.specs.Pages.{kind_of, word_of}
+use Rattle.inav.specs.Received.{StampedHalf, MakeWord, ArePartners, AreWordsWith, IsReceivedWith}
+use Rattle.inav.specs.Received.{word_by, word_with, stamp_by}
 use Rattle.capture_log.proofs.Lists.{In, in_from_contains, contains_from_in, in_flat_map}
 use Rattle.capture_log.proofs.Lists.{flat_map_in, in_map, map_in}
 
@@ -36,7 +36,7 @@ module _ {E : Type 0} (f : List ℕ → Satellite → ℕ → List E) (among : S
   -- a partner in a list makes a pair
   with_partner : (other : StampedHalf) (event : E) → among other → ArePartners taken other
       → In (made_with f taken other) event
-      → (even : StampedHalf) × (odd : StampedHalf) × IsHeardWith among taken even odd × In (made_of f even odd) event
+      → (even : StampedHalf) × (odd : StampedHalf) × IsReceivedWith among taken even odd × In (made_of f even odd) event
   with_partner other event there partners h =
       ⊎_elim
       (λ (make : MakeWord taken other). (taken, other, (make, inl (refl, there)), subst (λ es. In es event) (taken_even f taken other make) h))
@@ -45,7 +45,7 @@ module _ {E : Type 0} (f : List ℕ → Satellite → ℕ → List E) (among : S
 
   pub words_yield : (words : List (List ℕ)) (event : E) → AreWordsWith among taken words
       → In (of_each words) event
-      → (even : StampedHalf) × (odd : StampedHalf) × IsHeardWith among taken even odd × In (made_of f even odd) event
+      → (even : StampedHalf) × (odd : StampedHalf) × IsReceivedWith among taken even odd × In (made_of f even odd) event
   words_yield words event are h =
       let word = in_flat_map (λ w. f w taken.sat (stamp_by (kind_of taken.half) taken.stamp)) words event h in
       let there : In (map (word_with taken) are.partners) word.0 = subst (λ ws. In ws word.0) are.words_are word.1 in
@@ -67,7 +67,7 @@ module _ {E : Type 0} (f : List ℕ → Satellite → ℕ → List E) (among : S
 
   pub pair_yields : (words : List (List ℕ)) (event : E) (even odd : StampedHalf)
       → AreWordsWith among taken words
-      → IsHeardWith among taken even odd → In (made_of f even odd) event → In (of_each words) event
+      → IsReceivedWith among taken even odd → In (made_of f even odd) event → In (of_each words) event
   pair_yields words event even odd are heard h =
       let make : MakeWord even odd = heard.0 in
       ⊎_elim

@@ -9,15 +9,15 @@ use Rattle.nav_eph.specs.declared.part.Part.{Part}
 use Rattle.lnav_subframe.specs.declared.fault.LnavFault.{LnavFault}
 use Rattle.lnav_subframe.specs.declared.fault.LnavFault.TheVariants as subframes
 use Rattle.nav_eph.specs.declared.signal.Signal.{Signal}
-use Rattle.inav_page.specs.Pages.{kept_of, kind_of}
-use Rattle.inav_page.specs.Heard.{StampedHalf, stamp_by, words_of, has_half}
-use Rattle.inav_page.specs.Keeping.{stamped}
-use Rattle.inav_word.specs.Reading.{reading_of}
-use Rattle.inav_word.specs.declared.parts.WordParts.{WordParts}
-use Rattle.inav_word.specs.declared.fault.WordFault.{WordFault}
-use Rattle.inav_word.specs.declared.fault.WordFault.TheVariants as words
-use Rattle.rtcm_frame.specs.Frames.{frame_size}
-use Rattle.rtcm_frame.specs.State.{payload_of}
+use Rattle.inav.specs.Pages.{kept_of, kind_of}
+use Rattle.inav.specs.Received.{StampedHalf, stamp_by, words_of, has_half}
+use Rattle.inav.specs.Keeping.{stamped}
+use Rattle.inav.specs.Reading.{reading_of}
+use Rattle.inav.specs.declared.parts.WordParts.{WordParts}
+use Rattle.inav.specs.declared.word_fault.WordFault.{WordFault}
+use Rattle.inav.specs.declared.word_fault.WordFault.TheVariants as words
+use Rattle.framing.specs.Frames.{frame_size}
+use Rattle.framing.specs.State.{payload_of}
 use Rattle.rtcm_eph.specs.Reading.{content_of, parts_of}
 use Rattle.rtcm_eph.specs.declared.fault.MessageFault.{MessageFault}
 use Rattle.rtcm_eph.specs.declared.fault.MessageFault.TheVariants as messages
@@ -29,14 +29,14 @@ use Rattle.capture_lines.specs.declared.item.LineItem.{LineItem}
 use Rattle.capture_lines.specs.declared.item.LineItem.TheVariants.{Pass, Lnav, Half, Frame}
 use Rattle.capture_lines.specs.declared.item.LineItem.TheVariants.{Malformed as MalformedItem}
 use Rattle.lnav_subframe.specs.Reading.{subframe_of}
-use Rattle.capture_log.specs.declared.event.Refusal.TheVariants as refusals
+use Rattle.capture_log.specs.declared.event.EventFault.TheVariants as refusals
 use Rattle.capture_log.specs.declared.event.Event.{Event}
-use Rattle.capture_log.specs.declared.event.Event.TheVariants.{Heard, Malformed, Late, Refused}
+use Rattle.capture_log.specs.declared.event.Event.TheVariants.{Received, Malformed, Late, Refused}
 use Rattle.capture_log.specs.declared.event.Event.TheVariants.{Unused}
 
 -- the event of a subframe: its part, or why it is rejected; other subframes and pages are not used
 abbrev pub of_subframe : Result Part LnavFault → Event
-of_subframe (Ok part) = Heard part
+of_subframe (Ok part) = Received part
 of_subframe (Err subframes.Preamble) = Refused refusals.Preamble
 of_subframe (Err (subframes.Parity word)) = Refused (refusals.Parity word)
 of_subframe (Err subframes.BadTow) = Refused refusals.Tow
@@ -53,11 +53,11 @@ of_word_fault words.SpareSisa = Refused refusals.Sisa
 -- the second part of a word, if there is one
 abbrev pub of_second : Option Part → List Event
 of_second None = []
-of_second (Some part) = Heard part ∷ []
+of_second (Some part) = Received part ∷ []
 
 -- the events of a word: its one or two parts, in order
 abbrev pub of_word : Result WordParts WordFault → List Event
-of_word (Ok parts) = Heard parts.first ∷ of_second parts.second
+of_word (Ok parts) = Received parts.first ∷ of_second parts.second
 of_word (Err fault) = of_word_fault fault ∷ []
 
 -- the event of a message that is rejected or not used
@@ -71,9 +71,9 @@ of_message_fault messages.SpareSisa = Refused refusals.Sisa
 
 -- the events of a message: the parts of its ephemeris, or its error
 abbrev pub of_message : Result MessageParts MessageFault → List Event
-of_message (Ok (GpsParts clock a b)) = Heard clock ∷ Heard a ∷ Heard b ∷ []
+of_message (Ok (GpsParts clock a b)) = Received clock ∷ Received a ∷ Received b ∷ []
 of_message (Ok (GalParts w1 w2 w3 w4 health)) =
-    Heard w1 ∷ Heard w2 ∷ Heard w3 ∷ Heard w4 ∷ Heard health ∷ []
+    Received w1 ∷ Received w2 ∷ Received w3 ∷ Received w4 ∷ Received health ∷ []
 of_message (Err fault) = of_message_fault fault ∷ []
 
 -- the bytes are exactly one complete frame with a right checksum

@@ -1,3 +1,3 @@
 pub mod Events
 pub mod Log
-pub mod Heard
+pub mod Received

@@ -6,7 +6,7 @@ use Rattle.nav_eph.specs.declared.part.Part.{Part}
 use Rattle.capture_lines.specs.declared.item.LineItem.{LineItem}
 use Rattle.capture_log.specs.Events.{Known, nothing_known, known_with, events_of, item_line}
 use Rattle.capture_log.specs.declared.event.Event.{Event}
-use Rattle.capture_log.specs.declared.event.Event.TheVariants.{Heard}
+use Rattle.capture_log.specs.declared.event.Event.TheVariants.{Received}
 
 -- an event, with the number of its line
 pub record Noted : Type 0 where
@@ -35,7 +35,7 @@ log_from window known number (item ∷ items) =
 
 -- the parts of an event, and of a log
 abbrev pub parts_of_event : Event → List Part
-parts_of_event (Heard part) = part ∷ []
+parts_of_event (Received part) = part ∷ []
 parts_of_event _ = []
 
 abbrev pub parts_in : List Noted → List Part

@@ -2,7 +2,7 @@ use nav_eph::Part;
 
 /// Why something that was received is not used.
 #[derive(Clone, Copy, PartialEq, Eq)]
-pub enum Refusal {
+pub enum EventFault {
     /// The bytes are not one complete frame with a right checksum.
     Frame,
     /// A subframe begins neither with the preamble nor with its complement.
@@ -28,13 +28,13 @@ pub enum Refusal {
 #[derive(Clone, Copy, PartialEq, Eq)]
 pub enum Event {
     /// A part of an ephemeris or of the ionosphere parameters.
-    Heard(Part),
+    Received(Part),
     /// The line has none of the line formats.
     Malformed,
     /// The line is late: its time tag is before the greatest one by more than the window.
     Late,
     /// The content of the line is rejected.
-    Refused(Refusal),
+    Refused(EventFault),
     /// The content is valid but not used: an alert page, or another subframe, word type or message.
     Unused,
 }

@@ -16,30 +16,30 @@ ghost use Rattle.capture_log.specs.Events.{nothing_known};
 ghost use Rattle.capture_log.specs.Log.{line_items_of, known_from};
 ghost use Rattle.capture_log.specs.Log.{log_from, log_of, watermark_after};
 ghost use Rattle.capture_log.specs.Log.{parts_in, parts_of};
-ghost use Rattle.capture_log.specs.Heard.{IsPartHeard, NoneLate, SameItems};
+ghost use Rattle.capture_log.specs.Received.{IsPartReceived, NoneLate, SameItems};
 
 /// The parts in the log of the items are those received in all items.
-pub fn taken_parts_are_heard()
+pub fn taken_parts_are_received()
     ensures { (window number : ℕ) (items : List LineItem) (part : Part)
         → Contains (parts_in (log_from window nothing_known number items)) part
-        ↔ IsPartHeard window items part }
+        ↔ IsPartReceived window items part }
 {
-    inav_page::halves_are_decided();
-    inav_page::words_are_the_function();
+    inav::halves_are_decided();
+    inav::words_are_the_function();
     capture_lines::late_is_behind_the_greatest_stamp();
 }
 
 /// Each received part is a value: its time tag has 32 bits if those of the items have, and each
 /// field is within its width.
-pub fn parts_heard_are_values()
+pub fn parts_received_are_values()
     ensures { (window number : ℕ) (items : List LineItem)
         → All (λ item. (s : ℕ) → stamp_of item ≡ Some s → s < 2 ^ 32) items
         → All IsPartValue (parts_in (log_from window nothing_known number items)) }
 {
     lnav_subframe::subframe_parts();
-    inav_word::word_parts();
+    inav::word_parts();
     rtcm_eph::message_parts();
-    taken_parts_are_heard();
+    taken_parts_are_received();
 }
 
 /// The same of the lines of a capture.
@@ -47,7 +47,7 @@ pub fn parts_of_lines_are_values()
     ensures { (window : ℕ) (lines : List Line) → All IsPartValue (parts_of window lines) }
 {
     capture_lines::stamps_have_32_bits();
-    parts_heard_are_values();
+    parts_received_are_values();
 }
 
 /// Each part of the lines of a capture can be sent by its satellite.
@@ -56,47 +56,49 @@ pub fn parts_of_lines_are_sendable()
         → All (λ part. IsPart part.sat part.body) (parts_of window lines) }
 {
     lnav_subframe::subframe_parts();
-    inav_word::word_parts();
+    inav::word_parts();
     rtcm_eph::message_parts();
     capture_lines::each_line_stands_for_one_thing();
 }
 
 /// The periods of the parts in the log of the items are those of the parts received in all items.
-pub fn periods_are_those_heard()
+pub fn periods_are_those_received()
     ensures { (r window number : ℕ) (items : List LineItem)
         → All IsPartValue (parts_in (log_from window nothing_known number items))
-        → ArePeriods r window (IsPartHeard window items)
+        → ArePeriods r window (IsPartReceived window items)
         (periods_of r window (parts_in (log_from window nothing_known number items))) }
 {
     periods::periods_are();
-    taken_parts_are_heard();
+    taken_parts_are_received();
 }
 
 /// What the lines of a capture give, stated over all of them at once. The parts are those received,
 /// a set of values; the periods are those of that set, and those closed at the watermark are the
 /// closed ones of that set. The set has no other list of periods, and none of periods closed at a
 /// watermark.
-pub fn lines_yield_what_is_heard()
+pub fn lines_yield_what_is_received()
     ensures parts { (window : ℕ) (lines : List Line) (part : Part)
-        → Contains (parts_of window lines) part ↔ IsPartHeard window (line_items_of lines) part }
+        → Contains (parts_of window lines) part ↔ IsPartReceived window (line_items_of lines) part }
     ensures values { (window : ℕ) (lines : List Line) (part : Part)
-        → IsPartHeard window (line_items_of lines) part → IsPartValue part }
+        → IsPartReceived window (line_items_of lines) part → IsPartValue part }
     ensures periods { (r window : ℕ) (lines : List Line)
-        → ArePeriods r window (IsPartHeard window (line_items_of lines))
+        → ArePeriods r window (IsPartReceived window (line_items_of lines))
         (periods_of r window (parts_of window lines)) }
     ensures closed { (r window : ℕ) (lines : List Line)
-        → AreClosed r window (IsPartHeard window (line_items_of lines)) (watermark_after window lines)
+        → AreClosed r window (IsPartReceived window (line_items_of lines))
+        (watermark_after window lines)
         (closed_of r window (watermark_after window lines) (parts_of window lines)) }
     ensures only { (r window : ℕ) (lines : List Line) (some other : List Closed)
-        → ArePeriods r window (IsPartHeard window (line_items_of lines)) some
-        → ArePeriods r window (IsPartHeard window (line_items_of lines)) other → some ≡ other }
+        → ArePeriods r window (IsPartReceived window (line_items_of lines)) some
+        → ArePeriods r window (IsPartReceived window (line_items_of lines)) other → some ≡ other }
     ensures only_closed { (r window watermark : ℕ) (lines : List Line) (some other : List Closed)
-        → AreClosed r window (IsPartHeard window (line_items_of lines)) watermark some
-        → AreClosed r window (IsPartHeard window (line_items_of lines)) watermark other → some ≡ other }
+        → AreClosed r window (IsPartReceived window (line_items_of lines)) watermark some
+        → AreClosed r window (IsPartReceived window (line_items_of lines)) watermark other
+        → some ≡ other }
 {
-    taken_parts_are_heard();
+    taken_parts_are_received();
     parts_of_lines_are_values();
-    periods_are_those_heard();
+    periods_are_those_received();
 }
 
 /// If no item is late, the set of items alone determines the periods, and so the ephemerides and
@@ -114,7 +116,7 @@ pub fn order_of_items_does_not_matter()
         ≡ items_in (periods_of r window (parts_in (log_from window nothing_known n other))) }
 {
     periods::order_does_not_matter();
-    taken_parts_are_heard();
+    taken_parts_are_received();
 }
 
 /// The same of the lines of two captures with one window: if no line is late and the same items are
@@ -143,7 +145,8 @@ pub fn further_lines_go_on()
         (2 + length lines) (line_items_of more) }
     ensures known { (window : ℕ) (lines more : List Line)
         → known_from window nothing_known (line_items_of (lines ++ more))
-        ≡ known_from window (known_from window nothing_known (line_items_of lines)) (line_items_of more) }
+        ≡ known_from window (known_from window nothing_known (line_items_of lines))
+        (line_items_of more) }
     ensures watermark { (window : ℕ) (lines more : List Line)
         → watermark_after window lines ≤ watermark_after window (lines ++ more) }
 {}
@@ -156,7 +159,7 @@ pub fn further_lines_are_later()
         × All (λ p. watermark_after window lines ≤ p.stamp) later }
 {
     lnav_subframe::subframe_parts();
-    inav_word::word_parts();
+    inav::word_parts();
     rtcm_eph::message_parts();
 }
 

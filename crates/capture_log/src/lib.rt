@@ -8,7 +8,8 @@
 //!
 //! - `specs/Events.antt`: the events of one more line, given the state after those before it;
 //! - `specs/Log.antt`: the log of all lines, and the parts in it;
-//! - `specs/Heard.antt`: the received parts, stated over all lines at once. The theorems state that
+//! - `specs/Received.antt`: the received parts, stated over all lines at once. The theorems state
+//! that
 //!   these are the same, a set of values, and that order and repetition of lines do not matter.
 //!
 //! ```rust
@@ -20,16 +21,16 @@
 #![tactic(auto)]
 
 mod event;
-mod heard_laws;
 mod laws;
 mod reading;
+mod received_laws;
 
-pub use crate::event::{Event, Refusal};
-pub use crate::heard_laws::{parts_heard_have_ranges, periods_heard};
+pub use crate::event::{Event, EventFault};
 pub use crate::laws::{
-    further_lines_are_later, further_lines_go_on, lines_yield_what_is_heard,
-    order_of_items_does_not_matter, order_of_lines_does_not_matter, parts_heard_are_values,
-    parts_of_lines_are_sendable, parts_of_lines_are_values, periods_are_those_heard,
-    taken_parts_are_heard, what_is_closed_stays,
+    further_lines_are_later, further_lines_go_on, lines_yield_what_is_received,
+    order_of_items_does_not_matter, order_of_lines_does_not_matter, parts_of_lines_are_sendable,
+    parts_of_lines_are_values, parts_received_are_values, periods_are_those_received,
+    taken_parts_are_received, what_is_closed_stays,
 };
 pub use crate::reading::{message_event, subframe_event, word_event};
+pub use crate::received_laws::{parts_received_have_ranges, periods_received};

@@ -3,8 +3,8 @@
 ghost use Rattle.std.specs.Prelude.{◌≡◌};
 ghost use Rattle.capture_log.specs.Events.{of_message_fault, of_subframe, of_word_fault};
 
-use crate::event::{Event, Refusal};
-use inav_word::WordFault;
+use crate::event::{Event, EventFault};
+use inav::WordFault;
 use lnav_subframe::LnavFault;
 use nav_eph::Part;
 use rtcm_eph::MessageFault;
@@ -14,12 +14,12 @@ pub fn subframe_event(reading: Result<Part, LnavFault>) -> Event
     ensures { result ≡ of_subframe reading }
 {
     match reading {
-        Ok(part) => Event::Heard(part),
-        Err(LnavFault::Preamble) => Event::Refused(Refusal::Preamble),
-        Err(LnavFault::Parity { word }) => Event::Refused(Refusal::Parity { word }),
-        Err(LnavFault::BadTow) => Event::Refused(Refusal::Tow),
+        Ok(part) => Event::Received(part),
+        Err(LnavFault::Preamble) => Event::Refused(EventFault::Preamble),
+        Err(LnavFault::Parity { word }) => Event::Refused(EventFault::Parity { word }),
+        Err(LnavFault::BadTow) => Event::Refused(EventFault::Tow),
         Err(LnavFault::Unused { number: _, page: _ }) => Event::Unused,
-        Err(LnavFault::BadTime) => Event::Refused(Refusal::Time),
+        Err(LnavFault::BadTime) => Event::Refused(EventFault::Time),
     }
 }
 
@@ -29,9 +29,9 @@ pub fn word_event(fault: WordFault) -> Event
 {
     match fault {
         WordFault::OtherWord { number: _ } => Event::Unused,
-        WordFault::WrongSat => Event::Refused(Refusal::Satellite),
-        WordFault::BadTime => Event::Refused(Refusal::Time),
-        WordFault::SpareSisa => Event::Refused(Refusal::Sisa),
+        WordFault::WrongSat => Event::Refused(EventFault::Satellite),
+        WordFault::BadTime => Event::Refused(EventFault::Time),
+        WordFault::SpareSisa => Event::Refused(EventFault::Sisa),
     }
 }
 
@@ -42,9 +42,9 @@ pub fn message_event(fault: MessageFault) -> Event
     match fault {
         MessageFault::NoNumber => Event::Unused,
         MessageFault::OtherMessage { number: _ } => Event::Unused,
-        MessageFault::Short => Event::Refused(Refusal::Short),
-        MessageFault::BadSat => Event::Refused(Refusal::Satellite),
-        MessageFault::BadTime => Event::Refused(Refusal::Time),
-        MessageFault::SpareSisa => Event::Refused(Refusal::Sisa),
+        MessageFault::Short => Event::Refused(EventFault::Short),
+        MessageFault::BadSat => Event::Refused(EventFault::Satellite),
+        MessageFault::BadTime => Event::Refused(EventFault::Time),
+        MessageFault::SpareSisa => Event::Refused(EventFault::Sisa),
     }
 }

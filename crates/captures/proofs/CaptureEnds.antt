@@ -13,22 +13,22 @@ use Rattle.nav_io.proofs.Surface.{ended_before, lines_length, no_pieces, reads_m
 use Rattle.periods.specs.PeriodsOf.{closed_of, periods_of}
 use Rattle.capture_log.specs.Log.{log_of, watermark_after, parts_of}
 use Rattle.captures.specs.declared.accept.Accepted.{Accepted}
-use Rattle.outlets.specs.declared.target.Target.{Target}
+use Rattle.streams.specs.declared.target.Target.{Target}
 use Rattle.captures.specs.declared.target.CaptureTo.{CaptureTo}
 use Rattle.captures.specs.declared.counts.CaptureCounts.{CaptureCounts}
-use Rattle.captures.specs.declared.counts.Tally.{Tally}
-use Rattle.captures.specs.declared.counts.Said.{Said}
+use Rattle.captures.specs.declared.counts.EventCounts.{EventCounts}
+use Rattle.captures.specs.declared.counts.VerdictCounts.{VerdictCounts}
 use Rattle.one_run.specs.declared.fault.BridgeFault.{BridgeFault}
 use Rattle.one_run.specs.declared.fault.BridgeFault.TheVariants.{ReadFault, WriteFault, ReportFault, TooLong, NoMemory, NotThisForm}
-use Rattle.outlets.specs.Targets.{back_text, prefix_text}
+use Rattle.streams.specs.Targets.{back_text, prefix_text}
 use Rattle.captures.specs.Captures.{Capture, accepted_line, capture_in, capture_meaning, capture_of, capture_with, counts_in, counts_of, counts_text, least_output, least_report, output_of, periods, refusals_text, report_of_capture, flushed_output, flushed_report, flushed_text, flushed_texts, target_meaning, target_of, texts_of}
-use Rattle.captures.specs.declared.hearing.Hearing.{Hearing}
+use Rattle.captures.specs.declared.receiving.CaptureState.{CaptureState}
 use Rattle.captures.specs.Conversions.{ConvertsAll, ConversionBroke, ConversionSays}
 use Rattle.captures.specs.Converts.{AcceptsHead, CaptureAhead, CapturePrefix, GivesHead, GivesNoHead, RejectionsPrefix, Stop, StopSays, closed_texts, no_tally}
 use Rattle.captures.specs.Notes.{line_report, tallied}
 use Rattle.captures.specs.Reports.{count_in, is_late, is_malformed, is_refused_event, is_unused}
 use Rattle.one_run.specs.Causes.{Faults, HasItsCause, faults_of}
-use Rattle.one_run.specs.Runs.{AppendsBetween, Broke, Done, Leaves, Says, StopAtOnePlace, World}
+use Rattle.one_run.specs.Runs.{AppendsBetween, IsBroken, IsDone, Leaves, Says, StopAtOnePlace, World}
 use Rattle.captures.specs.Flushed.{said_of, with_counts}
 use Rattle.captures.proofs.CapturePrefixes.{Follow, accepts_first, capture_by, capture_lines, prefix_all, prefix_head, prefixes_of, known_lines, last_all, last_prefix, last_texts, least_prefix, least_none, least_reported, lines_follow, none_reported, nothing_part, output_is, refuses_first, refuses_none, rejections_of, report_prefix, report_is, flushed_is, flushed_report_is}
 use Rattle.captures.proofs.Converting.{all_lines, ended_lines}
@@ -155,34 +155,34 @@ recent_head line a b prefix rest n e few all recent =
     (omega (arith, sum_pieces prefix (take k s), ended_before prefix rest (line ∷ []) (ap (lines_by false) (sym e) ∙ all), lines_length true (take k s), recent))
 
 -- a prefix of what all bytes give
-convert_prefix : (to : Target) (week : Option ℕ) (left left1 left2 written written1 written2 reported reported2 : Option (List ℕ)) (middle new : LinesState) (hearing : Hearing) (head : Accepted) (line : Line) (fault : BridgeFault) → accepted_line week line ≡ Some head
-    → Appends written written1 (prefix_text to) → (p : ConversionBroke to head [] left1 left2 middle new hearing written1 written2 reported reported2 fault)
+convert_prefix : (to : Target) (week : Option ℕ) (left left1 left2 written written1 written2 reported reported2 : Option (List ℕ)) (middle new : LinesState) (receiving : CaptureState) (head : Accepted) (line : Line) (fault : BridgeFault) → accepted_line week line ≡ Some head
+    → Appends written written1 (prefix_text to) → (p : ConversionBroke to head [] left1 left2 middle new receiving written1 written2 reported reported2 fault)
     → Follow left new (line ∷ (p.given ++ p.last)) → CapturePrefix to week left written written2 reported reported2
-convert_prefix to week None left1 left2 written written1 written2 reported reported2 middle new hearing head line fault accepted begun p k = tt
-convert_prefix to week (Some bytes) left1 left2 written written1 written2 reported reported2 middle new hearing head line fault accepted begun p k =
+convert_prefix to week None left1 left2 written written1 written2 reported reported2 middle new receiving head line fault accepted begun p k = tt
+convert_prefix to week (Some bytes) left1 left2 written written1 written2 reported reported2 middle new receiving head line fault accepted begun p k =
     let text = p.text k.0 k.2 in
     prefixes_of to week head line (p.given ++ p.last) k.0 bytes written written1 written2 reported reported2 accepted k.1 begun (text.prefix, text.within, text.grew) (prefix_of reported reported2 _ _ p.report)
 
-convert_rejections : (to : Target) (week : Option ℕ) (left left1 left2 written1 written2 reported reported2 : Option (List ℕ)) (middle new : LinesState) (hearing : Hearing) (head : Accepted) (line : Line) (fault : BridgeFault) → accepted_line week line ≡ Some head
-    → (p : ConversionBroke to head [] left1 left2 middle new hearing written1 written2 reported reported2 fault)
+convert_rejections : (to : Target) (week : Option ℕ) (left left1 left2 written1 written2 reported reported2 : Option (List ℕ)) (middle new : LinesState) (receiving : CaptureState) (head : Accepted) (line : Line) (fault : BridgeFault) → accepted_line week line ≡ Some head
+    → (p : ConversionBroke to head [] left1 left2 middle new receiving written1 written2 reported reported2 fault)
     → Follow left new (line ∷ (p.given ++ p.last)) → RejectionsPrefix week left reported reported2
-convert_rejections to week None left1 left2 written1 written2 reported reported2 middle new hearing head line fault accepted p k = tt
-convert_rejections to week (Some bytes) left1 left2 written1 written2 reported reported2 middle new hearing head line fault accepted p k =
+convert_rejections to week None left1 left2 written1 written2 reported reported2 middle new receiving head line fault accepted p k = tt
+convert_rejections to week (Some bytes) left1 left2 written1 written2 reported reported2 middle new receiving head line fault accepted p k =
     rejections_of week head line (p.given ++ p.last) k.0 bytes reported reported2 accepted k.1 (prefix_of reported reported2 _ _ p.report)
 
-convert_stopped : (laws : LogLaws) (to : Target) (week : Option ℕ) (left left1 left2 written written1 written2 reported reported2 : Option (List ℕ)) (middle new : LinesState) (hearing : Hearing) (head : Accepted) (line : Line) (fault : BridgeFault) → accepted_line week line ≡ Some head
-    → Appends written written1 (prefix_text to) → (p : ConversionBroke to head [] left1 left2 middle new hearing written1 written2 reported reported2 fault)
+convert_stopped : (laws : LogLaws) (to : Target) (week : Option ℕ) (left left1 left2 written written1 written2 reported reported2 : Option (List ℕ)) (middle new : LinesState) (receiving : CaptureState) (head : Accepted) (line : Line) (fault : BridgeFault) → accepted_line week line ≡ Some head
+    → Appends written written1 (prefix_text to) → (p : ConversionBroke to head [] left1 left2 middle new receiving written1 written2 reported reported2 fault)
     → Follow left new (line ∷ (p.given ++ p.last)) → StopAtOnePlace (Some (flushed_texts to week)) left written written2 reported reported2
-convert_stopped laws to week None left1 left2 written written1 written2 reported reported2 middle new hearing head line fault accepted begun p k = tt
-convert_stopped laws to week (Some bytes) left1 left2 written written1 written2 reported reported2 middle new hearing head line fault accepted begun p k =
-    conversion_stopped_at laws to week left1 left2 written written1 written2 reported reported2 middle new hearing head line [] k.0 bytes fault accepted begun p k.1 k.2
+convert_stopped laws to week None left1 left2 written written1 written2 reported reported2 middle new receiving head line fault accepted begun p k = tt
+convert_stopped laws to week (Some bytes) left1 left2 written written1 written2 reported reported2 middle new receiving head line fault accepted begun p k =
+    conversion_stopped_at laws to week left1 left2 written written1 written2 reported reported2 middle new receiving head line [] k.0 bytes fault accepted begun p k.1 k.2
 
 -- what the fault says besides
-convert_says : (to : Target) (week : Option ℕ) (left left1 left2 written written1 written2 reported reported2 : Option (List ℕ)) (old middle new : LinesState) (hearing : Hearing) (head : Accepted) (given last : List Line) (fault : BridgeFault) → IsFresh old
+convert_says : (to : Target) (week : Option ℕ) (left left1 left2 written written1 written2 reported reported2 : Option (List ℕ)) (old middle new : LinesState) (receiving : CaptureState) (head : Accepted) (given last : List Line) (fault : BridgeFault) → IsFresh old
     → (h : GivesHead week left left1 old middle head) → Appends written written1 (prefix_text to) → (reads : Reads left1 left2 middle new (given ++ last))
-    → ConversionSays to head given last new hearing written1 written2 reported reported2 fault
+    → ConversionSays to head given last new receiving written1 written2 reported reported2 fault
     → StopSays to week left (h.gives.reads.taken ++ reads.taken) written written2 reported reported2 fault
-convert_says to week left left1 left2 written written1 written2 reported reported2 old middle new hearing head given last ReadFault fresh h begun reads says =
+convert_says to week left left1 left2 written written1 written2 reported reported2 old middle new receiving head given last ReadFault fresh h begun reads says =
     let t = h.gives.reads.taken ++ reads.taken in
     let all = reads_more left left1 left2 old middle new (h.line ∷ []) (given ++ last) h.gives.reads reads in
     let ended : lines_by true t ≡ h.line ∷ given =
@@ -196,20 +196,20 @@ convert_says to week left left1 left2 written written1 written2 reported reporte
       subst (Appends written written2) (sym text) (Appends-trans written written1 written2 (prefix_text to) closed begun says.1.stands.flushed.text),
       subst (Appends reported reported2) (sym report) says.1.stands.report,
     )
-convert_says to week left left1 left2 written written1 written2 reported reported2 old middle new hearing head given last TooLong fresh h begun reads says =
+convert_says to week left left1 left2 written written1 written2 reported reported2 old middle new receiving head given last TooLong fresh h begun reads says =
     omega (arith, says, (reads_more left left1 left2 old middle new (h.line ∷ []) (given ++ last) h.gives.reads reads).count, fresh.taken)
-convert_says to week left left1 left2 written written1 written2 reported reported2 old middle new hearing head given last NotThisForm fresh h begun reads says = absurd says
-convert_says to week left left1 left2 written written1 written2 reported reported2 old middle new hearing head given last WriteFault fresh h begun reads says = head_accepts week left left1 old middle head fresh h
-convert_says to week left left1 left2 written written1 written2 reported reported2 old middle new hearing head given last ReportFault fresh h begun reads says = head_accepts week left left1 old middle head fresh h
-convert_says to week left left1 left2 written written1 written2 reported reported2 old middle new hearing head given last NoMemory fresh h begun reads says =
+convert_says to week left left1 left2 written written1 written2 reported reported2 old middle new receiving head given last NotThisForm fresh h begun reads says = absurd says
+convert_says to week left left1 left2 written written1 written2 reported reported2 old middle new receiving head given last WriteFault fresh h begun reads says = head_accepts week left left1 old middle head fresh h
+convert_says to week left left1 left2 written written1 written2 reported reported2 old middle new receiving head given last ReportFault fresh h begun reads says = head_accepts week left left1 old middle head fresh h
+convert_says to week left left1 left2 written written1 written2 reported reported2 old middle new receiving head given last NoMemory fresh h begun reads says =
     (head_accepts week left left1 old middle head fresh h, omega (arith, says, (reads_more left left1 left2 old middle new (h.line ∷ []) (given ++ last) h.gives.reads reads).count, fresh.taken))
 
 -- a prefix of the output of the lines
-pub convert_stops : (laws : LogLaws) (to : Target) (week : Option ℕ) (left left1 left2 written written1 written2 reported reported2 : Option (List ℕ)) (old middle new : LinesState) (hearing : Hearing) (head : Accepted) (fault : BridgeFault) → IsFresh old
+pub convert_stops : (laws : LogLaws) (to : Target) (week : Option ℕ) (left left1 left2 written written1 written2 reported reported2 : Option (List ℕ)) (old middle new : LinesState) (receiving : CaptureState) (head : Accepted) (fault : BridgeFault) → IsFresh old
     → GivesHead week left left1 old middle head → Appends written written1 (prefix_text to)
-    → ConversionBroke to head [] left1 left2 middle new hearing written1 written2 reported reported2 fault
+    → ConversionBroke to head [] left1 left2 middle new receiving written1 written2 reported reported2 fault
     → Stop to week left left2 written written2 reported reported2 fault
-convert_stops laws to week left left1 left2 written written1 written2 reported reported2 old middle new hearing head fault fresh h begun p =
+convert_stops laws to week left left1 left2 written written1 written2 reported reported2 old middle new receiving head fault fresh h begun p =
     let a = h.gives.reads.taken in
     let t = a ++ p.reads.taken in
     let reads = reads_more left left1 left2 old middle new (h.line ∷ []) (p.given ++ p.last) h.gives.reads p.reads in
@@ -243,33 +243,33 @@ convert_stops laws to week left left1 left2 written written1 written2 reported r
           (prefix_trans (line_report (log_of head.window (p.given ++ p.last))) (line_report (log_of head.window c.lines)) (line_report (log_of head.window c.lines) ++ counts_text (counts_of c))
           (report_prefix head.window (p.given ++ p.last) more) (prefix_more (line_report (log_of head.window c.lines)) (counts_text (counts_of c)))) p.report);
       ahead = (
-        convert_prefix to week left left1 left2 written written1 written2 reported reported2 middle new hearing head h.line fault h.accepted begun p
+        convert_prefix to week left left1 left2 written written1 written2 reported reported2 middle new receiving head h.line fault h.accepted begun p
             (lines_follow left left2 old new (h.line ∷ (p.given ++ p.last)) reads fresh.rest fresh.ended),
         last_texts to week left left2 written written1 written2 (periods c) begun (text.prefix, text.within, text.grew),
       );
-      stopped = convert_stopped laws to week left left1 left2 written written1 written2 reported reported2 middle new hearing head h.line fault h.accepted begun p
+      stopped = convert_stopped laws to week left left1 left2 written written1 written2 reported reported2 middle new receiving head h.line fault h.accepted begun p
           (lines_follow left left2 old new (h.line ∷ (p.given ++ p.last)) reads fresh.rest fresh.ended);
-      counts_last = inl (convert_rejections to week left left1 left2 written1 written2 reported reported2 middle new hearing head h.line fault h.accepted p
+      counts_last = inl (convert_rejections to week left left1 left2 written1 written2 reported reported2 middle new receiving head h.line fault h.accepted p
           (lines_follow left left2 old new (h.line ∷ (p.given ++ p.last)) reads fresh.rest fresh.ended));
-      says = convert_says to week left left1 left2 written written1 written2 reported reported2 old middle new hearing head p.given p.last fault fresh h begun p.reads p.says;
+      says = convert_says to week left left1 left2 written written1 written2 reported reported2 old middle new receiving head p.given p.last fault fresh h begun p.reads p.says;
     }
 
 -- ---- all lines were taken
 
-abbrev counts_by : ℕ → ℕ → ℕ → ℕ → ℕ → Said → CaptureCounts
+abbrev counts_by : ℕ → ℕ → ℕ → ℕ → ℕ → VerdictCounts → CaptureCounts
 counts_by lines a b c d said = with_counts lines (record { malformed = a; late = b; refused = c; unused = d }) said
 
-same_counts : (lines a b c d m e f g h : ℕ) (said s : Said) → lines ≡ m → a ≡ e → b ≡ f → c ≡ g → d ≡ h → said ≡ s → counts_by lines a b c d said ≡ counts_by m e f g h s
+same_counts : (lines a b c d m e f g h : ℕ) (said s : VerdictCounts) → lines ≡ m → a ≡ e → b ≡ f → c ≡ g → d ≡ h → said ≡ s → counts_by lines a b c d said ≡ counts_by m e f g h s
 same_counts lines a b c d m e f g h said s p q r t u v = rw (p, q, r, t, u, v) refl
 
 zero_more : (n : ℕ) → 0 + n ≡ n
 zero_more n = omega arith
 
-pub counts_are : (head : Accepted) (given : List Line) (lines : ℕ) (tally : Tally) (said : Said) → lines ≡ length given + 1 → tally ≡ tallied no_tally (log_of head.window given)
+pub counts_are : (head : Accepted) (given : List Line) (lines : ℕ) (tally : EventCounts) (said : VerdictCounts) → lines ≡ length given + 1 → tally ≡ tallied no_tally (log_of head.window given)
     → said ≡ said_of (periods_of head.week head.window (parts_of head.window given)) → with_counts lines tally said ≡ counts_of (capture_by head given)
 counts_are head given lines tally said number counts verdicts =
     let log = log_of head.window given in
-    ap (λ (t : Tally). with_counts lines t said) counts
+    ap (λ (t : EventCounts). with_counts lines t said) counts
     ∙ same_counts lines (0 + count_in is_malformed log) (0 + count_in is_late log) (0 + count_in is_refused_event log) (0 + count_in is_unused log) (length given + 1)
     (count_in is_malformed log) (count_in is_late log) (count_in is_refused_event log) (count_in is_unused log) said
     (said_of (periods_of head.week head.window (parts_of head.window given))) number (zero_more _) (zero_more _) (zero_more _) (zero_more _) verdicts
@@ -289,7 +289,7 @@ pub record IsTaken (to : Target) (week : Option ℕ) (left left2 written written
   pub counted : counts ≡ counts_of (capture_by head given)
   pub accepts : AcceptsHead week left
 
-pub all_taken : (to : Target) (week : Option ℕ) (left left1 left2 written written1 written2 reported reported2 : Option (List ℕ)) (old middle new : LinesState) (head : Accepted) (tally : Tally) (said : Said) (counts : CaptureCounts)
+pub all_taken : (to : Target) (week : Option ℕ) (left left1 left2 written written1 written2 reported reported2 : Option (List ℕ)) (old middle new : LinesState) (head : Accepted) (tally : EventCounts) (said : VerdictCounts) (counts : CaptureCounts)
     → IsFresh old → GivesHead week left left1 old middle head → Appends written written1 (prefix_text to)
     → ConvertsAll to head [] left1 left2 middle new written1 written2 reported reported2 tally said → counts ≡ with_counts new.number tally said
     → IsTaken to week left left2 written written2 reported reported2 head counts
@@ -412,13 +412,13 @@ pub convert_cause : (reads reads1 writes writes1 reports : ℕ) (now : Faults) (
 convert_cause reads reads1 writes writes1 reports now fault h e f =
     subst (λ (n : ℕ). HasItsCause {T = Unit {0}} (faults_of reads n reports) now (Err fault)) f (subst (λ (n : ℕ). HasItsCause {T = Unit {0}} (faults_of n writes1 reports) now (Err fault)) e h)
 
-convert_form : (to : Target) (head : Accepted) (lines last : List Line) (new : LinesState) (hearing : Hearing) (start written told reported : Option (List ℕ)) (fault : BridgeFault)
-    → ConversionSays to head lines last new hearing start written told reported fault → fault ≡ NotThisForm → ⊥
-convert_form to head lines last new hearing start written told reported fault says e = subst (ConversionSays to head lines last new hearing start written told reported) e says
+convert_form : (to : Target) (head : Accepted) (lines last : List Line) (new : LinesState) (receiving : CaptureState) (start written told reported : Option (List ℕ)) (fault : BridgeFault)
+    → ConversionSays to head lines last new receiving start written told reported fault → fault ≡ NotThisForm → ⊥
+convert_form to head lines last new receiving start written told reported fault says e = subst (ConversionSays to head lines last new receiving start written told reported) e says
 
-pub converted_form : (to : Target) (head : Accepted) (past : List Line) (left left_new : Option (List ℕ)) (old new : LinesState) (hearing : Hearing) (start written told reported : Option (List ℕ)) (fault : BridgeFault)
-    → ConversionBroke to head past left left_new old new hearing start written told reported fault → fault ≡ NotThisForm → ⊥
-converted_form to head past left left_new old new hearing start written told reported fault p e = convert_form to head (past ++ p.given) p.last new hearing start written told reported fault p.says e
+pub converted_form : (to : Target) (head : Accepted) (past : List Line) (left left_new : Option (List ℕ)) (old new : LinesState) (receiving : CaptureState) (start written told reported : Option (List ℕ)) (fault : BridgeFault)
+    → ConversionBroke to head past left left_new old new receiving start written told reported fault → fault ≡ NotThisForm → ⊥
+converted_form to head past left left_new old new receiving start written told reported fault p e = convert_form to head (past ++ p.given) p.last new receiving start written told reported fault p.says e
 
 written_fault : (fault other : BridgeFault) → (WriteFault ≡ other → ⊥) → (ReportFault ≡ other → ⊥) → (fault ≡ WriteFault) ⊎ (fault ≡ ReportFault) → fault ≡ other → ⊥
 written_fault fault other write report kind e =
@@ -476,9 +476,9 @@ stop_says to week taken b a NoMemory says cause never form = (refl, says.0, says
 
 pub stopped_by : {S T U : Type 0} (to : CaptureTo) (target : Target) (week : Option ℕ) (b a : World S T U) (fault : BridgeFault) → target ≡ target_of to
     → Stop target week b.left a.left b.written a.written b.reported a.reported fault → HasItsCause {T = Unit {0}} (faults_at b) (faults_at a) (Err fault)
-    → (fault ≡ ReadFault → IsTrue b.never_fails → ⊥) → (fault ≡ NotThisForm → (a.output ≡ b.output) × (a.report ≡ b.report)) → Broke (capture_meaning to week) b a fault
+    → (fault ≡ ReadFault → IsTrue b.never_fails → ⊥) → (fault ≡ NotThisForm → (a.output ≡ b.output) × (a.report ≡ b.report)) → IsBroken (capture_meaning to week) b a fault
 stopped_by to target week b a fault same stop cause never form =
-    subst (λ (t : Target). Broke (target_meaning t week) b a fault) same (record {
+    subst (λ (t : Target). IsBroken (target_meaning t week) b a fault) same (record {
       taken = stop.taken;
       consumes = stop.consumes;
       text = stop.text;
@@ -497,14 +497,14 @@ ahead_of to target week left left_new written written_new reported reported_new 
 
 pub all_done : {S T U : Type 0} (to : CaptureTo) (target : Target) (week : Option ℕ) (b a : World S T U) (written2 reported2 : Option (List ℕ)) (head : Accepted) (counts : CaptureCounts) → target ≡ target_of to
     → IsTaken target week b.left a.left b.written written2 b.reported reported2 head counts → Appends written2 a.written (back_text target (counts_text counts)) → Appends reported2 a.reported (counts_text counts)
-    → faults_at a ≡ faults_at b → Done (capture_meaning to week) b a counts
+    → faults_at a ≡ faults_at b → IsDone (capture_meaning to week) b a counts
 all_done to target week b a written2 reported2 head counts same t back report quiet =
     let c = capture_by head t.given in
     let capture : capture_of week t.taken ≡ Some c = ap (capture_in week) t.lines ∙ capture_lines week head t.line t.given t.accepted in
     let texts = texts_of target (periods c) in
     let behind = subst (λ (x : CaptureCounts). Appends written2 a.written (back_text target (counts_text x))) t.counted back in
     let told = subst (λ (x : CaptureCounts). Appends reported2 a.reported (counts_text x)) t.counted report in
-    subst (λ (x : Target). Done (target_meaning x week) b a counts) same (record {
+    subst (λ (x : Target). IsDone (target_meaning x week) b a counts) same (record {
       taken = t.taken;
       consumes = t.consumes;
       end = t.end;

@@ -14,9 +14,9 @@ use Rattle.periods.specs.declared.closed.Closed.{Closed}
 use Rattle.capture_log.specs.Log.{line_items_of, log_from, log_of, watermark_after, parts_of}
 use Rattle.captures.specs.declared.accept.Accepted.{Accepted}
 use Rattle.one_run.specs.declared.fault.BridgeFault.{BridgeFault}
-use Rattle.outlets.specs.declared.target.Target.{Target}
-use Rattle.outlets.specs.declared.target.Target.TheVariants.{Rinex, Rinex3, Rtcm, ToList, Count}
-use Rattle.outlets.specs.Targets.{back_text, prefix_text}
+use Rattle.streams.specs.declared.target.Target.{Target}
+use Rattle.streams.specs.declared.target.Target.TheVariants.{Rinex, Rinex3, Rtcm, ToList, Count}
+use Rattle.streams.specs.Targets.{back_text, prefix_text}
 use Rattle.captures.specs.Captures.{Capture, accepted_line, capture_in, capture_of, capture_with, counts_in, counts_of, counts_text, least_output, least_report, output_of, periods, refusals_text, report_of_capture, flushed_output, flushed_report, flushed_text, flushed_texts, texts_of, whole_report, whole_text, without_last}
 use Rattle.captures.specs.Converts.{AcceptsHead, CapturePrefix, CountsLast, Refuses, Stop, StopSays}
 use Rattle.one_run.specs.Runs.{AppendsBetween}

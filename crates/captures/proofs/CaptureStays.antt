@@ -7,8 +7,8 @@ use Rattle.nav_io.proofs.Surface.{lines_prefix}
 use Rattle.periods.specs.PeriodLists.{IsPeriodPrefix}
 use Rattle.periods.specs.PeriodsOf.{closed_of, periods_of}
 use Rattle.capture_log.specs.Log.{log_of, parts_of, watermark_after}
-use Rattle.outlets.specs.Targets.{back_text, prefix_text}
-use Rattle.outlets.specs.declared.target.Target.{Target}
+use Rattle.streams.specs.Targets.{back_text, prefix_text}
+use Rattle.streams.specs.declared.target.Target.{Target}
 use Rattle.captures.specs.Captures.{accepted_line, capture_in, capture_with, counts_of, counts_text, flushed_output, flushed_report, flushed_text, output_of, refusals_text, report_of_capture, texts_of, whole_report, whole_text}
 use Rattle.captures.specs.Notes.{line_report}
 use Rattle.captures.proofs.CapturePrefixes.{capture_by, report_prefix}

@@ -11,8 +11,8 @@ use Rattle.nav_io.specs.LineAnswers.{Breaks}
 use Rattle.nav_io.specs.declared.lines.LineFault.{LineFault}
 use Rattle.nav_io.specs.declared.lines.LineFault.TheVariants as lines
 use Rattle.nav_io.proofs.Surface.{ended_before, no_lines, no_pieces, reads_more, reads_none, recent_ended, recent_lines, recent_within, sum_pieces}
-use Rattle.inav_page.specs.Heard.{StampedHalf}
-use Rattle.inav_page.specs.Keeping.{Keeping}
+use Rattle.inav.specs.Received.{StampedHalf}
+use Rattle.inav.specs.Keeping.{Keeping}
 use Rattle.capture_lines.specs.declared.item.LineItem.{LineItem}
 use Rattle.periods.specs.declared.closed.Closed.{Closed}
 use Rattle.periods.specs.PeriodsOf.{closed_of, periods_of}
@@ -25,9 +25,9 @@ use Rattle.one_run.specs.Causes.{Faults, HasItsCause, fault_by, faults_of}
 use Rattle.one_run.specs.Runs.{AppendsBetween}
 use Rattle.one_run.specs.declared.fault.BridgeFault.{BridgeFault}
 use Rattle.one_run.specs.declared.fault.BridgeFault.TheVariants.{ReadFault, WriteFault, ReportFault, TooLong, NoMemory, NotThisForm}
-use Rattle.outlets.specs.declared.target.Target.{Target}
+use Rattle.streams.specs.declared.target.Target.{Target}
 use Rattle.captures.specs.declared.accept.Accepted.{Accepted}
-use Rattle.captures.specs.declared.hearing.Hearing.{Hearing}
+use Rattle.captures.specs.declared.receiving.CaptureState.{CaptureState}
 use Rattle.captures.specs.Captures.{texts_of}
 use Rattle.captures.specs.Conversions.{ConvertsAll, ConversionBroke, ConversionSays}
 use Rattle.captures.specs.Converts.{closed_texts, no_tally, period_texts}
@@ -59,7 +59,7 @@ ended_lines left left_new old new lines reads more none =
 
 -- Behind the lines of before, the lines given were processed, and what they close was written. The bytes held and taken are those
 -- lines and the rest.
-pub record Between (to : Target) (head : Accepted) (past : List Line) (left left_new : Option (List ℕ)) (old new : LinesState) (h : Hearing) (start written told reported : Option (List ℕ)) : Type 0 where
+pub record Between (to : Target) (head : Accepted) (past : List Line) (left left_new : Option (List ℕ)) (old new : LinesState) (h : CaptureState) (start written told reported : Option (List ℕ)) : Type 0 where
   pub given : List Line
   pub reads : Reads left left_new old new given
   pub prefix : List ℕ
@@ -71,7 +71,7 @@ pub record Between (to : Target) (head : Accepted) (past : List Line) (left left
   pub few : new.number < 2 ^ 32
   pub stands : Stands to head (past ++ given) h start written told reported
 
-pub between_start : (to : Target) (head : Accepted) (past : List Line) (left : Option (List ℕ)) (state : LinesState) (h : Hearing) (start written told reported : Option (List ℕ))
+pub between_start : (to : Target) (head : Accepted) (past : List Line) (left : Option (List ℕ)) (state : LinesState) (h : CaptureState) (start written told reported : Option (List ℕ))
     → length state.rest ≤ 4096 → state.taken < 2 ^ 32 → state.number < 2 ^ 32 → state.number ≡ 1 + length past → Stands to head past h start written told reported
     → Between to head past left left state state h start written told reported
 between_start to head past left state h start written told reported held low few first stands = record {
@@ -95,7 +95,7 @@ split_more rest taken prefix middle more behind next e f =
     ∙ ap (λ (l : List ℕ). prefix ++ l) f ∙ sym (append_assoc prefix behind next)
 
 -- a line more
-pub between_more : (to : Target) (head : Accepted) (past : List Line) (left left1 left2 : Option (List ℕ)) (old middle state : LinesState) (h new : Hearing) (start written written_new told reported reported_new : Option (List ℕ)) (item : LineItem)
+pub between_more : (to : Target) (head : Accepted) (past : List Line) (left left1 left2 : Option (List ℕ)) (old middle state : LinesState) (h new : CaptureState) (start written written_new told reported reported_new : Option (List ℕ)) (item : LineItem)
     (b : Between to head past left left1 old middle h start written told reported) (gives : GivesItem left1 left2 middle state item)
     → Stands to head ((past ++ b.given) ++ gives.line ∷ []) new start written_new told reported_new → Between to head past left left2 old state new start written_new told reported_new
 between_more to head past left left1 left2 old middle state h new start written written_new told reported reported_new item b gives stands = record {
@@ -112,7 +112,7 @@ between_more to head past left left1 left2 old middle state h new start written 
 }
 
 -- the number of the next line
-pub between_number : (to : Target) (head : Accepted) (past : List Line) (left left1 left2 : Option (List ℕ)) (old middle state : LinesState) (h : Hearing) (start written told reported : Option (List ℕ)) (item : LineItem) (number : ℕ)
+pub between_number : (to : Target) (head : Accepted) (past : List Line) (left left1 left2 : Option (List ℕ)) (old middle state : LinesState) (h : CaptureState) (start written told reported : Option (List ℕ)) (item : LineItem) (number : ℕ)
     (b : Between to head past left left1 old middle h start written told reported) → GivesItem left1 left2 middle state item → number ≡ state.number → number ≡ 2 + length (past ++ b.given)
 between_number to head past left left1 left2 old middle state h start written told reported item number b gives same =
     omega (arith, same, gives.gives.number, b.number, b.first, length-append past b.given)
@@ -132,7 +132,7 @@ closed_nil to head past given start written text =
     subst (λ (l : List Line). AppendsBetween start written all (closed_texts to head (past ++ l))) (sym (append-nil given)) (between_whole start written all text)
 
 -- the input ended so
-broke_lines : (laws : LogLaws) (to : Target) (head : Accepted) (past : List Line) (left left1 left2 : Option (List ℕ)) (old middle state : LinesState) (h : Hearing) (start written told reported : Option (List ℕ)) (fault : LineFault)
+broke_lines : (laws : LogLaws) (to : Target) (head : Accepted) (past : List Line) (left left1 left2 : Option (List ℕ)) (old middle state : LinesState) (h : CaptureState) (start written told reported : Option (List ℕ)) (fault : LineFault)
     → Between to head past left left1 old middle h start written told reported → Breaks fault left1 left2 middle state
     → ConversionBroke to head past left left2 old state h start written told reported (fault_by fault)
 broke_lines laws to head past left left1 left2 old middle state h start written told reported lines.ReadFault b breaks =
@@ -182,7 +182,7 @@ broke_lines laws to head past left left1 left2 old middle state h start written 
       says = breaks.too_many;
     }
 
-pub broke_input : (laws : LogLaws) (to : Target) (head : Accepted) (past : List Line) (left left1 left2 : Option (List ℕ)) (old middle state : LinesState) (h : Hearing) (start written told reported : Option (List ℕ)) (fault : LineFault) (answer : BridgeFault)
+pub broke_input : (laws : LogLaws) (to : Target) (head : Accepted) (past : List Line) (left left1 left2 : Option (List ℕ)) (old middle state : LinesState) (h : CaptureState) (start written told reported : Option (List ℕ)) (fault : LineFault) (answer : BridgeFault)
     → answer ≡ fault_by fault → Between to head past left left1 old middle h start written told reported → Breaks fault left1 left2 middle state
     → ConversionBroke to head past left left2 old state h start written told reported answer
 broke_input laws to head past left left1 left2 old middle state h start written told reported fault answer e b breaks =
@@ -190,7 +190,7 @@ broke_input laws to head past left left1 left2 old middle state h start written 
     (broke_lines laws to head past left left1 left2 old middle state h start written told reported fault b breaks)
 
 -- a line was not taken whole
-step_says : (to : Target) (head : Accepted) (lines last : List Line) (new : LinesState) (h : Hearing) (start written told reported : Option (List ℕ)) (before now : Faults) (fault : BridgeFault)
+step_says : (to : Target) (head : Accepted) (lines last : List Line) (new : LinesState) (h : CaptureState) (start written told reported : Option (List ℕ)) (before now : Faults) (fault : BridgeFault)
     → new.taken < 2 ^ 32 → IsStepFault before now fault → ConversionSays to head lines last new h start written told reported fault
 step_says to head lines last new h start written told reported before now ReadFault low says = absurd says
 step_says to head lines last new h start written told reported before now WriteFault low says = tt
@@ -199,7 +199,7 @@ step_says to head lines last new h start written told reported before now TooLon
 step_says to head lines last new h start written told reported before now NoMemory low says = low
 step_says to head lines last new h start written told reported before now NotThisForm low says = absurd says
 
-pub broke_step : (laws : LogLaws) (to : Target) (head : Accepted) (past : List Line) (left left1 left2 : Option (List ℕ)) (old middle state : LinesState) (h new : Hearing) (start written written_new told reported reported_new : Option (List ℕ)) (item : LineItem) (before now : Faults) (fault : BridgeFault)
+pub broke_step : (laws : LogLaws) (to : Target) (head : Accepted) (past : List Line) (left left1 left2 : Option (List ℕ)) (old middle state : LinesState) (h new : CaptureState) (start written written_new told reported reported_new : Option (List ℕ)) (item : LineItem) (before now : Faults) (fault : BridgeFault)
     (b : Between to head past left left1 old middle h start written told reported) (gives : GivesItem left1 left2 middle state item)
     → StepBroke to head (past ++ b.given) gives.line start written_new told reported_new before now fault
     → ConversionBroke to head past left left2 old state new start written_new told reported_new fault
@@ -223,9 +223,9 @@ broke_step laws to head past left left1 left2 old middle state h new start writt
     }
 
 -- all was taken and written
-pub all_written : (to : Target) (head : Accepted) (past : List Line) (left left1 left2 : Option (List ℕ)) (old middle state : LinesState) (h new : Hearing) (start written written_new told reported : Option (List ℕ))
+pub all_written : (to : Target) (head : Accepted) (past : List Line) (left left1 left2 : Option (List ℕ)) (old middle state : LinesState) (h new : CaptureState) (start written written_new told reported : Option (List ℕ))
     (b : Between to head past left left1 old middle h start written told reported) → GivesEnd left1 left2 middle state → Finished to head (past ++ b.given) h new start written_new
-    → ConvertsAll to head past left left2 old state start written_new told reported new.ear.tally new.said
+    → ConvertsAll to head past left left2 old state start written_new told reported new.receiver.tally new.said
 all_written to head past left left1 left2 old middle state h new start written written_new told reported b ends_now done =
     let none = sym (append-nil b.given) in
     let nil : past ++ b.given ≡ past ++ (b.given ++ []) = ap (λ (l : List Line). past ++ l) none in
@@ -243,7 +243,7 @@ all_written to head past left left1 left2 old middle state h new start written w
     }
 
 -- all was taken, and not all was written
-finish_says : (to : Target) (head : Accepted) (lines last : List Line) (new : LinesState) (h : Hearing) (start written told reported : Option (List ℕ)) (before now : ℕ) (fault : BridgeFault)
+finish_says : (to : Target) (head : Accepted) (lines last : List Line) (new : LinesState) (h : CaptureState) (start written told reported : Option (List ℕ)) (before now : ℕ) (fault : BridgeFault)
     → new.taken < 2 ^ 32 → IsWriting {T = Unit {0}} before now (Err fault) → ConversionSays to head lines last new h start written told reported fault
 finish_says to head lines last new h start written told reported before now ReadFault low says = absurd says
 finish_says to head lines last new h start written told reported before now WriteFault low says = tt
@@ -252,7 +252,7 @@ finish_says to head lines last new h start written told reported before now TooL
 finish_says to head lines last new h start written told reported before now NoMemory low says = low
 finish_says to head lines last new h start written told reported before now NotThisForm low says = absurd says
 
-pub broke_finish : (to : Target) (head : Accepted) (past : List Line) (left left1 left2 : Option (List ℕ)) (old middle state : LinesState) (h new : Hearing) (start written written_new told reported : Option (List ℕ)) (before now : ℕ) (fault : BridgeFault)
+pub broke_finish : (to : Target) (head : Accepted) (past : List Line) (left left1 left2 : Option (List ℕ)) (old middle state : LinesState) (h new : CaptureState) (start written written_new told reported : Option (List ℕ)) (before now : ℕ) (fault : BridgeFault)
     (b : Between to head past left left1 old middle h start written told reported) → GivesEnd left1 left2 middle state
     → AppendsBetween start written_new (closed_texts to head (past ++ b.given)) (period_texts to head (past ++ b.given)) → IsWriting {T = Unit {0}} before now (Err fault)
     → ConversionBroke to head past left left2 old state new start written_new told reported fault
@@ -278,11 +278,11 @@ broke_finish to head past left left1 left2 old middle state h new start written 
     }
 
 -- the last answer, by what finishing answers
-pub converted_end : {T : Type 0} (to : Target) (head : Accepted) (past : List Line) (left left1 left2 : Option (List ℕ)) (old middle state : LinesState) (h new : Hearing) (start written written_new told reported : Option (List ℕ)) (before now : ℕ) (result : Result T BridgeFault)
+pub converted_end : {T : Type 0} (to : Target) (head : Accepted) (past : List Line) (left left1 left2 : Option (List ℕ)) (old middle state : LinesState) (h new : CaptureState) (start written written_new told reported : Option (List ℕ)) (before now : ℕ) (result : Result T BridgeFault)
     (b : Between to head past left left1 old middle h start written told reported) → GivesEnd left1 left2 middle state
     → MatchResult result (λ x. Finished to head (past ++ b.given) h new start written_new × (now ≡ before))
     (λ fault. AppendsBetween start written_new (closed_texts to head (past ++ b.given)) (period_texts to head (past ++ b.given)) × IsWriting {T = Unit {0}} before now (Err fault))
-    → MatchResult result (λ x. ConvertsAll to head past left left2 old state start written_new told reported new.ear.tally new.said)
+    → MatchResult result (λ x. ConvertsAll to head past left left2 old state start written_new told reported new.receiver.tally new.said)
     (λ fault. ConversionBroke to head past left left2 old state new start written_new told reported fault)
 converted_end to head past left left1 left2 old middle state h new start written written_new told reported before now (Ok x) b ends_now done =
     all_written to head past left left1 left2 old middle state h new start written written_new told reported b ends_now done.0
@@ -311,7 +311,7 @@ step_cause reads reads_new writes writes_new writes1 reports reports_new reports
 pub step_never : (writes writes_new reports reports_new : ℕ) (fault : BridgeFault) → IsStepFault (faults_of 0 writes reports) (faults_of 0 writes_new reports_new) fault → fault ≡ ReadFault → ⊥
 step_never writes writes_new reports reports_new fault says e = subst (IsStepFault (faults_of 0 writes reports) (faults_of 0 writes_new reports_new)) e says
 
-pub finish_cause : {T : Type 0} (to : Target) (head : Accepted) (lines : List Line) (h new : Hearing) (start written : Option (List ℕ)) (before : ℕ) (result : Result T BridgeFault)
+pub finish_cause : {T : Type 0} (to : Target) (head : Accepted) (lines : List Line) (h new : CaptureState) (start written : Option (List ℕ)) (before : ℕ) (result : Result T BridgeFault)
     (reads reads1 reads_new writes writes_new reports reports1 : ℕ) → reads_new ≡ reads1 → reads1 ≡ reads → before ≡ writes → reports1 ≡ reports
     → MatchResult result (λ x. Finished to head lines h new start written × (writes_new ≡ before))
     (λ fault. AppendsBetween start written (closed_texts to head lines) (period_texts to head lines) × IsWriting {T = Unit {0}} before writes_new (Err fault))
@@ -327,7 +327,7 @@ finish_cause to head lines h new start written before (Err TooLong) reads reads1
 finish_cause to head lines h new start written before (Err NoMemory) reads reads1 reads_new writes writes_new reports reports1 a b d e done = rw (a, b, done.1, d, e) refl
 finish_cause to head lines h new start written before (Err NotThisForm) reads reads1 reads_new writes writes_new reports reports1 a b d e done = absurd done.1
 
-pub finish_never : {T : Type 0} (to : Target) (head : Accepted) (lines : List Line) (h new : Hearing) (start written : Option (List ℕ)) (before now : ℕ) (result : Result T BridgeFault)
+pub finish_never : {T : Type 0} (to : Target) (head : Accepted) (lines : List Line) (h new : CaptureState) (start written : Option (List ℕ)) (before now : ℕ) (result : Result T BridgeFault)
     → MatchResult result (λ x. Finished to head lines h new start written × (now ≡ before))
     (λ fault. AppendsBetween start written (closed_texts to head lines) (period_texts to head lines) × IsWriting {T = Unit {0}} before now (Err fault))
     → result ≡ Err ReadFault → ⊥
@@ -349,12 +349,12 @@ keeps_nothing keeping window same greatest kept = record {
   low = omega (arith, greatest);
 }
 
-pub stands_start : (to : Target) (head : Accepted) (h : Hearing) (start told : Option (List ℕ)) → head.window ≤ 14400 → IsNew h head.week head.window → Stands to head [] h start start told told
+pub stands_start : (to : Target) (head : Accepted) (h : CaptureState) (start told : Option (List ℕ)) → head.window ≤ 14400 → IsNew h head.week head.window → Stands to head [] h start start told told
 stands_start to head h start told low new =
     let watermark : 0 ≡ watermark_after head.window [] = omega arith in
     let closed : [] ≡ closed_of head.week head.window (watermark_after head.window []) [] =
     sym (closed_of-none head.week head.window []) ∙ ap (λ (m : ℕ). closed_of head.week head.window m []) watermark in
-    let now = SlotsStandFor h.ear.assembly in
+    let now = SlotsStandFor h.receiver.assembly in
     record {
       low = low;
       own = new.own;

@@ -3,14 +3,14 @@ use Rattle.std.proofs.Common.{◌≡◌, ℕ, ◌<◌, ◌≤◌, true, false, n
 use Rattle.std.proofs.lemmas.Bool.{and_from, and_parts, cond-true, cond-false, eq-eqb, eqb-true, false_from_ne_true, lt-ltb, ltb-true}
 use Rattle.std.proofs.lemmas.List.Elements.{All-head, All-tail}
 use Rattle.nav_eph.specs.declared.part.Part.{Part}
-use Rattle.rtcm_frame.specs.Frames.{frame_size}
-use Rattle.rtcm_frame.specs.State.{payload_of}
+use Rattle.framing.specs.Frames.{frame_size}
+use Rattle.framing.specs.State.{payload_of}
 use Rattle.rtcm_eph.specs.Reading.{content_of, parts_of}
 use Rattle.rtcm_eph.specs.declared.fault.MessageFault.{MessageFault}
 use Rattle.rtcm_eph.specs.declared.read.MessageParts.{MessageParts}
 use Rattle.capture_log.specs.Events.{is_frame, of_frame, of_message}
-use Rattle.capture_log.specs.declared.event.Event.TheVariants.{Heard, Refused}
-use Rattle.capture_log.specs.declared.event.Refusal.TheVariants as refusals
+use Rattle.capture_log.specs.declared.event.Event.TheVariants.{Received, Refused}
+use Rattle.capture_log.specs.declared.event.EventFault.TheVariants as refusals
 use Rattle.captures.specs.Notes.{AreFrom}
 
 -- the bytes are one whole frame
@@ -40,7 +40,7 @@ frame_yields stamp bytes frame payload answer whole same part read =
     ∙ sym (cond-true (is_frame bytes) (of_message (parts_of stamp (content_of (payload_of bytes)))) (Refused refusals.Frame ∷ []) (whole_frame bytes whole))
 
 -- parts with a stamp that is not before another stamp
-pub heard_from : (least stamp : ℕ) (parts : List Part) → least ≤ stamp → All (λ (part : Part). part.stamp ≡ stamp) parts → AreFrom least (map Heard parts)
+pub heard_from : (least stamp : ℕ) (parts : List Part) → least ≤ stamp → All (λ (part : Part). part.stamp ≡ stamp) parts → AreFrom least (map Received parts)
 heard_from least stamp [] later all = tt
 heard_from least stamp (p ∷ ps) later all =
     let first : p.stamp ≡ stamp = All-head (λ (part : Part). part.stamp ≡ stamp) p ps all in

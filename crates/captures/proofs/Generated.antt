@@ -1,11 +1,11 @@
 -- The generated text is a capture.
 use Rattle.std.proofs.Common.{◌≡◌, ◌∷◌, ◌++◌, ℕ, Bool, false, List, [], Some, None, codes, refl, ap, ◌∙◌, arith}
 use Rattle.nav_io.specs.Lines.{IsOneLine, Line, lines_by}
-use Rattle.nav_vectors.specs.Capture.{lines_of}
-use Rattle.nav_vectors.specs.Text.{capture_text, text_of_lines}
+use Rattle.sent_captures.specs.Capture.{lines_of}
+use Rattle.sent_captures.specs.Text.{capture_text, text_of_lines}
 use Rattle.capture_lines.specs.Heads.{head_of, plain_head}
 use Rattle.periods.specs.declared.closed.Closed.{Closed}
-use Rattle.outlets.specs.declared.target.Target.TheVariants.{Count}
+use Rattle.streams.specs.declared.target.Target.TheVariants.{Count}
 use Rattle.captures.specs.Captures.{Capture, accepted_head, accepted_line, capture_of, capture_with, counts_of, counts_text, output_of, periods, report_of_capture, texts_of, whole_report, whole_text}
 use Rattle.captures.specs.declared.seed_target.SeedTo.TheVariants as seeds
 use Rattle.captures.specs.Seeds.{generated, seed_output, seed_report}

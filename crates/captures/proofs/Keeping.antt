@@ -4,15 +4,15 @@ use Rattle.std.proofs.lemmas.Bool.{cond_both, cond-true, cond-false, both_ways}
 use Rattle.std.proofs.lemmas.List.Elements.{Contains-append_cases, Contains-append_left, Contains-append_right, Contains-push, Contains-push_cases, at_from_Contains}
 use Rattle.nav_eph.specs.Satellite.{Satellite}
 use Rattle.nav_eph.specs.declared.signal.Signal.{Signal}
-use Rattle.inav_page.specs.Heard.{StampedHalf, ArePartners, AreWordsWith, has_half, stamp_by, words_of}
-use Rattle.inav_page.specs.Pages.{kept_of, kind_of}
+use Rattle.inav.specs.Received.{StampedHalf, ArePartners, AreWordsWith, has_half, stamp_by, words_of}
+use Rattle.inav.specs.Pages.{kept_of, kind_of}
 use Rattle.nav_bits.specs.Bits.{number_at}
-use Rattle.inav_page.specs.Keeping.{Keeping, IsKeptWith, IsRecent, stamped}
-use Rattle.inav_page.proofs.Surface.{one_list_of}
+use Rattle.inav.specs.Keeping.{Keeping, IsKeptWith, IsRecent, stamped}
+use Rattle.inav.proofs.Surface.{one_list_of}
 use Rattle.capture_log.specs.Events.{Known, half_of, is_alert, new_words, of_half, of_words, with_half}
 use Rattle.capture_log.specs.declared.event.Event.TheVariants.{Unused}
-use Rattle.captures.specs.Notes.{KeepsHalves, TookHalf, of_heard}
-use Rattle.captures.proofs.WordsHeard.{heard_at}
+use Rattle.captures.specs.Notes.{KeepsHalves, TookHalf, of_received}
+use Rattle.captures.proofs.WordsReceived.{received_at}
 
 -- the laws of page parts
 abbrev pub IsDecided : Type 0
@@ -141,8 +141,8 @@ took_half decided old new window known stamp sat signal bits half nominal is kee
 
 pub half_events : (halves : List StampedHalf) (stamp : ℕ) (sat : Satellite) (signal : Signal) (bits : List ℕ) (half heard : ℕ) (words : List (List ℕ))
     → is_alert bits ≡ false → half ≡ kept_of (number_at bits 0 120) → words ≡ new_words halves (stamped stamp sat signal half)
-    → ((words ≡ [] → ⊥) → heard ≡ stamp_by (kind_of half) stamp) → of_heard sat heard words ≡ of_half halves stamp sat signal bits
+    → ((words ≡ [] → ⊥) → heard ≡ stamp_by (kind_of half) stamp) → of_received sat heard words ≡ of_half halves stamp sat signal bits
 half_events halves stamp sat signal bits half heard words nominal is new at =
-    heard_at sat heard (stamp_by (kind_of half) stamp) words at ∙ ap (of_heard sat (stamp_by (kind_of half) stamp)) new
+    received_at sat heard (stamp_by (kind_of half) stamp) words at ∙ ap (of_received sat (stamp_by (kind_of half) stamp)) new
     ∙ ap (λ (h : ℕ). of_words (stamped stamp sat signal h) (new_words halves (stamped stamp sat signal h))) is
     ∙ sym (cond-false (is_alert bits) (Unused ∷ []) (of_words (half_of stamp sat signal bits) (new_words halves (half_of stamp sat signal bits))) nominal)

@@ -4,7 +4,7 @@ mod CountEnds
 mod CaptureEnds
 mod CapturePrefixes
 mod CaptureStays
-mod Ears
+mod PartReceivers
 mod Converting
 mod FrameEvents
 mod Prefixes
@@ -18,5 +18,5 @@ mod Stopping
 mod SubframeEvents
 mod Takings
 mod Weighing
-mod WordsHeard
+mod WordsReceived
 mod Writing

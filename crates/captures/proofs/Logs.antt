@@ -8,26 +8,26 @@ use Rattle.std.proofs.lemmas.List.{length-map, map-append}
 use Rattle.std.proofs.lemmas.List.Sums.{sum-map, sum_by-append}
 use Rattle.nav_eph.specs.declared.part.Part.{Part}
 use Rattle.nav_io.specs.Lines.{Line}
-use Rattle.inav_page.specs.Pages.{kind_of}
+use Rattle.inav.specs.Pages.{kind_of}
 use Rattle.lnav_subframe.specs.Reading.{subframe_of}
-use Rattle.inav_page.specs.Heard.{StampedHalf, stamp_by, are_partners, partners_of, put_half, words_of, word_with, has_half}
-use Rattle.inav_word.specs.Reading.{reading_of}
-use Rattle.inav_word.specs.declared.parts.WordParts.{WordParts}
-use Rattle.inav_word.specs.declared.fault.WordFault.{WordFault}
+use Rattle.inav.specs.Received.{StampedHalf, stamp_by, are_partners, partners_of, put_half, words_of, word_with, has_half}
+use Rattle.inav.specs.Reading.{reading_of}
+use Rattle.inav.specs.declared.parts.WordParts.{WordParts}
+use Rattle.inav.specs.declared.word_fault.WordFault.{WordFault}
 use Rattle.nav_eph.specs.Satellite.{Satellite}
-use Rattle.rtcm_frame.specs.State.{payload_of}
+use Rattle.framing.specs.State.{payload_of}
 use Rattle.rtcm_eph.specs.Reading.{content_of, parts_of as message_parts}
 use Rattle.rtcm_eph.specs.declared.fault.MessageFault.{MessageFault}
 use Rattle.rtcm_eph.specs.declared.read.MessageParts.{MessageParts}
 use Rattle.rtcm_eph.specs.declared.read.MessageParts.TheVariants.{Gps as GpsParts, Gal as GalParts}
 use Rattle.capture_lines.specs.declared.item.LineItem.{LineItem}
 use Rattle.capture_lines.specs.declared.item.LineItem.TheVariants.{Pass, Lnav, Half, Frame, Malformed as MalformedItem}
-use Rattle.capture_log.specs.declared.event.Refusal.TheVariants as refusals
+use Rattle.capture_log.specs.declared.event.EventFault.TheVariants as refusals
 use Rattle.capture_log.specs.Events.{is_frame, Known, nothing_known, events_of, known_with, item_line, is_late, is_alert, half_of, of_word, of_second, of_frame, of_half, of_words, new_words, with_half, of_message, of_subframe}
 use Rattle.capture_log.specs.Log.{Noted, noted, line_items_of, known_from, log_from, log_of, parts_in, parts_of, parts_of_event}
 use Rattle.capture_log.specs.declared.event.Event.{Event}
-use Rattle.capture_log.specs.declared.event.Event.TheVariants.{Heard, Malformed, Late, Refused, Unused}
-use Rattle.captures.specs.declared.counts.Tally.{Tally}
+use Rattle.capture_log.specs.declared.event.Event.TheVariants.{Received, Malformed, Late, Refused, Unused}
+use Rattle.captures.specs.declared.counts.EventCounts.{EventCounts}
 use Rattle.captures.specs.Notes.{line_report, tallied}
 use Rattle.captures.specs.Reports.{count_in, is_malformed, is_late as is_late_event, is_refused_event, is_unused}
 
@@ -84,7 +84,7 @@ count_append kind log more =
     ∙ ap (λ k. k + sum_by (λ (n : Noted). kind n.event) more) (sym (sum-map (λ (n : Noted). kind n.event) log))
     ∙ ap (λ k. count_in kind log + k) (sym (sum-map (λ (n : Noted). kind n.event) more))
 
-abbrev tally_by : ℕ → ℕ → ℕ → ℕ → Tally
+abbrev tally_by : ℕ → ℕ → ℕ → ℕ → EventCounts
 tally_by a b c d = record { malformed = a; late = b; refused = c; unused = d }
 
 same_tally : (a b c d e f g h : ℕ) → a ≡ e → b ≡ f → c ≡ g → d ≡ h → tally_by a b c d ≡ tally_by e f g h
@@ -93,7 +93,7 @@ same_tally a b c d e f g h p q r s = rw (p, q, r, s) refl
 add_count : (t k l n : ℕ) → n ≡ k + l → t + n ≡ (t + k) + l
 add_count t k l n e = omega (arith, e)
 
-pub tally_append : (t : Tally) (log more : List Noted) → tallied t (log ++ more) ≡ tallied (tallied t log) more
+pub tally_append : (t : EventCounts) (log more : List Noted) → tallied t (log ++ more) ≡ tallied (tallied t log) more
 tally_append t log more =
     same_tally _ _ _ _ _ _ _ _ (add_count t.malformed _ _ _ (count_append is_malformed log more)) (add_count t.late _ _ _ (count_append is_late_event log more))
     (add_count t.refused _ _ _ (count_append is_refused_event log more)) (add_count t.unused _ _ _ (count_append is_unused log more))
@@ -101,7 +101,7 @@ tally_append t log more =
 -- ---- how many parts
 
 event_parts : (e : Event) → length (parts_of_event e) ≤ 1
-event_parts (Heard part) = omega arith
+event_parts (Received part) = omega arith
 event_parts Malformed = omega arith
 event_parts Late = omega arith
 event_parts (Refused refusal) = omega arith

@@ -9,12 +9,12 @@ use Rattle.nav_eph.specs.declared.part.Part.{Part}
 use Rattle.nav_io.specs.Prefix.{AppendsPrefix, IsPrefix}
 use Rattle.nav_io.specs.Lines.{Line}
 use Rattle.periods.specs.declared.closed.Closed.{Closed}
-use Rattle.periods.specs.declared.key.Place.{Place}
+use Rattle.periods.specs.declared.key.PeriodId.{PeriodId}
 use Rattle.periods.specs.PeriodLists.{IsPeriodPrefix}
 use Rattle.periods.specs.PeriodsOf.{closed_of, insert, insert_at, periods_ending, periods_of, place_at, quiet, closed_with, verdict_at, is_before}
 use Rattle.periods.specs.Verdicts.{closed_place}
 use Rattle.capture_log.specs.Log.{watermark_after, parts_of}
-use Rattle.outlets.specs.declared.target.Target.{Target}
+use Rattle.streams.specs.declared.target.Target.{Target}
 use Rattle.captures.specs.Captures.{texts_of}
 use Rattle.one_run.specs.Runs.{AppendsBetween}
 use Rattle.captures.proofs.Writing.{texts_prefix}
@@ -125,7 +125,7 @@ insert_few c (d ∷ ds) =
     if_periods (is_before (closed_place c) (closed_place d)) (c ∷ d ∷ ds) (if is_before (closed_place d) (closed_place c) then d ∷ insert c ds else d ∷ ds) n one
     (if_periods (is_before (closed_place d) (closed_place c)) (d ∷ insert c ds) (d ∷ ds) n two three)
 
-at_few : (r window : ℕ) (parts : List Part) (place : Option Place) (cs : List Closed) → length (insert_at r window parts place cs) ≤ length cs + 1
+at_few : (r window : ℕ) (parts : List Part) (place : Option PeriodId) (cs : List Closed) → length (insert_at r window parts place cs) ≤ length cs + 1
 at_few r window parts None cs = omega arith
 at_few r window parts (Some q) cs =
     let n = length cs + 1 in

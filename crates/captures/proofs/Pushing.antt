@@ -15,11 +15,11 @@ use Rattle.capture_log.specs.Log.{log_of, watermark_after, parts_of}
 use Rattle.one_run.specs.Causes.{HasItsCause, faults_of}
 use Rattle.one_run.specs.declared.fault.BridgeFault.{BridgeFault}
 use Rattle.one_run.specs.declared.fault.BridgeFault.TheVariants.{ReadFault, WriteFault, ReportFault, TooLong, NoMemory, NotThisForm}
-use Rattle.outlets.specs.declared.target.Target.{Target}
-use Rattle.outlets.specs.Targets.{back_text, prefix_text}
+use Rattle.streams.specs.declared.target.Target.{Target}
+use Rattle.streams.specs.Targets.{back_text, prefix_text}
 use Rattle.captures.specs.declared.accept.Accepted.{Accepted}
 use Rattle.captures.specs.declared.counts.CaptureCounts.{CaptureCounts}
-use Rattle.captures.specs.declared.hearing.Hearing.{Hearing}
+use Rattle.captures.specs.declared.receiving.CaptureState.{CaptureState}
 use Rattle.captures.specs.Captures.{Capture, accepted_line, capture_in, capture_of, capture_with, counts_in, counts_of, counts_text, ended_capture, flushed_output, flushed_report, flushed_text, output_of, periods, refusals_text, report_of_capture, texts_of}
 use Rattle.captures.specs.Conversions.{ConversionBroke, ConvertsAll, HoldsPast}
 use Rattle.captures.specs.Converts.{GivesHead, GivesNoHead, closed_texts, period_texts}
@@ -105,8 +105,8 @@ none_ended : (to : Target) (week : Option ℕ) (lines : LinesState) (bytes : Lis
     → lines_by true bytes ≡ []
 none_ended to week lines bytes start written begun reported waits b = ended_behind lines bytes b.given waits b.read ∙ b.heard.0
 
-pub flushed_by : (to : Target) (week : Option ℕ) (lines : LinesState) (hearing : Option Hearing) (bytes : List ℕ) (start written begun reported : Option (List ℕ)) → IsWaiting lines
-    → IsBehind to week lines hearing bytes start written begun reported
+pub flushed_by : (to : Target) (week : Option ℕ) (lines : LinesState) (receiving : Option CaptureState) (bytes : List ℕ) (start written begun reported : Option (List ℕ)) → IsWaiting lines
+    → IsBehind to week lines receiving bytes start written begun reported
     → Appends start written (flushed_output to week bytes) × Appends begun reported (flushed_report week bytes) × ((lines_by true bytes ≡ []) ⊎ IsSome (ended_capture week bytes))
 flushed_by to week lines None bytes start written begun reported waits b =
     let none = none_ended to week lines bytes start written begun reported waits b in (
@@ -126,10 +126,10 @@ flushed_by to week lines (Some h) bytes start written begun reported waits b =
       inr (subst (λ (c : Option Capture). IsSome c) (sym (ap (capture_in week) ended ∙ capture)) refl),
     )
 
-pub pushed_by : (s : CaptureRunState) (bytes : List ℕ) (start written begun reported : Option (List ℕ)) → s.fault ≡ None → IsWaiting s.lines → IsBehind s.to s.week s.lines s.hearing bytes start written begun reported
+pub pushed_by : (s : CaptureRunState) (bytes : List ℕ) (start written begun reported : Option (List ℕ)) → s.fault ≡ None → IsWaiting s.lines → IsBehind s.to s.week s.lines s.receiving bytes start written begun reported
     → IsPushed s bytes start written begun reported
 pushed_by s bytes start written begun reported going waits b =
-    let so_far = flushed_by s.to s.week s.lines s.hearing bytes start written begun reported waits b in
+    let so_far = flushed_by s.to s.week s.lines s.receiving bytes start written begun reported waits b in
     record {
       going = going;
       output = so_far.0;
@@ -153,7 +153,7 @@ waits_none lines fresh = record { more = fresh.ended; none = ap ends fresh.rest 
 
 -- ---- the state, whatever was written
 
-stands_unknown : (to : Target) (head : Accepted) (lines : List Line) (h : Hearing) (start written told reported w u : Option (List ℕ)) → Stands to head lines h start written told reported
+stands_unknown : (to : Target) (head : Accepted) (lines : List Line) (h : CaptureState) (start written told reported w u : Option (List ℕ)) → Stands to head lines h start written told reported
     → Stands to head lines h None w None u
 stands_unknown to head lines h start written told reported w u s = record {
   low = s.low;
@@ -165,8 +165,8 @@ stands_unknown to head lines h start written told reported w u s = record {
   counted = s.counted;
 }
 
-unknown : (to : Target) (week : Option ℕ) (lines : LinesState) (hearing : Option Hearing) (bytes : List ℕ) (start written begun reported w u : Option (List ℕ)) → IsBehind to week lines hearing bytes start written begun reported
-    → IsBehind to week lines hearing bytes None w None u
+unknown : (to : Target) (week : Option ℕ) (lines : LinesState) (receiving : Option CaptureState) (bytes : List ℕ) (start written begun reported w u : Option (List ℕ)) → IsBehind to week lines receiving bytes start written begun reported
+    → IsBehind to week lines receiving bytes None w None u
 unknown to week lines None bytes start written begun reported w u b = record { given = b.given; read = b.read; heard = (b.heard.0, tt, tt) }
 unknown to week lines (Some h) bytes start written begun reported w u b = record {
   given = b.given;
@@ -183,23 +183,23 @@ unknown to week lines (Some h) bytes start written begun reported w u b = record
   };
 }
 
-pub ready_behind : (to : Target) (week : Option ℕ) (lines : LinesState) (hearing : Option Hearing) (bytes : List ℕ) (start written begun reported : Option (List ℕ)) → IsWaiting lines
-    → IsBehind to week lines hearing bytes start written begun reported → IsReady to week lines hearing
-ready_behind to week lines hearing bytes start written begun reported waits b =
-    record { bytes = bytes; waits = waits; behind = unknown to week lines hearing bytes start written begun reported None None b }
+pub ready_behind : (to : Target) (week : Option ℕ) (lines : LinesState) (receiving : Option CaptureState) (bytes : List ℕ) (start written begun reported : Option (List ℕ)) → IsWaiting lines
+    → IsBehind to week lines receiving bytes start written begun reported → IsReady to week lines receiving
+ready_behind to week lines receiving bytes start written begun reported waits b =
+    record { bytes = bytes; waits = waits; behind = unknown to week lines receiving bytes start written begun reported None None b }
 
-pub behind_ready : (to : Target) (week : Option ℕ) (lines : LinesState) (hearing : Option Hearing) (w u : Option (List ℕ)) (r : IsReady to week lines hearing) → IsBehind to week lines hearing r.bytes None w None u
-behind_ready to week lines hearing w u r = unknown to week lines hearing r.bytes None None None None w u r.behind
+pub behind_ready : (to : Target) (week : Option ℕ) (lines : LinesState) (receiving : Option CaptureState) (w u : Option (List ℕ)) (r : IsReady to week lines receiving) → IsBehind to week lines receiving r.bytes None w None u
+behind_ready to week lines receiving w u r = unknown to week lines receiving r.bytes None None None None w u r.behind
 
 -- ---- going on behind the first line
 
-first_number : (to : Target) (week : Option ℕ) (lines : LinesState) (h : Hearing) (bytes : List ℕ) (start written begun reported : Option (List ℕ)) (b : IsBehind to week lines (Some h) bytes start written begun reported)
+first_number : (to : Target) (week : Option ℕ) (lines : LinesState) (h : CaptureState) (bytes : List ℕ) (start written begun reported : Option (List ℕ)) (b : IsBehind to week lines (Some h) bytes start written begun reported)
     → lines.number ≡ 1 + length b.heard.past
 first_number to week lines h bytes start written begun reported b = omega (arith, b.read.number, ap length b.heard.given_are)
 
 -- The bytes were read, and their lines processed; the further lines were to be converted, and that broke off. What is closed and
 -- reported by the bytes `low` is a prefix of what is by these lines.
-pub record Went (to : Target) (week : Option ℕ) (left left_new : Option (List ℕ)) (lines lines_new : LinesState) (h : Hearing) (low bytes : List ℕ) (start written begun reported : Option (List ℕ)) (fault : BridgeFault) : Type 0 where
+pub record Went (to : Target) (week : Option ℕ) (left left_new : Option (List ℕ)) (lines lines_new : LinesState) (h : CaptureState) (low bytes : List ℕ) (start written begun reported : Option (List ℕ)) (fault : BridgeFault) : Type 0 where
   pub head : Accepted
   pub line : Line
   pub past : List Line
@@ -211,7 +211,7 @@ pub record Went (to : Target) (week : Option ℕ) (left left_new : Option (List 
   pub least_told : IsPrefix (flushed_report week low) (line_report (log_of head.window past))
   pub broke : ConversionBroke to head past left left_new lines lines_new h led written begun reported fault
 
-went_cut : (laws : LogLaws) (to : Target) (week : Option ℕ) (left left_new : Option (List ℕ)) (lines lines_new : LinesState) (h : Hearing) (low bytes : List ℕ) (start written begun reported : Option (List ℕ)) (fault : BridgeFault)
+went_cut : (laws : LogLaws) (to : Target) (week : Option ℕ) (left left_new : Option (List ℕ)) (lines lines_new : LinesState) (h : CaptureState) (low bytes : List ℕ) (start written begun reported : Option (List ℕ)) (fault : BridgeFault)
     (w : Went to week left left_new lines lines_new h low bytes start written begun reported fault) (following : List ℕ) → (lines_new.ended ≡ true → following ≡ [])
     → (IsSome (capture_of week ((bytes ++ w.broke.reads.taken) ++ following)) → CutSays week ((bytes ++ w.broke.reads.taken) ++ following) fault)
     → IsCutShort to week low ((bytes ++ w.broke.reads.taken) ++ following) start written begun reported fault
@@ -257,7 +257,7 @@ went_cut laws to week left left_new lines lines_new h low bytes start written be
     }
 
 -- after a failed read the state is that behind all bytes read
-went_on : (to : Target) (week : Option ℕ) (left left_new : Option (List ℕ)) (lines lines_new : LinesState) (h : Hearing) (low bytes : List ℕ) (start written begun reported : Option (List ℕ))
+went_on : (to : Target) (week : Option ℕ) (left left_new : Option (List ℕ)) (lines lines_new : LinesState) (h : CaptureState) (low bytes : List ℕ) (start written begun reported : Option (List ℕ))
     (w : Went to week left left_new lines lines_new h low bytes start written begun reported ReadFault)
     → IsWaiting lines_new × IsBehind to week lines_new (Some h) (bytes ++ w.broke.reads.taken) start written begun reported
 went_on to week left left_new lines lines_new h low bytes start written begun reported w =
@@ -283,7 +283,7 @@ went_on to week left left_new lines lines_new h low bytes start written begun re
       },
     )
 
-went_says : (laws : LogLaws) (to : Target) (week : Option ℕ) (left left_new : Option (List ℕ)) (lines lines_new : LinesState) (h : Hearing) (low bytes : List ℕ) (start written begun reported : Option (List ℕ)) (fault : BridgeFault)
+went_says : (laws : LogLaws) (to : Target) (week : Option ℕ) (left left_new : Option (List ℕ)) (lines lines_new : LinesState) (h : CaptureState) (low bytes : List ℕ) (start written begun reported : Option (List ℕ)) (fault : BridgeFault)
     (w : Went to week left left_new lines lines_new h low bytes start written begun reported fault)
     → FollowSays to week low (bytes ++ w.broke.reads.taken) lines_new (Some h) start written begun reported fault
 went_says laws to week left left_new lines lines_new h low bytes start written begun reported ReadFault w =
@@ -306,7 +306,7 @@ went_says laws to week left left_new lines lines_new h low bytes start written b
 -- ---- from one state to the next
 
 -- The state from which the further lines are converted: `first` was read behind the bytes, and the text before the items written.
-pub record Began (to : Target) (week : Option ℕ) (left left1 : Option (List ℕ)) (lines : LinesState) (h : Hearing) (bytes : List ℕ) (start written begun reported : Option (List ℕ)) : Type 0 where
+pub record Began (to : Target) (week : Option ℕ) (left left1 : Option (List ℕ)) (lines : LinesState) (h : CaptureState) (bytes : List ℕ) (start written begun reported : Option (List ℕ)) : Type 0 where
   pub first : List ℕ
   pub consumes : Consumes left left1 first
   pub end : lines.ended ≡ true → IsAtEnd left1
@@ -329,7 +329,7 @@ end_more left left1 left_new middle new given before r ended = ⊎_elim
     (λ (end : IsAtEnd left_new). end)
     (r.at_end ended)
 
-began_stops : (laws : LogLaws) (to : Target) (week : Option ℕ) (left left1 left_new : Option (List ℕ)) (middle new : LinesState) (h h_new : Hearing) (bytes : List ℕ) (start written written_new begun reported reported_new : Option (List ℕ)) (fault : BridgeFault)
+began_stops : (laws : LogLaws) (to : Target) (week : Option ℕ) (left left1 left_new : Option (List ℕ)) (middle new : LinesState) (h h_new : CaptureState) (bytes : List ℕ) (start written written_new begun reported reported_new : Option (List ℕ)) (fault : BridgeFault)
     (g : Began to week left left1 middle h bytes start written begun reported) → ConversionBroke to g.head g.past left1 left_new middle new h_new g.led written_new begun reported_new fault
     → FollowStops to week left left_new bytes new (Some h_new) start written_new begun reported_new fault
 began_stops laws to week left left1 left_new middle new h h_new bytes start written written_new begun reported reported_new fault g p =
@@ -353,9 +353,9 @@ began_stops laws to week left left1 left_new middle new h h_new bytes start writ
           (went_says laws to week left1 left_new middle new h_new bytes (bytes ++ g.first) start written_new begun reported_new fault w);
     }
 
-began_all : (to : Target) (week : Option ℕ) (left left1 left_new : Option (List ℕ)) (middle new : LinesState) (h h_new : Hearing) (bytes : List ℕ) (start written written_new begun reported reported_new : Option (List ℕ))
+began_all : (to : Target) (week : Option ℕ) (left left1 left_new : Option (List ℕ)) (middle new : LinesState) (h h_new : CaptureState) (bytes : List ℕ) (start written written_new begun reported reported_new : Option (List ℕ))
     (g : Began to week left left1 middle h bytes start written begun reported)
-    → ConvertsAll to g.head g.past left1 left_new middle new g.led written_new begun reported_new h_new.ear.tally h_new.said
+    → ConvertsAll to g.head g.past left1 left_new middle new g.led written_new begun reported_new h_new.receiver.tally h_new.said
     → FollowsAll to week left left_new bytes new (Some h_new) start written_new begun reported_new
 began_all to week left left1 left_new middle new h h_new bytes start written written_new begun reported reported_new g p =
     let all = bytes ++ g.first in
@@ -379,13 +379,13 @@ began_all to week left left1 left_new middle new h h_new bytes start written wri
       lines_are = ap (lines_by false) (sym same) ∙ lines ∙ ap (λ (l : List ℕ). (g.line ∷ given) ++ lines_by false (l ++ [])) p.rest ∙ append-nil (g.line ∷ given);
       text = Appends-trans start g.led written_new (prefix_text to) (period_texts to g.head given) g.leads p.text;
       report = p.report;
-      counts = counts_are g.head given new.number h_new.ear.tally h_new.said (omega (arith, p.number, g.number, length-append g.past p.given)) p.counts p.verdicts;
+      counts = counts_are g.head given new.number h_new.receiver.tally h_new.said (omega (arith, p.number, g.number, length-append g.past p.given)) p.counts p.verdicts;
     }
 
 -- as the conversion ends
-pub began_ends : {T : Type 0} (laws : LogLaws) (to : Target) (week : Option ℕ) (left left1 left_new : Option (List ℕ)) (middle new : LinesState) (h h_new : Hearing) (bytes : List ℕ) (start written written_new begun reported reported_new : Option (List ℕ)) (result : Result T BridgeFault)
+pub began_ends : {T : Type 0} (laws : LogLaws) (to : Target) (week : Option ℕ) (left left1 left_new : Option (List ℕ)) (middle new : LinesState) (h h_new : CaptureState) (bytes : List ℕ) (start written written_new begun reported reported_new : Option (List ℕ)) (result : Result T BridgeFault)
     (g : Began to week left left1 middle h bytes start written begun reported)
-    → MatchResult result (λ x. ConvertsAll to g.head g.past left1 left_new middle new g.led written_new begun reported_new h_new.ear.tally h_new.said)
+    → MatchResult result (λ x. ConvertsAll to g.head g.past left1 left_new middle new g.led written_new begun reported_new h_new.receiver.tally h_new.said)
     (λ fault. ConversionBroke to g.head g.past left1 left_new middle new h_new g.led written_new begun reported_new fault)
     → MatchResult result (λ x. FollowsAll to week left left_new bytes new (Some h_new) start written_new begun reported_new)
     (λ fault. FollowStops to week left left_new bytes new (Some h_new) start written_new begun reported_new fault)
@@ -395,7 +395,7 @@ began_ends laws to week left left1 left_new middle new h h_new bytes start writt
     began_stops laws to week left left1 left_new middle new h h_new bytes start written written_new begun reported reported_new fault g p
 
 -- behind the first line
-pub began_some : (to : Target) (week : Option ℕ) (left : Option (List ℕ)) (lines : LinesState) (h : Hearing) (bytes : List ℕ) (start written begun reported : Option (List ℕ)) → IsWaiting lines
+pub began_some : (to : Target) (week : Option ℕ) (left : Option (List ℕ)) (lines : LinesState) (h : CaptureState) (bytes : List ℕ) (start written begun reported : Option (List ℕ)) → IsWaiting lines
     → IsBehind to week lines (Some h) bytes start written begun reported → Began to week left left lines h bytes start written begun reported
 began_some to week left lines h bytes start written begun reported waits b =
     let heard = b.heard in
@@ -423,7 +423,7 @@ began_some to week left lines h bytes start written begun reported waits b =
     }
 
 -- behind a first line that has just ended
-pub began_first : (to : Target) (week : Option ℕ) (left left1 : Option (List ℕ)) (lines middle : LinesState) (head : Accepted) (h : Hearing) (bytes : List ℕ) (start written written1 begun reported : Option (List ℕ)) → IsWaiting lines
+pub began_first : (to : Target) (week : Option ℕ) (left left1 : Option (List ℕ)) (lines middle : LinesState) (head : Accepted) (h : CaptureState) (bytes : List ℕ) (start written written1 begun reported : Option (List ℕ)) → IsWaiting lines
     → IsBehind to week lines None bytes start written begun reported → GivesHead week left left1 lines middle head → Appends written written1 (prefix_text to) → head.window ≤ 14400 → IsNew h head.week head.window
     → Began to week left left1 middle h bytes start written1 begun reported
 began_first to week left left1 lines middle head h bytes start written written1 begun reported waits b gives wrote low new =
@@ -457,19 +457,19 @@ began_first to week left left1 lines middle head h bytes start written written1 
       least_told = subst (λ (l : List ℕ). IsPrefix l (line_report (log_of head.window []))) (sym (flushed_report_is week bytes [] none)) (prefix_nil (line_report (log_of head.window [])));
     }
 
-pub began_new : (to : Target) (week : Option ℕ) (left left1 : Option (List ℕ)) (lines middle : LinesState) (hearing : Option Hearing) (head : Accepted) (h : Hearing) (bytes : List ℕ) (start written written1 begun reported : Option (List ℕ)) → hearing ≡ None → IsWaiting lines
-    → IsBehind to week lines hearing bytes start written begun reported → GivesHead week left left1 lines middle head → Appends written written1 (prefix_text to) → head.window ≤ 14400 → IsNew h head.week head.window
+pub began_new : (to : Target) (week : Option ℕ) (left left1 : Option (List ℕ)) (lines middle : LinesState) (receiving : Option CaptureState) (head : Accepted) (h : CaptureState) (bytes : List ℕ) (start written written1 begun reported : Option (List ℕ)) → receiving ≡ None → IsWaiting lines
+    → IsBehind to week lines receiving bytes start written begun reported → GivesHead week left left1 lines middle head → Appends written written1 (prefix_text to) → head.window ≤ 14400 → IsNew h head.week head.window
     → Began to week left left1 middle h bytes start written1 begun reported
-began_new to week left left1 lines middle hearing head h bytes start written written1 begun reported e waits b gives wrote low new =
-    began_first to week left left1 lines middle head h bytes start written written1 begun reported waits (subst (λ (o : Option Hearing). IsBehind to week lines o bytes start written begun reported) e b) gives wrote low new
+began_new to week left left1 lines middle receiving head h bytes start written written1 begun reported e waits b gives wrote low new =
+    began_first to week left left1 lines middle head h bytes start written written1 begun reported waits (subst (λ (o : Option CaptureState). IsBehind to week lines o bytes start written begun reported) e b) gives wrote low new
 
-pub holds_began : (to : Target) (week : Option ℕ) (left left1 : Option (List ℕ)) (lines : LinesState) (h : Hearing) (bytes : List ℕ) (start written begun reported : Option (List ℕ)) → Began to week left left1 lines h bytes start written begun reported
+pub holds_began : (to : Target) (week : Option ℕ) (left left1 : Option (List ℕ)) (lines : LinesState) (h : CaptureState) (bytes : List ℕ) (start written begun reported : Option (List ℕ)) → Began to week left left1 lines h bytes start written begun reported
     → HoldsPast to lines.number h written reported
 holds_began to week left left1 lines h bytes start written begun reported g =
     record { head = g.head; past = g.past; start = g.led; told = begun; number_is = g.number; few = g.read.few; stands = g.stands }
 
 -- the further lines are of the form
-pub convert_no_form : {T : Type 0} (A : T → Type 0) (to : Target) (head : Accepted) (past : List Line) (left left_new : Option (List ℕ)) (old new : LinesState) (h : Hearing) (start written told reported : Option (List ℕ)) (result : Result T BridgeFault)
+pub convert_no_form : {T : Type 0} (A : T → Type 0) (to : Target) (head : Accepted) (past : List Line) (left left_new : Option (List ℕ)) (old new : LinesState) (h : CaptureState) (start written told reported : Option (List ℕ)) (result : Result T BridgeFault)
     → MatchResult result A (λ fault. ConversionBroke to head past left left_new old new h start written told reported fault) → result ≡ Err NotThisForm → ⊥
 convert_no_form A to head past left left_new old new h start written told reported result m e =
     converted_form to head past left left_new old new h start written told reported NotThisForm
@@ -564,15 +564,15 @@ head_says to week left left1 lines middle bytes start written begun reported Rep
 head_says to week left left1 lines middle bytes start written begun reported NoMemory waits b h = absurd h
 
 -- no line was accepted
-pub head_follows : (to : Target) (week : Option ℕ) (left left1 : Option (List ℕ)) (lines middle : LinesState) (hearing : Option Hearing) (bytes : List ℕ) (start written begun reported : Option (List ℕ)) (fault : BridgeFault) → hearing ≡ None → IsWaiting lines
-    → IsBehind to week lines hearing bytes start written begun reported → GivesNoHead week left left1 lines middle fault → FollowStops to week left left1 bytes middle hearing start written begun reported fault
+pub head_follows : (to : Target) (week : Option ℕ) (left left1 : Option (List ℕ)) (lines middle : LinesState) (receiving : Option CaptureState) (bytes : List ℕ) (start written begun reported : Option (List ℕ)) (fault : BridgeFault) → receiving ≡ None → IsWaiting lines
+    → IsBehind to week lines receiving bytes start written begun reported → GivesNoHead week left left1 lines middle fault → FollowStops to week left left1 bytes middle receiving start written begun reported fault
 head_follows to week left left1 lines middle None bytes start written begun reported fault e waits b h = head_says to week left left1 lines middle bytes start written begun reported fault waits b h
 head_follows to week left left1 lines middle (Some x) bytes start written begun reported fault e waits b h = absurd cc
 
 -- the text before the items was not written whole
-pub begin_follows : (to : Target) (week : Option ℕ) (left left1 : Option (List ℕ)) (lines middle : LinesState) (hearing : Option Hearing) (head : Accepted) (bytes : List ℕ) (start written written1 begun reported : Option (List ℕ)) → hearing ≡ None → IsWaiting lines
-    → IsBehind to week lines hearing bytes start written begun reported → GivesHead week left left1 lines middle head → AppendsPrefix written written1 (prefix_text to)
-    → FollowStops to week left left1 bytes middle hearing start written1 begun reported WriteFault
+pub begin_follows : (to : Target) (week : Option ℕ) (left left1 : Option (List ℕ)) (lines middle : LinesState) (receiving : Option CaptureState) (head : Accepted) (bytes : List ℕ) (start written written1 begun reported : Option (List ℕ)) → receiving ≡ None → IsWaiting lines
+    → IsBehind to week lines receiving bytes start written begun reported → GivesHead week left left1 lines middle head → AppendsPrefix written written1 (prefix_text to)
+    → FollowStops to week left left1 bytes middle receiving start written1 begun reported WriteFault
 begin_follows to week left left1 lines middle (Some x) head bytes start written written1 begun reported e waits b gives wrote = absurd cc
 begin_follows to week left left1 lines middle None head bytes start written written1 begun reported e waits b gives (prefix, within, grew) =
     let gave = gives.gives in
@@ -619,41 +619,41 @@ not_at_end : (rest : List ℕ) → IsAtEnd (Some (rest ++ 0 ∷ [])) → ⊥
 not_at_end rest e = omega (arith, ap length e, length-append rest (0 ∷ []))
 
 -- a piece is no end
-pub piece_goes_on : (to : Target) (week : Option ℕ) (left : Option (List ℕ)) (bytes rest : List ℕ) (lines : LinesState) (hearing : Option Hearing) (start written begun reported : Option (List ℕ))
-    → FollowsAll to week left (Some (rest ++ 0 ∷ [])) bytes lines hearing start written begun reported → ⊥
-piece_goes_on to week left bytes rest lines hearing start written begun reported all = not_at_end rest all.end
+pub piece_goes_on : (to : Target) (week : Option ℕ) (left : Option (List ℕ)) (bytes rest : List ℕ) (lines : LinesState) (receiving : Option CaptureState) (start written begun reported : Option (List ℕ))
+    → FollowsAll to week left (Some (rest ++ 0 ∷ [])) bytes lines receiving start written begun reported → ⊥
+piece_goes_on to week left bytes rest lines receiving start written begun reported all = not_at_end rest all.end
 
 -- the piece was read
-pub piece_read : (to : Target) (week : Option ℕ) (bytes piece rest : List ℕ) (failed : Bool) (lines : LinesState) (hearing : Option Hearing) (start written begun reported : Option (List ℕ)) (writes writes_new reports reports_new : ℕ) (fault : BridgeFault) → fault ≡ ReadFault
-    → HasItsCause {T = Unit {0}} (faults_of 0 writes reports) (faults_of (piece_faults failed rest) writes_new reports_new) (Err fault) → FollowStops to week (Some (piece ++ 0 ∷ [])) (Some (rest ++ 0 ∷ [])) bytes lines hearing start written begun reported fault
-    → IsWaiting lines × IsBehind to week lines hearing (bytes ++ piece) start written begun reported
-piece_read to week bytes piece rest failed lines hearing start written begun reported writes writes_new reports reports_new fault e cause stop =
+pub piece_read : (to : Target) (week : Option ℕ) (bytes piece rest : List ℕ) (failed : Bool) (lines : LinesState) (receiving : Option CaptureState) (start written begun reported : Option (List ℕ)) (writes writes_new reports reports_new : ℕ) (fault : BridgeFault) → fault ≡ ReadFault
+    → HasItsCause {T = Unit {0}} (faults_of 0 writes reports) (faults_of (piece_faults failed rest) writes_new reports_new) (Err fault) → FollowStops to week (Some (piece ++ 0 ∷ [])) (Some (rest ++ 0 ∷ [])) bytes lines receiving start written begun reported fault
+    → IsWaiting lines × IsBehind to week lines receiving (bytes ++ piece) start written begun reported
+piece_read to week bytes piece rest failed lines receiving start written begun reported writes writes_new reports reports_new fault e cause stop =
     let rose : Rose 0 (piece_faults failed rest) =
     (subst (λ (f : BridgeFault). HasItsCause {T = Unit {0}} (faults_of 0 writes reports) (faults_of (piece_faults failed rest) writes_new reports_new) (Err f)) e cause).0 in
-    let says = subst (FollowSays to week bytes (bytes ++ stop.taken) lines hearing start written begun reported) e stop.says in
+    let says = subst (FollowSays to week bytes (bytes ++ stop.taken) lines receiving start written begun reported) e stop.says in
     let whole : stop.taken ≡ piece = sym (append-nil stop.taken) ∙ ap (λ (l : List ℕ). stop.taken ++ l) (sym (piece_ends failed rest rose)) ∙ sym (piece_split piece stop.taken rest stop.consumes) in
-    (says.0, subst (λ (l : List ℕ). IsBehind to week lines hearing (bytes ++ l) start written begun reported) whole says.1)
+    (says.0, subst (λ (l : List ℕ). IsBehind to week lines receiving (bytes ++ l) start written begun reported) whole says.1)
 
 -- any other fault cuts short
-cut_by : (to : Target) (week : Option ℕ) (bytes all : List ℕ) (lines : LinesState) (hearing : Option Hearing) (start written begun reported : Option (List ℕ)) (fault : BridgeFault) → (fault ≡ ReadFault → ⊥)
-    → FollowSays to week bytes all lines hearing start written begun reported fault → (following : List ℕ) → (lines.ended ≡ true → following ≡ []) → IsCutShort to week bytes (all ++ following) start written begun reported fault
-cut_by to week bytes all lines hearing start written begun reported ReadFault other says following last = absurd (other refl)
-cut_by to week bytes all lines hearing start written begun reported WriteFault other says following last = says following last
-cut_by to week bytes all lines hearing start written begun reported ReportFault other says following last = says following last
-cut_by to week bytes all lines hearing start written begun reported TooLong other says following last = says following last
-cut_by to week bytes all lines hearing start written begun reported NoMemory other says following last = says following last
-cut_by to week bytes all lines hearing start written begun reported NotThisForm other says following last = says following last
+cut_by : (to : Target) (week : Option ℕ) (bytes all : List ℕ) (lines : LinesState) (receiving : Option CaptureState) (start written begun reported : Option (List ℕ)) (fault : BridgeFault) → (fault ≡ ReadFault → ⊥)
+    → FollowSays to week bytes all lines receiving start written begun reported fault → (following : List ℕ) → (lines.ended ≡ true → following ≡ []) → IsCutShort to week bytes (all ++ following) start written begun reported fault
+cut_by to week bytes all lines receiving start written begun reported ReadFault other says following last = absurd (other refl)
+cut_by to week bytes all lines receiving start written begun reported WriteFault other says following last = says following last
+cut_by to week bytes all lines receiving start written begun reported ReportFault other says following last = says following last
+cut_by to week bytes all lines receiving start written begun reported TooLong other says following last = says following last
+cut_by to week bytes all lines receiving start written begun reported NoMemory other says following last = says following last
+cut_by to week bytes all lines receiving start written begun reported NotThisForm other says following last = says following last
 
-pub piece_cut : (to : Target) (week : Option ℕ) (bytes piece more rest : List ℕ) (lines : LinesState) (hearing : Option Hearing) (start written begun reported : Option (List ℕ)) (fault : BridgeFault) → (fault ≡ ReadFault → ⊥)
-    → FollowStops to week (Some (piece ++ 0 ∷ [])) (Some (rest ++ 0 ∷ [])) bytes lines hearing start written begun reported fault
+pub piece_cut : (to : Target) (week : Option ℕ) (bytes piece more rest : List ℕ) (lines : LinesState) (receiving : Option CaptureState) (start written begun reported : Option (List ℕ)) (fault : BridgeFault) → (fault ≡ ReadFault → ⊥)
+    → FollowStops to week (Some (piece ++ 0 ∷ [])) (Some (rest ++ 0 ∷ [])) bytes lines receiving start written begun reported fault
     → IsCutShort to week bytes ((bytes ++ piece) ++ more) start written begun reported fault
-piece_cut to week bytes piece more rest lines hearing start written begun reported fault other stop =
+piece_cut to week bytes piece more rest lines receiving start written begun reported fault other stop =
     let whole : (bytes ++ stop.taken) ++ (rest ++ more) ≡ (bytes ++ piece) ++ more =
     sym (append_assoc (bytes ++ stop.taken) rest more)
     ∙ ap (λ (l : List ℕ). l ++ more) (append_assoc bytes stop.taken rest)
     ∙ ap (λ (l : List ℕ). (bytes ++ l) ++ more) (sym (piece_split piece stop.taken rest stop.consumes)) in
     subst (λ (l : List ℕ). IsCutShort to week bytes l start written begun reported fault) whole
-    (cut_by to week bytes (bytes ++ stop.taken) lines hearing start written begun reported fault other stop.says (rest ++ more) (λ ended. absurd (not_at_end rest (stop.end ended))))
+    (cut_by to week bytes (bytes ++ stop.taken) lines receiving start written begun reported fault other stop.says (rest ++ more) (λ ended. absurd (not_at_end rest (stop.end ended))))
 
 -- ---- the end
 
@@ -661,46 +661,46 @@ none_taken : (taken : List ℕ) → Consumes (Some []) (Some []) taken → taken
 none_taken taken e = sym (append-nil taken) ∙ sym e
 
 -- a fault at the end
-pub end_cut : (to : Target) (week : Option ℕ) (bytes : List ℕ) (lines : LinesState) (hearing : Option Hearing) (start written begun reported : Option (List ℕ)) (fault : BridgeFault) → (fault ≡ ReadFault → ⊥)
-    → FollowStops to week (Some []) (Some []) bytes lines hearing start written begun reported fault → IsCutShort to week bytes bytes start written begun reported fault
-end_cut to week bytes lines hearing start written begun reported fault other stop =
+pub end_cut : (to : Target) (week : Option ℕ) (bytes : List ℕ) (lines : LinesState) (receiving : Option CaptureState) (start written begun reported : Option (List ℕ)) (fault : BridgeFault) → (fault ≡ ReadFault → ⊥)
+    → FollowStops to week (Some []) (Some []) bytes lines receiving start written begun reported fault → IsCutShort to week bytes bytes start written begun reported fault
+end_cut to week bytes lines receiving start written begun reported fault other stop =
     let whole : (bytes ++ stop.taken) ++ [] ≡ bytes =
     append-nil (bytes ++ stop.taken) ∙ ap (λ (l : List ℕ). bytes ++ l) (none_taken stop.taken stop.consumes) ∙ append-nil bytes in
     subst (λ (l : List ℕ). IsCutShort to week bytes l start written begun reported fault) whole
-    (cut_by to week bytes (bytes ++ stop.taken) lines hearing start written begun reported fault other stop.says [] (λ ended. refl))
+    (cut_by to week bytes (bytes ++ stop.taken) lines receiving start written begun reported fault other stop.says [] (λ ended. refl))
 
 -- the lines of all bytes, and the capture that they are
-lines_whole : (to : Target) (week : Option ℕ) (bytes : List ℕ) (lines : LinesState) (hearing : Option Hearing) (start written begun reported : Option (List ℕ))
-    (all : FollowsAll to week (Some []) (Some []) bytes lines hearing start written begun reported) → lines_by false bytes ≡ all.line ∷ all.given
-lines_whole to week bytes lines hearing start written begun reported all =
+lines_whole : (to : Target) (week : Option ℕ) (bytes : List ℕ) (lines : LinesState) (receiving : Option CaptureState) (start written begun reported : Option (List ℕ))
+    (all : FollowsAll to week (Some []) (Some []) bytes lines receiving start written begun reported) → lines_by false bytes ≡ all.line ∷ all.given
+lines_whole to week bytes lines receiving start written begun reported all =
     ap (lines_by false) (sym (append-nil bytes) ∙ ap (λ (l : List ℕ). bytes ++ l) (sym (none_taken all.taken all.consumes))) ∙ all.lines_are
 
-all_lines : (to : Target) (week : Option ℕ) (bytes : List ℕ) (lines : LinesState) (hearing : Option Hearing) (start written begun reported : Option (List ℕ))
-    (all : FollowsAll to week (Some []) (Some []) bytes lines hearing start written begun reported) → capture_of week bytes ≡ Some (capture_by all.head all.given)
-all_lines to week bytes lines hearing start written begun reported all =
-    ap (capture_in week) (lines_whole to week bytes lines hearing start written begun reported all) ∙ capture_lines week all.head all.line all.given all.accepted
+all_lines : (to : Target) (week : Option ℕ) (bytes : List ℕ) (lines : LinesState) (receiving : Option CaptureState) (start written begun reported : Option (List ℕ))
+    (all : FollowsAll to week (Some []) (Some []) bytes lines receiving start written begun reported) → capture_of week bytes ≡ Some (capture_by all.head all.given)
+all_lines to week bytes lines receiving start written begun reported all =
+    ap (capture_in week) (lines_whole to week bytes lines receiving start written begun reported all) ∙ capture_lines week all.head all.line all.given all.accepted
 
-all_counts : (to : Target) (week : Option ℕ) (bytes : List ℕ) (lines : LinesState) (hearing : Option Hearing) (start written begun reported : Option (List ℕ)) (h : Hearing) (counts : CaptureCounts)
-    (all : FollowsAll to week (Some []) (Some []) bytes lines hearing start written begun reported) → hearing ≡ Some h → counts ≡ with_counts lines.number h.ear.tally h.said
+all_counts : (to : Target) (week : Option ℕ) (bytes : List ℕ) (lines : LinesState) (receiving : Option CaptureState) (start written begun reported : Option (List ℕ)) (h : CaptureState) (counts : CaptureCounts)
+    (all : FollowsAll to week (Some []) (Some []) bytes lines receiving start written begun reported) → receiving ≡ Some h → counts ≡ with_counts lines.number h.receiver.tally h.said
     → counts ≡ counts_of (capture_by all.head all.given)
-all_counts to week bytes lines hearing start written begun reported h counts all is counted =
+all_counts to week bytes lines receiving start written begun reported h counts all is counted =
     let same : h ≡ all.h = cc (all.h_is, is) in
-    counted ∙ ap (λ (x : Hearing). with_counts lines.number x.ear.tally x.said) same ∙ all.counts
+    counted ∙ ap (λ (x : CaptureState). with_counts lines.number x.receiver.tally x.said) same ∙ all.counts
 
 -- there is a first line
-pub all_heard : (to : Target) (week : Option ℕ) (bytes : List ℕ) (lines : LinesState) (hearing : Option Hearing) (start written begun reported : Option (List ℕ))
-    → FollowsAll to week (Some []) (Some []) bytes lines hearing start written begun reported → hearing ≡ None → ⊥
-all_heard to week bytes lines hearing start written begun reported all none =
+pub all_heard : (to : Target) (week : Option ℕ) (bytes : List ℕ) (lines : LinesState) (receiving : Option CaptureState) (start written begun reported : Option (List ℕ))
+    → FollowsAll to week (Some []) (Some []) bytes lines receiving start written begun reported → receiving ≡ None → ⊥
+all_heard to week bytes lines receiving start written begun reported all none =
     let h_is = all.h_is in
     cc
 
-pub all_whole : (to : Target) (week : Option ℕ) (bytes : List ℕ) (lines : LinesState) (hearing : Option Hearing) (start written written_new begun reported reported_new : Option (List ℕ)) (h : Hearing) (counts : CaptureCounts)
-    → FollowsAll to week (Some []) (Some []) bytes lines hearing start written begun reported → hearing ≡ Some h → counts ≡ with_counts lines.number h.ear.tally h.said
+pub all_whole : (to : Target) (week : Option ℕ) (bytes : List ℕ) (lines : LinesState) (receiving : Option CaptureState) (start written written_new begun reported reported_new : Option (List ℕ)) (h : CaptureState) (counts : CaptureCounts)
+    → FollowsAll to week (Some []) (Some []) bytes lines receiving start written begun reported → receiving ≡ Some h → counts ≡ with_counts lines.number h.receiver.tally h.said
     → Appends written written_new (back_text to (counts_text counts)) → Appends reported reported_new (counts_text counts) → IsWhole to week bytes start written_new begun reported_new counts
-all_whole to week bytes lines hearing start written written_new begun reported reported_new h counts all is counted back report =
+all_whole to week bytes lines receiving start written written_new begun reported reported_new h counts all is counted back report =
     let c = capture_by all.head all.given in
-    let capture = all_lines to week bytes lines hearing start written begun reported all in
-    let same = all_counts to week bytes lines hearing start written begun reported h counts all is counted in
+    let capture = all_lines to week bytes lines receiving start written begun reported all in
+    let same = all_counts to week bytes lines receiving start written begun reported h counts all is counted in
     let texts = texts_of to (periods c) in
     record {
       output = subst (Appends start written_new) (append_assoc (prefix_text to) texts (back_text to (counts_text (counts_of c))) ∙ sym (output_is to week bytes c capture))
@@ -766,19 +766,19 @@ written_says week whole fault kind some =
     ⊎_elim (λ (e : fault ≡ WriteFault). subst (CutSays week whole) (sym e) some) (λ (e : fault ≡ ReportFault). subst (CutSays week whole) (sym e) some) kind
 
 -- the text behind the items was not written whole, or the counts were not reported whole
-pub all_cut : (laws : LogLaws) (to : Target) (week : Option ℕ) (bytes : List ℕ) (lines : LinesState) (hearing : Option Hearing) (start written written_new begun reported reported_new : Option (List ℕ)) (h : Hearing) (counts : CaptureCounts) (fault : BridgeFault)
-    → FollowsAll to week (Some []) (Some []) bytes lines hearing start written begun reported → hearing ≡ Some h → counts ≡ with_counts lines.number h.ear.tally h.said
+pub all_cut : (laws : LogLaws) (to : Target) (week : Option ℕ) (bytes : List ℕ) (lines : LinesState) (receiving : Option CaptureState) (start written written_new begun reported reported_new : Option (List ℕ)) (h : CaptureState) (counts : CaptureCounts) (fault : BridgeFault)
+    → FollowsAll to week (Some []) (Some []) bytes lines receiving start written begun reported → receiving ≡ Some h → counts ≡ with_counts lines.number h.receiver.tally h.said
     → AppendsPrefix written written_new (back_text to (counts_text counts)) → AppendsPrefix reported reported_new (counts_text counts) → (fault ≡ WriteFault) ⊎ (fault ≡ ReportFault)
     → (fault ≡ WriteFault → reported_new ≡ reported) → (fault ≡ ReportFault → Appends written written_new (back_text to (counts_text counts)))
     → IsCutShort to week bytes bytes start written_new begun reported_new fault
-all_cut laws to week bytes lines hearing start written written_new begun reported reported_new h counts fault all is counted back report kind untold wrote =
+all_cut laws to week bytes lines receiving start written written_new begun reported reported_new h counts fault all is counted back report kind untold wrote =
     let c = capture_by all.head all.given in
-    let capture = all_lines to week bytes lines hearing start written begun reported all in
-    let same = all_counts to week bytes lines hearing start written begun reported h counts all is counted in
+    let capture = all_lines to week bytes lines receiving start written begun reported all in
+    let same = all_counts to week bytes lines receiving start written begun reported h counts all is counted in
     let texts = texts_of to (periods c) in
     let behind = subst (λ (x : CaptureCounts). AppendsPrefix written written_new (back_text to (counts_text x))) same back in
     let told = subst (λ (x : CaptureCounts). AppendsPrefix reported reported_new (counts_text x)) same report in
-    let whole_lines = lines_whole to week bytes lines hearing start written begun reported all in
+    let whole_lines = lines_whole to week bytes lines receiving start written begun reported all in
     let log = line_report (log_of all.head.window all.given) in
     let least = flushed_within laws to week all.head all.line all.given bytes whole_lines all.accepted in
     let some : IsSome (capture_of week bytes) = subst (λ (x : Option Capture). IsSome x) (sym capture) refl in

@@ -5,13 +5,13 @@ use Rattle.std.proofs.lemmas.Bool.{true≢false}
 use Rattle.std.specs.Io.KnownBytes.{Appends}
 use Rattle.std.proofs.KnownBytes.{Appends-nil}
 use Rattle.nav_io.specs.Prefix.{AppendsPrefix}
-use Rattle.nav_vectors.specs.Text.{capture_text}
+use Rattle.sent_captures.specs.Text.{capture_text}
 use Rattle.one_run.specs.Causes.{Faults, HasItsCause, faults_of}
-use Rattle.one_run.specs.Runs.{Broke, Done, Ended, Says, World, faults_in}
+use Rattle.one_run.specs.Runs.{IsBroken, IsDone, Ended, Says, World, faults_in}
 use Rattle.one_run.proofs.Surface.{between, none_failed, report_failed, write_failed}
 use Rattle.one_run.specs.declared.fault.BridgeFault.{BridgeFault}
 use Rattle.one_run.specs.declared.fault.BridgeFault.TheVariants.{ReadFault, WriteFault, ReportFault, TooLong, NoMemory, NotThisForm}
-use Rattle.outlets.specs.declared.target.Target.TheVariants.{Count}
+use Rattle.streams.specs.declared.target.Target.TheVariants.{Count}
 use Rattle.captures.specs.declared.counts.CaptureCounts.{CaptureCounts}
 use Rattle.captures.specs.Captures.{Capture, capture_of, counts_in, counts_of, output_of, refusals_text, report_of_capture}
 use Rattle.captures.specs.declared.seed_target.SeedTo.{SeedTo}
@@ -24,7 +24,7 @@ use Rattle.captures.specs.Counting.{CountsText, IsSeedFault, WritesText}
 -- a run that is done
 done_by : {S T U : Type 0} (to : SeedTo) (seed n r : ℕ) (b a : World S T U) (counts : SeedCounts) → a.input ≡ b.input → (is_counted to ≡ false → a.report ≡ b.report)
     → Appends b.written a.written (seed_output to seed n r) → Appends b.reported a.reported (seed_report to seed n r) → counts ≡ seed_counts to seed n r
-    → a.reads_failed ≡ b.reads_failed → a.writes_failed ≡ b.writes_failed → a.reports_failed ≡ b.reports_failed → Done (seed_meaning to seed n r) b a counts
+    → a.reads_failed ≡ b.reads_failed → a.writes_failed ≡ b.writes_failed → a.reports_failed ≡ b.reports_failed → IsDone (seed_meaning to seed n r) b a counts
 done_by to seed n r b a counts unread silent text told same reads writes reports = record {
   taken = [];
   consumes = refl;
@@ -61,7 +61,7 @@ seed_cause b a NoMemory reads h = none_failed b a reads (ap (λ (f : Faults). f.
 broke_by : {S T U : Type 0} (to : SeedTo) (seed n r : ℕ) (b a : World S T U) (fault : BridgeFault) → a.input ≡ b.input → (is_counted to ≡ false → a.report ≡ b.report) → (fault ≡ ReportFault → is_counted to ≡ true)
     → AppendsPrefix b.written a.written (seed_output to seed n r) → AppendsPrefix b.reported a.reported (seed_report to seed n r)
     → AppendsPrefix b.reported a.reported (seed_rejections to seed n r) ⊎ ((fault ≡ ReportFault) × Appends b.written a.written (seed_output to seed n r)) → a.reads_failed ≡ b.reads_failed
-    → IsSeedFault (faults_of 0 b.writes_failed b.reports_failed) (faults_of 0 a.writes_failed a.reports_failed) fault → Broke (seed_meaning to seed n r) b a fault
+    → IsSeedFault (faults_of 0 b.writes_failed b.reports_failed) (faults_of 0 a.writes_failed a.reports_failed) fault → IsBroken (seed_meaning to seed n r) b a fault
 broke_by to seed n r b a fault unread silent reports text told counts_last reads cause = record {
   taken = [];
   consumes = refl;
@@ -79,7 +79,7 @@ broke_by to seed n r b a fault unread silent reports text told counts_last reads
 }
 
 -- nothing was written and nothing reported
-pub no_memory : {S T U : Type 0} (to : SeedTo) (seed n r : ℕ) (b : World S T U) → Broke (seed_meaning to seed n r) b b NoMemory
+pub no_memory : {S T U : Type 0} (to : SeedTo) (seed n r : ℕ) (b : World S T U) → IsBroken (seed_meaning to seed n r) b b NoMemory
 no_memory to seed n r b =
     broke_by to seed n r b b NoMemory refl (λ e. refl) (λ e. absurd cc) ([], (seed_output to seed n r, refl), Appends-nil b.written) ([], (seed_report to seed n r, refl), Appends-nil b.reported)
     (inl ([], (seed_rejections to seed n r, refl), Appends-nil b.reported)) refl refl

@@ -12,10 +12,10 @@ use Rattle.capture_log.specs.Log.{log_of, watermark_after, parts_of}
 use Rattle.one_run.specs.Runs.{AppendsAll, AppendsBetween, StopAtOnePlace}
 use Rattle.one_run.specs.declared.fault.BridgeFault.{BridgeFault}
 use Rattle.one_run.proofs.Surface.{BeginsWith, all_of, all_stopped, all_whole, all_within, no_more_or_beyond, prefix_of}
-use Rattle.outlets.specs.declared.target.Target.{Target}
-use Rattle.outlets.specs.Targets.{prefix_text}
+use Rattle.streams.specs.declared.target.Target.{Target}
+use Rattle.streams.specs.Targets.{prefix_text}
 use Rattle.captures.specs.declared.accept.Accepted.{Accepted}
-use Rattle.captures.specs.declared.hearing.Hearing.{Hearing}
+use Rattle.captures.specs.declared.receiving.CaptureState.{CaptureState}
 use Rattle.captures.specs.Captures.{accepted_line, capture_in, capture_with, flushed_output, flushed_report, flushed_text, flushed_texts, refusals_text}
 use Rattle.captures.specs.Conversions.{ConversionBroke}
 use Rattle.captures.specs.Converts.{closed_texts}
@@ -159,7 +159,7 @@ led_between w w1 w2 lead least text begun b = record {
 }
 
 -- the further lines were to be converted, and that broke off
-pub conversion_stopped_at : (laws : LogLaws) (to : Target) (week : Option ℕ) (left left_new w w1 w2 u u2 : Option (List ℕ)) (old new : LinesState) (h : Hearing) (head : Accepted) (line : Line) (past more : List Line) (bytes : List ℕ) (fault : BridgeFault)
+pub conversion_stopped_at : (laws : LogLaws) (to : Target) (week : Option ℕ) (left left_new w w1 w2 u u2 : Option (List ℕ)) (old new : LinesState) (h : CaptureState) (head : Accepted) (line : Line) (past more : List Line) (bytes : List ℕ) (fault : BridgeFault)
     → accepted_line week line ≡ Some head → Appends w w1 (prefix_text to) → (p : ConversionBroke to head past left left_new old new h w1 w2 u u2 fault)
     → lines_by false bytes ≡ (line ∷ (past ++ (p.given ++ p.last))) ++ more → (new.ended ≡ true → new.rest ≡ [] → more ≡ [])
     → StopAtOnePlace (Some (flushed_texts to week)) (Some bytes) w w2 u u2

@@ -4,8 +4,8 @@ use Rattle.std.specs.Prelude.{unwrap_or}
 use Rattle.std.proofs.lemmas.Bool.{cond-true, cond-false, ltb-true}
 use Rattle.nav_eph.specs.Satellite.{Satellite}
 use Rattle.nav_eph.specs.declared.signal.Signal.{Signal}
-use Rattle.inav_page.specs.Heard.{StampedHalf}
-use Rattle.inav_page.specs.Keeping.{Keeping}
+use Rattle.inav.specs.Received.{StampedHalf}
+use Rattle.inav.specs.Keeping.{Keeping}
 use Rattle.capture_lines.specs.Late.{stamp_of}
 use Rattle.capture_lines.specs.declared.item.LineItem.{LineItem}
 use Rattle.capture_lines.specs.declared.item.LineItem.TheVariants.{Half}
@@ -13,44 +13,44 @@ use Rattle.capture_log.specs.Events.{Known, events_of, half_of, is_alert, is_lat
 use Rattle.capture_log.specs.Log.{noted}
 use Rattle.capture_log.specs.declared.event.Event.{Event}
 use Rattle.capture_log.specs.declared.event.Event.TheVariants.{Late, Unused}
-use Rattle.captures.specs.declared.ear.Ear.{Ear}
-use Rattle.captures.specs.declared.hearing.Hearing.{Hearing}
+use Rattle.captures.specs.declared.receiver.PartReceiver.{PartReceiver}
+use Rattle.captures.specs.declared.receiving.CaptureState.{CaptureState}
 use Rattle.one_run.specs.declared.fault.BridgeFault.{BridgeFault}
 use Rattle.captures.specs.Notes.{KeepsHalves, known_half, weights}
-use Rattle.captures.specs.Hearings.{Heard, Took}
-use Rattle.captures.proofs.Ears.{total_heard}
+use Rattle.captures.specs.Hearings.{Received, Took}
+use Rattle.captures.proofs.PartReceivers.{total_heard}
 use Rattle.captures.proofs.ItemEvents.{Behind, keeps_item, late_events, late_halves, page_events}
 
 -- a state with another greatest stamp, other page parts and another ear
-abbrev pub hearing_with : Hearing → ℕ → Keeping → Ear → Hearing
-hearing_with h greatest halves ear = record { window = h.window; greatest = greatest; halves = halves; ear = ear; said = h.said }
+abbrev pub hearing_with : CaptureState → ℕ → Keeping → PartReceiver → CaptureState
+hearing_with h greatest halves receiver = record { window = h.window; greatest = greatest; halves = halves; receiver = receiver; said = h.said }
 
-pub took_heard : {T : Type 0} (h : Hearing) (greatest : ℕ) (halves : Keeping) (ear : Ear) (v w : Option (List ℕ)) (before now number : ℕ) (es fs : List Event) (known : Known) (result : Result T BridgeFault)
+pub took_heard : {T : Type 0} (h : CaptureState) (greatest : ℕ) (halves : Keeping) (receiver : PartReceiver) (v w : Option (List ℕ)) (before now number : ℕ) (es fs : List Event) (known : Known) (result : Result T BridgeFault)
     → KeepsHalves halves h.window known → greatest ≡ known.greatest → length halves.kept ≤ length h.halves.kept + 1 → weights es ≤ length h.halves.kept + 1 → es ≡ fs
-    → Heard h.ear ear v w before now (noted number es) result
-    → Took h (hearing_with h greatest halves ear) v w before now (noted number fs) known result
-took_heard h greatest halves ear v w before now number es fs known (Ok x) keeps at kept few same heard =
+    → Received h.receiver receiver v w before now (noted number es) result
+    → Took h (hearing_with h greatest halves receiver) v w before now (noted number fs) known result
+took_heard h greatest halves receiver v w before now number es fs known (Ok x) keeps at kept few same heard =
     rw (sym same) (
       record {
         hears = heard.0;
         keeps = keeps;
         greatest = at;
         kept = kept;
-        room = omega (arith, total_heard h.ear ear v w number es heard.0, few);
+        room = omega (arith, total_heard h.receiver receiver v w number es heard.0, few);
         window = refl;
         said = refl;
       },
       heard.1,
     )
-took_heard h greatest halves ear v w before now number es fs known (Err fault) keeps at kept few same heard = rw (sym same) heard
+took_heard h greatest halves receiver v w before now number es fs known (Err fault) keeps at kept few same heard = rw (sym same) heard
 
 -- the same for the item that was matched
-pub took_item : {T : Type 0} (h : Hearing) (greatest : ℕ) (ear : Ear) (v w : Option (List ℕ)) (before now number : ℕ) (es : List Event) (known : Known) (item own : LineItem) (result : Result T BridgeFault)
+pub took_item : {T : Type 0} (h : CaptureState) (greatest : ℕ) (receiver : PartReceiver) (v w : Option (List ℕ)) (before now number : ℕ) (es : List Event) (known : Known) (item own : LineItem) (result : Result T BridgeFault)
     → item ≡ own → KeepsHalves h.halves h.window (known_with h.window known own) → greatest ≡ (known_with h.window known own).greatest → weights es ≤ 1 → es ≡ events_of h.window known own
-    → Heard h.ear ear v w before now (noted number es) result
-    → Took h (hearing_with h greatest h.halves ear) v w before now (noted number (events_of h.window known item)) (known_with h.window known item) result
-took_item h greatest ear v w before now number es known item own result is keeps at few same heard =
-    rw is (took_heard h greatest h.halves ear v w before now number es (events_of h.window known own) (known_with h.window known own) result keeps at (omega arith) (omega (arith, few)) same heard)
+    → Received h.receiver receiver v w before now (noted number es) result
+    → Took h (hearing_with h greatest h.halves receiver) v w before now (noted number (events_of h.window known item)) (known_with h.window known item) result
+took_item h greatest receiver v w before now number es known item own result is keeps at few same heard =
+    rw is (took_heard h greatest h.halves receiver v w before now number es (events_of h.window known own) (known_with h.window known own) result keeps at (omega arith) (omega (arith, few)) same heard)
 
 -- the greatest stamp with one item more
 pub known_greatest : (window : ℕ) (known : Known) (item : LineItem) → max known.greatest (unwrap_or (stamp_of item) 0) ≡ (known_with window known item).greatest
@@ -58,16 +58,16 @@ unfolding known_with
 known_greatest window known item = refl
 
 -- an item that is late
-pub took_late : {T : Type 0} (h : Hearing) (ear : Ear) (v w : Option (List ℕ)) (before now number : ℕ) (known : Known) (item own : LineItem) (stamp : ℕ) (late : Bool) (result : Result T BridgeFault)
+pub took_late : {T : Type 0} (h : CaptureState) (receiver : PartReceiver) (v w : Option (List ℕ)) (before now number : ℕ) (known : Known) (item own : LineItem) (stamp : ℕ) (late : Bool) (result : Result T BridgeFault)
     → item ≡ own → stamp_of own ≡ Some stamp → late ≡ nat_lt (stamp + h.window) h.greatest → late ≡ true → known.greatest ≡ h.greatest → KeepsHalves h.halves h.window known
-    → Heard h.ear ear v w before now (noted number (Late ∷ [])) result
-    → Took h (hearing_with h h.greatest h.halves ear) v w before now (noted number (events_of h.window known item)) (known_with h.window known item) result
-took_late h ear v w before now number known item own stamp late result is stamped test so at keeps heard =
+    → Received h.receiver receiver v w before now (noted number (Late ∷ [])) result
+    → Took h (hearing_with h h.greatest h.halves receiver) v w before now (noted number (events_of h.window known item)) (known_with h.window known item) result
+took_late h receiver v w before now number known item own stamp late result is stamped test so at keeps heard =
     let behind : Behind (stamp_of own) h.window known.greatest late =
     subst (λ (o : Option ℕ). Behind o h.window known.greatest late) (sym stamped) (test ∙ ap (nat_lt (stamp + h.window)) (sym at), tt) in
     let far : stamp + h.window < h.greatest = ltb-true (stamp + h.window) h.greatest (sym test ∙ so) in
     let greatest : h.greatest ≡ max known.greatest (unwrap_or (Some stamp) 0) = omega (arith, far, at) in
-    took_item h h.greatest ear v w before now number (Late ∷ []) known item own result is
+    took_item h h.greatest receiver v w before now number (Late ∷ []) known item own result is
     (keeps_item h.halves h.window known own (late_halves h.window known own late behind so) keeps)
     (subst (λ (o : Option ℕ). h.greatest ≡ max known.greatest (unwrap_or o 0)) (sym stamped) greatest ∙ known_greatest h.window known own)
     (omega arith) (late_events h.window known own late behind so) heard
@@ -80,7 +80,7 @@ known_page window known stamp sat signal bits timely =
     ap (λ (hs : List StampedHalf). record { greatest = max known.greatest stamp; halves = hs })
     (sym (cond-false (is_late window known stamp) known.halves (if is_alert bits then known.halves else with_half known.halves (half_of stamp sat signal bits)) timely))
 
-pub took_page : {T : Type 0} (h new : Hearing) (v w : Option (List ℕ)) (before now number : ℕ) (known : Known) (item : LineItem) (stamp : ℕ) (sat : Satellite) (signal : Signal) (bits : List ℕ) (result : Result T BridgeFault)
+pub took_page : {T : Type 0} (h new : CaptureState) (v w : Option (List ℕ)) (before now number : ℕ) (known : Known) (item : LineItem) (stamp : ℕ) (sat : Satellite) (signal : Signal) (bits : List ℕ) (result : Result T BridgeFault)
     → item ≡ Half stamp sat signal bits → is_late h.window known stamp ≡ false
     → Took h new v w before now (noted number (of_half known.halves stamp sat signal bits)) (known_half known stamp sat signal bits) result
     → Took h new v w before now (noted number (events_of h.window known item)) (known_with h.window known item) result

@@ -4,7 +4,7 @@ use Rattle.std.proofs.Math.Seq.{take-suc}
 use Rattle.std.proofs.lemmas.List.{map-append, take-append-drop}
 use Rattle.capture_log.specs.Log.{Noted, noted}
 use Rattle.capture_log.specs.declared.event.Event.{Event}
-use Rattle.captures.specs.Notes.{AreFrom, IfHeard, weight, weights}
+use Rattle.captures.specs.Notes.{AreFrom, IfReceived, weight, weights}
 
 -- one event more
 pub take_one : (es : List Event) (i : ℕ) (e : Event) → i < length es → e ≡ get_or es i e → take (i + 1) es ≡ take i es ++ e ∷ []
@@ -30,13 +30,13 @@ weights_one es i e within is =
 pub weights_more : (es : List Event) (i : ℕ) (e : Event) → i < length es → e ≡ get_or es i e → weights (take (i + 1) es) ≡ weights (take i es) + weight e
 weights_more es i e within is = omega (arith, ap weights (take_one es i e within is), weights-append (take i es) (e ∷ []))
 
-from_at : (stamp : ℕ) (es : List Event) (i : ℕ) (d : Event) → AreFrom stamp es → i < length es → IfHeard (get_or es i d) (λ part. stamp ≤ part.stamp)
+from_at : (stamp : ℕ) (es : List Event) (i : ℕ) (d : Event) → AreFrom stamp es → i < length es → IfReceived (get_or es i d) (λ part. stamp ≤ part.stamp)
 from_at stamp [] i d from within = absurd (omega arith)
 from_at stamp (e ∷ es) zero d from within = from.0
 from_at stamp (e ∷ es) (suc i) d from within = from_at stamp es i d from.1 (omega arith)
 
-pub from_one : (stamp : ℕ) (es : List Event) (i : ℕ) (e : Event) → i < length es → e ≡ get_or es i e → AreFrom stamp es → IfHeard e (λ part. stamp ≤ part.stamp)
-from_one stamp es i e within is from = subst (λ (x : Event). IfHeard x (λ part. stamp ≤ part.stamp)) (sym is) (from_at stamp es i e from within)
+pub from_one : (stamp : ℕ) (es : List Event) (i : ℕ) (e : Event) → i < length es → e ≡ get_or es i e → AreFrom stamp es → IfReceived e (λ part. stamp ≤ part.stamp)
+from_one stamp es i e within is from = subst (λ (x : Event). IfReceived x (λ part. stamp ≤ part.stamp)) (sym is) (from_at stamp es i e from within)
 
 pub noted-append : (number : ℕ) (es fs : List Event) → noted number (es ++ fs) ≡ noted number es ++ noted number fs
 noted-append number es fs = map-append (λ (e : Event). record { line = number; event = e }) es fs

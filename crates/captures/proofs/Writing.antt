@@ -17,12 +17,12 @@ use Rattle.periods.specs.declared.closed.Verdict.TheVariants.{Whole, Partial, Co
 use Rattle.periods.proofs.Surface.{closed_of-prefix}
 use Rattle.slot_assembly.specs.Standing.{Standing, Tells, Carries, IsNext, NoneDue, giving, reaching}
 use Rattle.slot_assembly.proofs.Surface.{Gives, HasValues, gives_start, gives_more, gives_all, gives_prefix}
-use Rattle.outlets.specs.declared.target.Target.{Target}
-use Rattle.captures.specs.declared.counts.Said.{Said}
-use Rattle.outlets.specs.Targets.{period_text}
-use Rattle.outlets.specs.Times.{times_with}
-use Rattle.outlets.specs.declared.times.Times.{Times}
-use Rattle.outlets.proofs.Surface.{times_behind}
+use Rattle.streams.specs.declared.target.Target.{Target}
+use Rattle.captures.specs.declared.counts.VerdictCounts.{VerdictCounts}
+use Rattle.streams.specs.Targets.{period_text}
+use Rattle.streams.specs.Times.{times_with}
+use Rattle.streams.specs.declared.times.Times.{Times}
+use Rattle.streams.proofs.Surface.{times_behind}
 use Rattle.captures.specs.Captures.{texts_of, verdicts, is_whole, is_partial, is_contradicted, is_nohealth, is_again}
 use Rattle.one_run.specs.Runs.{AppendsBetween}
 use Rattle.captures.specs.Flushed.{HasRoom, Flushed, said, said_of, total_said}
@@ -54,7 +54,7 @@ verdicts_more kind (x ∷ cs) c =
     verdicts_cons kind x (cs ++ c ∷ []) ∙ sym (add_more (kind x.verdict) (verdicts kind cs) (kind c.verdict) (verdicts kind (cs ++ c ∷ [])) (verdicts_more kind cs c))
     ∙ ap (λ n. n + kind c.verdict) (sym (verdicts_cons kind x cs))
 
-abbrev said_by : ℕ → ℕ → ℕ → ℕ → ℕ → Option Times → Said
+abbrev said_by : ℕ → ℕ → ℕ → ℕ → ℕ → Option Times → VerdictCounts
 said_by a b c d e times = record { whole = a; partial = b; contradicted = c; nohealth = d; again = e; times = times }
 
 same_said : (a b c d e f g h i j : ℕ) (times more : Option Times) → a ≡ f → b ≡ g → c ≡ h → d ≡ i → e ≡ j → times ≡ more → said_by a b c d e times ≡ said_by f g h i j more
@@ -95,13 +95,13 @@ all_said (c ∷ cs) =
 
 -- Of the parts all periods closed at the first watermark were given, and then some of those closed at the second; the texts of
 -- these were written, and they were counted.
-pub record Writes (now : Standing → Type 0) (r w : ℕ) (to : Target) (before watermark : ℕ) (parts : List Part) (start written : Option (List ℕ)) (counted : Said) : Type 0 where
+pub record Writes (now : Standing → Type 0) (r w : ℕ) (to : Target) (before watermark : ℕ) (parts : List Part) (start written : Option (List ℕ)) (counted : VerdictCounts) : Type 0 where
   pub given : List Closed
   pub gives : Gives now r w before watermark parts given
   pub text : Appends start written (texts_of to given)
   pub counts : counted ≡ said_of given
 
-pub writes_start : (now : Standing → Type 0) (r w : ℕ) (to : Target) (before watermark : ℕ) (parts : List Part) (start written : Option (List ℕ)) (counted : Said)
+pub writes_start : (now : Standing → Type 0) (r w : ℕ) (to : Target) (before watermark : ℕ) (parts : List Part) (start written : Option (List ℕ)) (counted : VerdictCounts)
     → HasValues now → before ≤ watermark → Flushed now r w to parts before start written counted → Writes now r w to before watermark parts start written counted
 writes_start now r w to before watermark parts start written counted values l s = record {
   given = closed_of r w before parts;
@@ -111,7 +111,7 @@ writes_start now r w to before watermark parts start written counted values l s 
 }
 
 -- a period was given, written and counted
-pub writes_more : (now new : Standing → Type 0) (r w : ℕ) (to : Target) (before watermark : ℕ) (parts : List Part) (start written written_new : Option (List ℕ)) (counted counted_new : Said) (c : Closed)
+pub writes_more : (now new : Standing → Type 0) (r w : ℕ) (to : Target) (before watermark : ℕ) (parts : List Part) (start written written_new : Option (List ℕ)) (counted counted_new : VerdictCounts) (c : Closed)
     → HasValues now → Tells now (λ at. IsNext r w (Contains at.parts) watermark at.last c) → Carries now new (giving watermark (closed_place c))
     → Appends written written_new (period_text to c) → counted_new ≡ said counted c.verdict
     → Writes now r w to before watermark parts start written counted → Writes new r w to before watermark parts start written_new counted_new
@@ -124,7 +124,7 @@ writes_more now new r w to before watermark parts start written written_new coun
 }
 
 -- what was written so far
-pub writes_some : (now : Standing → Type 0) (r w : ℕ) (to : Target) (before watermark : ℕ) (parts : List Part) (start written : Option (List ℕ)) (counted : Said)
+pub writes_some : (now : Standing → Type 0) (r w : ℕ) (to : Target) (before watermark : ℕ) (parts : List Part) (start written : Option (List ℕ)) (counted : VerdictCounts)
     → HasValues now → Writes now r w to before watermark parts start written counted
     → AppendsBetween start written (texts_of to (closed_of r w before parts)) (texts_of to (closed_of r w watermark parts))
 writes_some now r w to before watermark parts start written counted values h = record {
@@ -135,7 +135,7 @@ writes_some now r w to before watermark parts start written counted values h = r
 }
 
 -- a write failed at the text of a period
-pub writes_part : (now new : Standing → Type 0) (r w : ℕ) (to : Target) (before watermark : ℕ) (parts : List Part) (start written written_new : Option (List ℕ)) (counted : Said) (c : Closed)
+pub writes_part : (now new : Standing → Type 0) (r w : ℕ) (to : Target) (before watermark : ℕ) (parts : List Part) (start written written_new : Option (List ℕ)) (counted : VerdictCounts) (c : Closed)
     → HasValues now → HasValues new → Tells now (λ at. IsNext r w (Contains at.parts) watermark at.last c) → Carries now new (giving watermark (closed_place c))
     → AppendsPrefix written written_new (period_text to c) → Writes now r w to before watermark parts start written counted
     → AppendsBetween start written_new (texts_of to (closed_of r w before parts)) (texts_of to (closed_of r w watermark parts))
@@ -157,7 +157,7 @@ writes_part now new r w to before watermark parts start written written_new coun
     }
 
 -- nothing more is closed
-pub writes_all : (now new : Standing → Type 0) (r w : ℕ) (to : Target) (before watermark : ℕ) (parts : List Part) (start written : Option (List ℕ)) (counted : Said)
+pub writes_all : (now new : Standing → Type 0) (r w : ℕ) (to : Target) (before watermark : ℕ) (parts : List Part) (start written : Option (List ℕ)) (counted : VerdictCounts)
     → HasValues now → Tells now (λ at. NoneDue w (Contains at.parts) watermark at.last) → Carries now new (reaching watermark)
     → Writes now r w to before watermark parts start written counted → Flushed new r w to parts watermark start written counted
 writes_all now new r w to before watermark parts start written counted values none carries h =
@@ -171,7 +171,7 @@ writes_all now new r w to before watermark parts start written counted values no
 -- ---- the counts have room
 
 -- parts of fewer than 2^64 periods, of which those given so far were counted
-pub record Counts (now : Standing → Type 0) (r w watermark : ℕ) (counted : Said) : Type 0 where
+pub record Counts (now : Standing → Type 0) (r w watermark : ℕ) (counted : VerdictCounts) : Type 0 where
   pub parts : List Part
   pub before : ℕ
   pub few : length (periods_of r w parts) < 2 ^ 64
@@ -179,7 +179,7 @@ pub record Counts (now : Standing → Type 0) (r w watermark : ℕ) (counted : S
   pub gives : Gives now r w before watermark parts given
   pub counts : counted ≡ said_of given
 
-pub counts_start : (now : Standing → Type 0) (r w watermark : ℕ) (counted : Said) → HasValues now → HasRoom now r w watermark counted → Counts now r w watermark counted
+pub counts_start : (now : Standing → Type 0) (r w watermark : ℕ) (counted : VerdictCounts) → HasValues now → HasRoom now r w watermark counted → Counts now r w watermark counted
 counts_start now r w watermark counted values room = record {
   parts = room.parts;
   before = room.before;
@@ -189,7 +189,7 @@ counts_start now r w watermark counted values room = record {
   counts = room.counts;
 }
 
-pub counts_more : (now new : Standing → Type 0) (r w watermark : ℕ) (counted counted_new : Said) (c : Closed) → HasValues now
+pub counts_more : (now new : Standing → Type 0) (r w watermark : ℕ) (counted counted_new : VerdictCounts) (c : Closed) → HasValues now
     → Tells now (λ at. IsNext r w (Contains at.parts) watermark at.last c) → Carries now new (giving watermark (closed_place c)) → counted_new ≡ said counted c.verdict
     → Counts now r w watermark counted → Counts new r w watermark counted_new
 counts_more now new r w watermark counted counted_new c values next carries one h = record {
@@ -205,7 +205,7 @@ prefix_length : (xs ys : List Closed) → IsPeriodPrefix xs ys → length xs ≤
 prefix_length xs ys (rest, e) = omega (arith, ap length e, length-append xs rest)
 
 -- a period that is given can be counted
-pub counts_one : (now new : Standing → Type 0) (r w watermark : ℕ) (counted : Said) (c : Closed) → HasValues now → HasValues new
+pub counts_one : (now new : Standing → Type 0) (r w watermark : ℕ) (counted : VerdictCounts) (c : Closed) → HasValues now → HasValues new
     → Tells now (λ at. IsNext r w (Contains at.parts) watermark at.last c) → Carries now new (giving watermark (closed_place c))
     → Counts now r w watermark counted → total_said counted + 1 < 2 ^ 64
 counts_one now new r w watermark counted c values values_new next carries h =

@@ -12,10 +12,10 @@ use Rattle.periods.specs.declared.closed.Verdict.{Verdict}
 use Rattle.periods.specs.declared.closed.Verdict.TheVariants.{Whole, Partial, Contradicted, NoHealth, Again}
 use Rattle.capture_log.specs.Log.{log_of, parts_of, watermark_after}
 use Rattle.one_run.specs.Runs.{Meaning, Texts}
-use Rattle.outlets.specs.declared.target.Target.{Target}
-use Rattle.outlets.specs.declared.target.Target.TheVariants.{Rinex, Rinex3, Rtcm, ToList, Count}
-use Rattle.outlets.specs.Targets.{back_text, prefix_text, period_text}
-use Rattle.outlets.specs.Times.{times_of}
+use Rattle.streams.specs.declared.target.Target.{Target}
+use Rattle.streams.specs.declared.target.Target.TheVariants.{Rinex, Rinex3, Rtcm, ToList, Count}
+use Rattle.streams.specs.Targets.{back_text, prefix_text, period_text}
+use Rattle.streams.specs.Times.{times_of}
 use Rattle.captures.specs.declared.target.CaptureTo.{CaptureTo}
 use Rattle.captures.specs.declared.target.CaptureTo.TheVariants as captures
 use Rattle.captures.specs.declared.counts.CaptureCounts.{CaptureCounts}

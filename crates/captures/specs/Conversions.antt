@@ -8,18 +8,18 @@ use Rattle.capture_log.specs.Log.{log_of, parts_of}
 use Rattle.one_run.specs.Runs.{AppendsBetween}
 use Rattle.one_run.specs.declared.fault.BridgeFault.{BridgeFault}
 use Rattle.one_run.specs.declared.fault.BridgeFault.TheVariants.{ReadFault, WriteFault, ReportFault, TooLong, NoMemory, NotThisForm}
-use Rattle.outlets.specs.declared.target.Target.{Target}
+use Rattle.streams.specs.declared.target.Target.{Target}
 use Rattle.captures.specs.declared.accept.Accepted.{Accepted}
-use Rattle.captures.specs.declared.counts.Tally.{Tally}
-use Rattle.captures.specs.declared.counts.Said.{Said}
-use Rattle.captures.specs.declared.hearing.Hearing.{Hearing}
+use Rattle.captures.specs.declared.counts.EventCounts.{EventCounts}
+use Rattle.captures.specs.declared.counts.VerdictCounts.{VerdictCounts}
+use Rattle.captures.specs.declared.receiving.CaptureState.{CaptureState}
 use Rattle.captures.specs.Converts.{closed_texts, no_tally, period_texts}
 use Rattle.captures.specs.Flushed.{said_of}
 use Rattle.captures.specs.Hearings.{Stands}
 use Rattle.captures.specs.Notes.{line_report, tallied}
 
 -- the state is that after some lines, and this is the number of the last one
-pub record HoldsPast (to : Target) (number : ℕ) (h : Hearing) (written reported : Option (List ℕ)) : Type 0 where
+pub record HoldsPast (to : Target) (number : ℕ) (h : CaptureState) (written reported : Option (List ℕ)) : Type 0 where
   pub head : Accepted
   pub past : List Line
   pub start : Option (List ℕ)
@@ -29,7 +29,7 @@ pub record HoldsPast (to : Target) (number : ℕ) (h : Hearing) (written reporte
   pub stands : Stands to head past h start written told reported
 
 -- All further lines were read and processed, all periods were written, and all events were reported and counted.
-pub record ConvertsAll (to : Target) (head : Accepted) (past : List Line) (left left_new : Option (List ℕ)) (old new : LinesState) (start written told reported : Option (List ℕ)) (tally : Tally) (said : Said) : Type 0 where
+pub record ConvertsAll (to : Target) (head : Accepted) (past : List Line) (left left_new : Option (List ℕ)) (old new : LinesState) (start written told reported : Option (List ℕ)) (tally : EventCounts) (said : VerdictCounts) : Type 0 where
   pub given : List Line
   pub reads : Reads left left_new old new given
   pub rest : new.rest ≡ []
@@ -42,7 +42,7 @@ pub record ConvertsAll (to : Target) (head : Accepted) (past : List Line) (left 
   pub verdicts : said ≡ said_of (periods_of head.week head.window (parts_of head.window (past ++ given)))
 
 -- the state is that after these lines, and no further line has ended in the bytes read
-pub record Waits (to : Target) (head : Accepted) (lines : List Line) (state : LinesState) (h : Hearing) (start written told reported : Option (List ℕ)) : Type 0 where
+pub record Waits (to : Target) (head : Accepted) (lines : List Line) (state : LinesState) (h : CaptureState) (start written told reported : Option (List ℕ)) : Type 0 where
   pub more : state.ended ≡ false
   pub none : ends state.rest ≡ false
   pub held : length state.rest ≤ 4096
@@ -54,7 +54,7 @@ pub record Waits (to : Target) (head : Accepted) (lines : List Line) (state : Li
 -- What an error states besides, of all lines that were processed. After a failed read these are the
 -- complete ones, and the state is that after them. At `TooLong` 2^32 bytes were counted, at
 -- `NoMemory` fewer.
-abbrev pub ConversionSays : Target → Accepted → List Line → List Line → LinesState → Hearing → Option (List ℕ) → Option (List ℕ) → Option (List ℕ) → Option (List ℕ) → BridgeFault → Type 0
+abbrev pub ConversionSays : Target → Accepted → List Line → List Line → LinesState → CaptureState → Option (List ℕ) → Option (List ℕ) → Option (List ℕ) → Option (List ℕ) → BridgeFault → Type 0
 ConversionSays to head lines last new h start written told reported ReadFault = (last ≡ []) × Waits to head lines new h start written told reported
 ConversionSays to head lines last new h start written told reported TooLong = new.taken ≡ 2 ^ 32
 ConversionSays to head lines last new h start written told reported NotThisForm = ⊥
@@ -67,7 +67,7 @@ ConversionSays to head lines last new h start written told reported NoMemory = n
 -- before and any that follow give, no less than what `given` close; and a prefix of the report of
 -- these lines was reported, no less than that of `given`. No more was written than what these lines
 -- close, or they are all.
-pub record ConversionBroke (to : Target) (head : Accepted) (past : List Line) (left left_new : Option (List ℕ)) (old new : LinesState) (h : Hearing) (start written told reported : Option (List ℕ)) (fault : BridgeFault) : Type 0 where
+pub record ConversionBroke (to : Target) (head : Accepted) (past : List Line) (left left_new : Option (List ℕ)) (old new : LinesState) (h : CaptureState) (start written told reported : Option (List ℕ)) (fault : BridgeFault) : Type 0 where
   pub given : List Line
   pub last : List Line
   pub few : length last ≤ 1
@@ -81,8 +81,8 @@ pub record ConversionBroke (to : Target) (head : Accepted) (past : List Line) (l
   pub says : ConversionSays to head (past ++ given) last new h start written told reported fault
 
 -- the further lines were processed, and the periods that were left were written
-abbrev pub Converts : {T : Type 0} → Target → Hearing → Hearing → Option (List ℕ) → Option (List ℕ) → LinesState → LinesState → Option (List ℕ) → Option (List ℕ) → Option (List ℕ) → Option (List ℕ) → Result T BridgeFault → Type 0
+abbrev pub Converts : {T : Type 0} → Target → CaptureState → CaptureState → Option (List ℕ) → Option (List ℕ) → LinesState → LinesState → Option (List ℕ) → Option (List ℕ) → Option (List ℕ) → Option (List ℕ) → Result T BridgeFault → Type 0
 Converts to h new left left_new lines lines_new written written_new reported reported_new result =
     (head : Accepted) (past : List Line) (start told : Option (List ℕ)) → lines.number ≡ 1 + length past → Stands to head past h start written told reported
-    → MatchResult result (λ x. ConvertsAll to head past left left_new lines lines_new start written_new told reported_new new.ear.tally new.said)
+    → MatchResult result (λ x. ConvertsAll to head past left left_new lines lines_new start written_new told reported_new new.receiver.tally new.said)
     (λ fault. ConversionBroke to head past left left_new lines lines_new new start written_new told reported_new fault)

@@ -4,13 +4,13 @@ use Rattle.std.specs.Io.KnownBytes.{Appends, Consumes, IsAtEnd}
 use Rattle.nav_io.specs.Prefix.{AppendsPrefix}
 use Rattle.nav_io.specs.Lines.{Line}
 use Rattle.nav_io.specs.LinesState.{LinesState, GivesLine, GivesEnd, BreaksRead, BreaksLong}
-use Rattle.inav_page.specs.Keeping.{Keeping}
+use Rattle.inav.specs.Keeping.{Keeping}
 use Rattle.periods.specs.PeriodsOf.{periods_of, closed_of}
 use Rattle.capture_log.specs.Events.{nothing_known}
 use Rattle.capture_log.specs.Log.{line_items_of, known_from, log_of, watermark_after, parts_of}
-use Rattle.outlets.specs.declared.target.Target.{Target}
-use Rattle.outlets.specs.declared.target.Target.TheVariants.{Count}
-use Rattle.captures.specs.declared.counts.Tally.{Tally}
+use Rattle.streams.specs.declared.target.Target.{Target}
+use Rattle.streams.specs.declared.target.Target.TheVariants.{Count}
+use Rattle.captures.specs.declared.counts.EventCounts.{EventCounts}
 use Rattle.one_run.specs.declared.fault.BridgeFault.{BridgeFault}
 use Rattle.one_run.specs.declared.fault.BridgeFault.TheVariants.{ReadFault, WriteFault, ReportFault, TooLong, NoMemory, NotThisForm}
 use Rattle.captures.specs.Captures.{accepted_line, capture_of, counts_in, least_output, least_report, output_of, refusals_text, report_of_capture, flushed_output, flushed_report, flushed_texts, texts_of}
@@ -20,11 +20,11 @@ use Rattle.one_run.specs.Runs.{AppendsBetween, StopAtOnePlace}
 use Rattle.captures.specs.Runs.{WritesLast}
 
 -- nothing was counted
-abbrev pub no_tally : Tally
+abbrev pub no_tally : EventCounts
 no_tally = record { malformed = 0; late = 0; refused = 0; unused = 0 }
 
 -- what is retained, counted and known after the lines so far
-pub record Counted (window : ℕ) (lines : List Line) (keeping : Keeping) (tally : Tally) (greatest : ℕ) : Type 0 where
+pub record Counted (window : ℕ) (lines : List Line) (keeping : Keeping) (tally : EventCounts) (greatest : ℕ) : Type 0 where
   pub keeps : KeepsHalves keeping window (known_from window nothing_known (line_items_of lines))
   pub greatest_is : greatest ≡ (known_from window nothing_known (line_items_of lines)).greatest
   pub counts : tally ≡ tallied no_tally (log_of window lines)

@@ -9,17 +9,17 @@ use Rattle.periods.specs.declared.closed.Closed.{Closed}
 use Rattle.periods.specs.declared.closed.Verdict.{Verdict}
 use Rattle.slot_assembly.specs.Standing.{Standing}
 use Rattle.slot_assembly.specs.Given.{flushed}
-use Rattle.outlets.specs.Times.{times_of, times_with}
-use Rattle.outlets.specs.declared.target.Target.{Target}
+use Rattle.streams.specs.Times.{times_of, times_with}
+use Rattle.streams.specs.declared.target.Target.{Target}
 use Rattle.captures.specs.declared.counts.CaptureCounts.{CaptureCounts}
-use Rattle.captures.specs.declared.counts.Tally.{Tally}
-use Rattle.captures.specs.declared.counts.Said.{Said}
+use Rattle.captures.specs.declared.counts.EventCounts.{EventCounts}
+use Rattle.captures.specs.declared.counts.VerdictCounts.{VerdictCounts}
 use Rattle.one_run.specs.declared.fault.BridgeFault.{BridgeFault}
 use Rattle.one_run.specs.declared.fault.BridgeFault.TheVariants.{WriteFault, NoMemory}
 use Rattle.captures.specs.Captures.{texts_of, verdicts, is_whole, is_partial, is_contradicted, is_nohealth, is_again}
 
 -- the verdict counts with one period more
-abbrev pub said : Said → Verdict → Said
+abbrev pub said : VerdictCounts → Verdict → VerdictCounts
 said s verdict = record {
   whole = s.whole + is_whole verdict;
   partial = s.partial + is_partial verdict;
@@ -30,11 +30,11 @@ said s verdict = record {
 }
 
 -- the number of periods that were counted
-abbrev pub total_said : Said → ℕ
+abbrev pub total_said : VerdictCounts → ℕ
 total_said s = s.whole + s.partial + s.contradicted + s.nohealth + s.again
 
 -- the verdict counts of periods
-abbrev pub said_of : List Closed → Said
+abbrev pub said_of : List Closed → VerdictCounts
 said_of cs = record {
   whole = verdicts is_whole cs;
   partial = verdicts is_partial cs;
@@ -45,7 +45,7 @@ said_of cs = record {
 }
 
 -- the counts of a capture with this number of lines
-abbrev pub with_counts : ℕ → Tally → Said → CaptureCounts
+abbrev pub with_counts : ℕ → EventCounts → VerdictCounts → CaptureCounts
 with_counts lines t s = record {
   lines = lines;
   malformed = t.malformed;
@@ -62,14 +62,14 @@ with_counts lines t s = record {
 
 -- the assembly has the parts and is flushed at the watermark: the texts of all periods closed there were written, and the
 -- periods counted
-pub record Flushed (now : Standing → Type 0) (r window : ℕ) (to : Target) (parts : List Part) (watermark : ℕ) (written written_new : Option (List ℕ)) (counted : Said) : Type 0 where
+pub record Flushed (now : Standing → Type 0) (r window : ℕ) (to : Target) (parts : List Part) (watermark : ℕ) (written written_new : Option (List ℕ)) (counted : VerdictCounts) : Type 0 where
   pub stands : now (flushed r window parts watermark)
   pub text : Appends written written_new (texts_of to (closed_of r window watermark parts))
   pub counts : counted ≡ said_of (closed_of r window watermark parts)
 
 -- the assembly has parts of fewer than 2^64 periods, at a watermark not above this one, and the periods closed there were
 -- counted
-pub record HasRoom (now : Standing → Type 0) (r window watermark : ℕ) (counted : Said) : Type 0 where
+pub record HasRoom (now : Standing → Type 0) (r window watermark : ℕ) (counted : VerdictCounts) : Type 0 where
   pub parts : List Part
   pub before : ℕ
   pub low : before ≤ watermark

@@ -10,17 +10,17 @@ use Rattle.nav_eph.specs.Satellite.{Satellite}
 use Rattle.nav_eph.specs.declared.sat.System.TheVariants.{Gps, Gal}
 use Rattle.nav_eph.specs.declared.part.Part.{Part}
 use Rattle.nav_eph.specs.declared.signal.Signal.{Signal}
-use Rattle.inav_page.specs.Heard.{StampedHalf}
-use Rattle.inav_page.specs.Keeping.{Keeping, IsRecent}
-use Rattle.inav_word.specs.Reading.{reading_of}
+use Rattle.inav.specs.Received.{StampedHalf}
+use Rattle.inav.specs.Keeping.{Keeping, IsRecent}
+use Rattle.inav.specs.Reading.{reading_of}
 use Rattle.capture_lines.specs.declared.item.LineItem.{LineItem}
 use Rattle.capture_lines.specs.declared.item.LineItem.TheVariants.{Lnav, Half}
 use Rattle.slot_assembly.specs.Standing.{Standing, Carries}
 use Rattle.capture_log.specs.Events.{Known, half_of, is_alert, with_half, of_word, item_line}
 use Rattle.capture_log.specs.Log.{Noted, parts_in}
 use Rattle.capture_log.specs.declared.event.Event.{Event}
-use Rattle.capture_log.specs.declared.event.Event.TheVariants.{Heard}
-use Rattle.captures.specs.declared.counts.Tally.{Tally}
+use Rattle.capture_log.specs.declared.event.Event.TheVariants.{Received}
+use Rattle.captures.specs.declared.counts.EventCounts.{EventCounts}
 use Rattle.one_run.specs.declared.fault.BridgeFault.{BridgeFault}
 use Rattle.one_run.specs.declared.fault.BridgeFault.TheVariants.{ReportFault, NoMemory}
 use Rattle.captures.specs.Reports.{report_in, count_in, is_malformed, is_late, is_refused_event, is_unused}
@@ -34,7 +34,7 @@ abbrev pub adding : List Part → Standing → Standing
 adding parts at = record { parts = at.parts ++ parts; watermark = at.watermark; last = at.last }
 
 -- these counts plus those of a log
-abbrev pub tallied : Tally → List Noted → Tally
+abbrev pub tallied : EventCounts → List Noted → EventCounts
 tallied t log = record {
   malformed = t.malformed + count_in is_malformed log;
   late = t.late + count_in is_late log;
@@ -43,12 +43,12 @@ tallied t log = record {
 }
 
 -- the sum of the counts
-abbrev pub total : Tally → ℕ
+abbrev pub total : EventCounts → ℕ
 total t = t.malformed + t.late + t.refused + t.unused
 
 -- 1 for each event but a part, which is not counted
 abbrev pub weight : Event → ℕ
-weight (Heard part) = 0
+weight (Received part) = 0
 weight _ = 1
 
 -- the number of events but parts
@@ -57,25 +57,25 @@ weights [] = 0
 weights (e ∷ es) = weight e + weights es
 
 -- the assembly has the parts of the log as well, and its other events were reported and counted
-pub record Notes (old new : Standing → Type 0) (report report_new : Option (List ℕ)) (tally tally_new : Tally) (log : List Noted) : Type 0 where
+pub record Notes (old new : Standing → Type 0) (report report_new : Option (List ℕ)) (tally tally_new : EventCounts) (log : List Noted) : Type 0 where
   pub parts : Carries old new (adding (parts_in log))
   pub text : Appends report report_new (line_report log)
   pub counts : tally_new ≡ tallied tally log
 
 -- the events of a log were processed or, at an error, a prefix of their report was written
-abbrev pub Takes : {T : Type 0} → (Standing → Type 0) → (Standing → Type 0) → Option (List ℕ) → Option (List ℕ) → Tally → Tally → List Noted → Result T BridgeFault → Type 0
+abbrev pub Takes : {T : Type 0} → (Standing → Type 0) → (Standing → Type 0) → Option (List ℕ) → Option (List ℕ) → EventCounts → EventCounts → List Noted → Result T BridgeFault → Type 0
 Takes old new report report_new tally tally_new log result =
     OnOk result (Notes old new report report_new tally tally_new log) × OnErr result (AppendsPrefix report report_new (line_report log))
 
 -- the statement holds for a part that was received; nothing is said of other events
-abbrev pub IfHeard : Event → (Part → Type 0) → Type 0
-IfHeard (Heard part) P = P part
-IfHeard _ P = Unit {0}
+abbrev pub IfReceived : Event → (Part → Type 0) → Type 0
+IfReceived (Received part) P = P part
+IfReceived _ P = Unit {0}
 
 -- no part of the events has an earlier time tag
 abbrev pub AreFrom : ℕ → List Event → Type 0
 AreFrom stamp [] = Unit {0}
-AreFrom stamp (e ∷ es) = IfHeard e (λ part. stamp ≤ part.stamp) × AreFrom stamp es
+AreFrom stamp (e ∷ es) = IfReceived e (λ part. stamp ≤ part.stamp) × AreFrom stamp es
 
 -- how reporting ends: the report's error count rose exactly if the report failed; the only other
 -- error is out of memory
@@ -92,8 +92,8 @@ HasSystem (Half stamp sat signal bits) = sat.system ≡ Gal
 HasSystem _ = Unit {0}
 
 -- the events of the words that a satellite transmitted, received at one second
-abbrev pub of_heard : Satellite → ℕ → List (List ℕ) → List Event
-of_heard sat stamp words = flat_map (λ word. of_word (reading_of word sat stamp)) words
+abbrev pub of_received : Satellite → ℕ → List (List ℕ) → List Event
+of_received sat stamp words = flat_map (λ word. of_word (reading_of word sat stamp)) words
 
 -- of the accepted page parts exactly the recent ones are retained: those that may still get a
 -- partner

@@ -4,14 +4,14 @@ use Rattle.std.specs.Io.KnownBytes.{Appends}
 use Rattle.nav_io.specs.Prefix.{AppendsPrefix}
 use Rattle.nav_io.specs.Lines.{Line, ends, lines_by}
 use Rattle.nav_io.specs.LinesState.{LinesState, Reads}
-use Rattle.outlets.specs.Targets.{prefix_text}
-use Rattle.outlets.specs.declared.target.Target.{Target}
+use Rattle.streams.specs.Targets.{prefix_text}
+use Rattle.streams.specs.declared.target.Target.{Target}
 use Rattle.one_run.specs.Runs.{AppendsBetween, StopAtOnePlace}
 use Rattle.one_run.specs.declared.fault.BridgeFault.{BridgeFault}
 use Rattle.one_run.specs.declared.fault.BridgeFault.TheVariants.{ReadFault, TooLong, NotThisForm, WriteFault, ReportFault, NoMemory}
 use Rattle.captures.specs.declared.accept.Accepted.{Accepted}
 use Rattle.captures.specs.declared.counts.CaptureCounts.{CaptureCounts}
-use Rattle.captures.specs.declared.hearing.Hearing.{Hearing}
+use Rattle.captures.specs.declared.receiving.CaptureState.{CaptureState}
 use Rattle.captures.specs.Captures.{accepted_line, capture_of, counts_in, ended_capture, flushed_output, flushed_report, flushed_texts, output_of, refusals_text, report_of_capture}
 use Rattle.captures.specs.Hearings.{Stands}
 
@@ -24,7 +24,7 @@ pub record CaptureRunState : Type 0 where
   -- the bytes that no line has used yet
   pub lines : LinesState
   -- what the lines have left; none before the first line
-  pub hearing : Option Hearing
+  pub receiving : Option CaptureState
   -- why it goes no further
   pub fault : Option BridgeFault
 
@@ -47,7 +47,7 @@ pub record IsWaiting (lines : LinesState) : Type 0 where
   pub none : ends lines.rest ≡ false
 
 -- the first of the lines is accepted, the text before the items was written, and the other lines were processed
-pub record HasHeard (to : Target) (week : Option ℕ) (given : List Line) (h : Hearing) (start written begun reported : Option (List ℕ)) : Type 0 where
+pub record HasReceived (to : Target) (week : Option ℕ) (given : List Line) (h : CaptureState) (start written begun reported : Option (List ℕ)) : Type 0 where
   pub head : Accepted
   pub line : Line
   pub past : List Line
@@ -58,21 +58,21 @@ pub record HasHeard (to : Target) (week : Option ℕ) (given : List Line) (h : H
   pub stands : Stands to head past h led written begun reported
 
 -- what the lines have left; before the first one nothing was written
-abbrev pub HeardSoFar : Target → Option ℕ → List Line → Option Hearing → Option (List ℕ) → Option (List ℕ) → Option (List ℕ) → Option (List ℕ) → Type 0
-HeardSoFar to week given None start written begun reported = (given ≡ []) × Appends start written [] × Appends begun reported []
-HeardSoFar to week given (Some h) start written begun reported = HasHeard to week given h start written begun reported
+abbrev pub ReceivedSoFar : Target → Option ℕ → List Line → Option CaptureState → Option (List ℕ) → Option (List ℕ) → Option (List ℕ) → Option (List ℕ) → Type 0
+ReceivedSoFar to week given None start written begun reported = (given ≡ []) × Appends start written [] × Appends begun reported []
+ReceivedSoFar to week given (Some h) start written begun reported = HasReceived to week given h start written begun reported
 
 -- the state after these bytes, since the output was `start` and the report `begun`
-pub record IsBehind (to : Target) (week : Option ℕ) (lines : LinesState) (hearing : Option Hearing) (bytes : List ℕ) (start written begun reported : Option (List ℕ)) : Type 0 where
+pub record IsBehind (to : Target) (week : Option ℕ) (lines : LinesState) (receiving : Option CaptureState) (bytes : List ℕ) (start written begun reported : Option (List ℕ)) : Type 0 where
   pub given : List Line
   pub read : HasRead lines bytes given
-  pub heard : HeardSoFar to week given hearing start written begun reported
+  pub heard : ReceivedSoFar to week given receiving start written begun reported
 
 -- bytes may be pushed: the state is one between two pieces
-pub record IsReady (to : Target) (week : Option ℕ) (lines : LinesState) (hearing : Option Hearing) : Type 0 where
+pub record IsReady (to : Target) (week : Option ℕ) (lines : LinesState) (receiving : Option CaptureState) : Type 0 where
   pub bytes : List ℕ
   pub waits : IsWaiting lines
-  pub behind : IsBehind to week lines hearing bytes None None None None
+  pub behind : IsBehind to week lines receiving bytes None None None None
 
 -- These bytes were pushed since the output was `start` and the report `begun`: exactly what they decide was written and reported,
 -- and their first line, if it has ended, is accepted.
@@ -83,7 +83,7 @@ pub record IsPushed (s : CaptureRunState) (bytes : List ℕ) (start written begu
   pub accepted : (lines_by true bytes ≡ []) ⊎ IsSome (ended_capture s.week bytes)
   pub few : length bytes < 2 ^ 32
   pub waits : IsWaiting s.lines
-  pub behind : IsBehind s.to s.week s.lines s.hearing bytes start written begun reported
+  pub behind : IsBehind s.to s.week s.lines s.receiving bytes start written begun reported
 
 -- what an error states of the complete capture
 abbrev pub CutSays : Option ℕ → List ℕ → BridgeFault → Type 0

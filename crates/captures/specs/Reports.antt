@@ -3,13 +3,13 @@ use Rattle.std.specs.Prelude.{ℕ, List, [], ◌++◌, codes, decimal, map, sum}
 use Rattle.std.specs.List.{flat_map}
 use Rattle.one_run.specs.Reports.{report_line}
 use Rattle.capture_log.specs.Log.{Noted}
-use Rattle.capture_log.specs.declared.event.Refusal.{Refusal}
-use Rattle.capture_log.specs.declared.event.Refusal.TheVariants as refusals
+use Rattle.capture_log.specs.declared.event.EventFault.{EventFault}
+use Rattle.capture_log.specs.declared.event.EventFault.TheVariants as refusals
 use Rattle.capture_log.specs.declared.event.Event.{Event}
-use Rattle.capture_log.specs.declared.event.Event.TheVariants.{Heard, Malformed, Late, Refused, Unused}
+use Rattle.capture_log.specs.declared.event.Event.TheVariants.{Received, Malformed, Late, Refused, Unused}
 
 -- the report's words for a refusal
-abbrev pub refusal_text : Refusal → List ℕ
+abbrev pub refusal_text : EventFault → List ℕ
 refusal_text refusals.Frame = codes "frame"
 refusal_text refusals.Preamble = codes "preamble"
 refusal_text (refusals.Parity word) = codes "parity " ++ decimal word
@@ -21,7 +21,7 @@ refusal_text refusals.Short = codes "short"
 
 -- the report line of an event; empty for a part and for what is not used
 abbrev pub report_of : List ℕ → ℕ → Event → List ℕ
-report_of subject number (Heard part) = []
+report_of subject number (Received part) = []
 report_of subject number Malformed = report_line subject number (codes "malformed")
 report_of subject number Late = report_line subject number (codes "late")
 report_of subject number (Refused refusal) = report_line subject number (refusal_text refusal)

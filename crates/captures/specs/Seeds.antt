@@ -2,8 +2,8 @@
 use Rattle.std.specs.Prelude.{ℕ, ◌^◌, Bool, true, false, List, [], ◌++◌, length, codes, Some, None}
 use Rattle.nav_io.specs.Lines.{lines_by}
 use Rattle.one_run.specs.Runs.{Meaning, no_least}
-use Rattle.nav_vectors.specs.Capture.{lines_of}
-use Rattle.nav_vectors.specs.Text.{capture_text, text_of_lines}
+use Rattle.sent_captures.specs.Capture.{lines_of}
+use Rattle.sent_captures.specs.Text.{capture_text, text_of_lines}
 use Rattle.capture_log.specs.Log.{log_of}
 use Rattle.captures.specs.Reports.{report_in}
 use Rattle.captures.specs.Captures.{Capture, counts_of, counts_text}

@@ -5,7 +5,7 @@ ghost use Rattle.capture_lines.specs.Heads.{head_of};
 ghost use Rattle.captures.specs.Captures.{accepted_head, week_for};
 
 use capture_lines::read_first;
-use gnss_week::RefWeek;
+use nav_eph::RefWeek;
 
 // An accepted first line: the window in seconds, and the reference week.
 #[derive(Clone, Copy)]

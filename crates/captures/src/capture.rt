@@ -7,10 +7,10 @@ ghost use Rattle.captures.specs.Converts.{CaptureAhead};
 
 use crate::convert::{convert, end_run, first_line};
 use crate::counts::{CaptureCounts, counts_with};
-use crate::hearing::Hearing;
+use crate::receiving::CaptureState;
 use crate::target::CaptureTo;
 use capture_log::{parts_of_lines_are_values, what_is_closed_stays};
-use gnss_week::RefWeek;
+use nav_eph::RefWeek;
 use nav_io::{Failed, Lines, Sink, Source};
 use one_run::BridgeFault;
 use std::alloc::Global;
@@ -63,12 +63,12 @@ pub fn run_capture<S: Source, T: Sink, U: Sink>(
         Ok(()) => {}
         Err(Failed) => return Err(BridgeFault::WriteFault),
     }
-    let mut hearing = Hearing::new(alloc, head.week, head.window);
-    match convert(&mut hearing, &mut lines, &target, input, output, report) {
+    let mut receiving = CaptureState::new(alloc, head.week, head.window);
+    match convert(&mut receiving, &mut lines, &target, input, output, report) {
         Ok(()) => {}
         Err(fault) => return Err(fault),
     }
-    let counts = counts_with(lines.number(), &hearing.ear.tally, &hearing.said);
+    let counts = counts_with(lines.number(), &receiving.receiver.tally, &receiving.said);
     match end_run(&target, &counts, output, report) {
         Ok(()) => Ok(counts),
         Err(fault) => Err(fault),

@@ -6,21 +6,21 @@ ghost use Rattle.std.specs.Io.KnownBytes.{Appends};
 ghost use Rattle.nav_io.specs.Causes.{Rose};
 ghost use Rattle.nav_io.specs.Prefix.{AppendsPrefix};
 ghost use Rattle.one_run.specs.Causes.{HasItsCause, fault_by, faults_of};
-ghost use Rattle.outlets.specs.Targets.{back_text};
+ghost use Rattle.streams.specs.Targets.{back_text};
 ghost use Rattle.captures.specs.Captures.{counts_text};
 ghost use Rattle.captures.specs.Converts.{GivesHead, GivesNoHead};
 ghost use Rattle.captures.specs.Conversions.{Converts, HoldsPast};
 
 use crate::accept::{Accepted, accept};
 use crate::counts::{CaptureCounts, capture_counts_text};
-use crate::hearing::Hearing;
 use crate::next::next_item;
+use crate::receiving::CaptureState;
 use capture_lines::LineItem;
 use capture_log::{parts_of_lines_are_values, what_is_closed_stays};
-use gnss_week::RefWeek;
+use nav_eph::RefWeek;
 use nav_io::{Failed, LineFault, LineKind, Lines, Sink, Source};
 use one_run::BridgeFault;
-use outlets::Target;
+use streams::Target;
 
 // The fault of a run whose reading of lines failed so.
 fn fault_of(fault: LineFault) -> BridgeFault
@@ -66,7 +66,7 @@ pub(crate) fn first_line<S: Source>(
 // Processes the further lines; at the end of the input writes the periods that are left. After a
 // failed read it goes on where it stopped.
 pub(crate) fn convert<S: Source, T: Sink, U: Sink>(
-    hearing: &mut Hearing,
+    receiving: &mut CaptureState,
     lines: &mut Lines,
     to: &Target,
     input: &mut S,
@@ -75,16 +75,18 @@ pub(crate) fn convert<S: Source, T: Sink, U: Sink>(
 ) -> Result<(), BridgeFault>
     requires held { length lines.old.rest ≤ 4096 }
     requires low { lines.old.taken < 2 ^ 32 }
-    requires past { HoldsPast to.now lines.old.number hearing.old
+    requires past { HoldsPast to.now lines.old.number receiving.old
         (T.written output.old) (U.written report.old) }
-    ensures converts { Converts to.now hearing.old hearing.new (S.left input.old) (S.left input.new)
+    ensures converts { Converts to.now receiving.old receiving.new (S.left input.old)
+        (S.left input.new)
         lines.old lines.new (T.written output.old) (T.written output.new)
         (U.written report.old) (U.written report.new) result }
     ensures cause { HasItsCause
         (faults_of (S.faults input.old) (T.faults output.old) (U.faults report.old))
         (faults_of (S.faults input.new) (T.faults output.new) (U.faults report.new)) result }
     ensures still { IsErrOf result BridgeFault.ReadFault
-        → (T.faults output.new ≡ T.faults output.old) × (U.faults report.new ≡ U.faults report.old) }
+        → (T.faults output.new ≡ T.faults output.old)
+        × (U.faults report.new ≡ U.faults report.old) }
     ensures never { IsTrue (S.never_fails input.old) → IsErrOf result BridgeFault.ReadFault → ⊥ }
 {
     what_is_closed_stays();
@@ -93,10 +95,10 @@ pub(crate) fn convert<S: Source, T: Sink, U: Sink>(
     'lines: loop {
         match next_item(lines, input, &mut item) {
             Ok(true) => {}
-            Ok(false) => return hearing.finish(to, output),
+            Ok(false) => return receiving.finish(to, output),
             Err(fault) => return Err(fault_of(fault)),
         }
-        match hearing.step(lines.number(), &item, to, output, report) {
+        match receiving.step(lines.number(), &item, to, output, report) {
             Ok(()) => {}
             Err(fault) => return Err(fault),
         }

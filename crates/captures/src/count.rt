@@ -8,7 +8,7 @@ ghost use Rattle.captures.specs.Counting.{CountsText, WritesText};
 use crate::capture::run_capture;
 use crate::seed_target::SeedCounts;
 use crate::target::CaptureTo;
-use gnss_week::RefWeek;
+use nav_eph::RefWeek;
 use nav_io::{Failed, MemSource, Sink};
 use one_run::BridgeFault;
 use std::alloc::Global;

@@ -7,8 +7,8 @@ ghost use Rattle.captures.specs.Converts.{no_tally};
 ghost use Rattle.captures.specs.Flushed.{said, said_of, total_said, with_counts};
 
 use one_run::{Text, append_count};
-use outlets::{Times, with_item};
 use periods::Verdict;
+use streams::{Times, with_item};
 
 /// What a run over a capture counts.
 #[derive(Clone, Copy, PartialEq, Eq)]
@@ -39,19 +39,19 @@ pub struct CaptureCounts {
 
 // The counts of the events of lines, other than parts.
 #[derive(Clone, Copy)]
-pub(crate) struct Tally {
+pub(crate) struct EventCounts {
     pub(crate) malformed: u64,
     pub(crate) late: u64,
     pub(crate) refused: u64,
     pub(crate) unused: u64,
 }
 
-impl Tally {
+impl EventCounts {
     // Nothing was counted.
-    pub(crate) fn new() -> Tally
+    pub(crate) fn new() -> EventCounts
         ensures { result ≡ no_tally }
     {
-        Tally {
+        EventCounts {
             malformed: 0,
             late: 0,
             refused: 0,
@@ -62,7 +62,7 @@ impl Tally {
 
 // How many periods have each verdict, and the times of the whole ones.
 #[derive(Clone, Copy)]
-pub(crate) struct Said {
+pub(crate) struct VerdictCounts {
     pub(crate) whole: u64,
     pub(crate) partial: u64,
     pub(crate) contradicted: u64,
@@ -71,12 +71,12 @@ pub(crate) struct Said {
     pub(crate) times: Option<Times>,
 }
 
-impl Said {
+impl VerdictCounts {
     // No period was counted.
-    pub(crate) fn new() -> Said
+    pub(crate) fn new() -> VerdictCounts
         ensures { result ≡ said_of [] }
     {
-        Said {
+        VerdictCounts {
             whole: 0,
             partial: 0,
             contradicted: 0,
@@ -106,7 +106,7 @@ impl Said {
 }
 
 // The counts of a capture with this number of lines.
-pub(crate) fn counts_with(lines: u32, tally: &Tally, said: &Said) -> CaptureCounts
+pub(crate) fn counts_with(lines: u32, tally: &EventCounts, said: &VerdictCounts) -> CaptureCounts
     ensures { result ≡ with_counts lines tally.now said.now }
 {
     CaptureCounts {

@@ -9,12 +9,12 @@ ghost use Rattle.captures.specs.Captures.{texts_of};
 ghost use Rattle.one_run.specs.Runs.{AppendsBetween};
 ghost use Rattle.captures.specs.Flushed.{HasRoom, IsWriting, Flushed};
 
-use crate::counts::Said;
+use crate::counts::VerdictCounts;
 use nav_io::{Failed, Sink};
 use one_run::BridgeFault;
-use outlets::Target;
 use periods::Closed;
 use slot_assembly::SlotAssembly;
+use streams::Target;
 
 // Writes what is closed at the watermark, if it rose: at an unchanged watermark the parts added
 // since close nothing more.
@@ -24,7 +24,7 @@ pub(crate) fn write_risen<T: Sink>(
     before: u64,
     watermark: u64,
     output: &mut T,
-    said: &mut Said,
+    said: &mut VerdictCounts,
 ) -> Result<(), BridgeFault>
     requires low { before ≤ watermark }
     requires stood { Stood (SlotsStandFor assembly.old) (λ at. at.watermark ≤ watermark) }
@@ -61,7 +61,7 @@ pub(crate) fn write_closed<T: Sink>(
     assembly: &mut SlotAssembly,
     watermark: u64,
     output: &mut T,
-    said: &mut Said,
+    said: &mut VerdictCounts,
 ) -> Result<(), BridgeFault>
     requires stood { Stood (SlotsStandFor assembly.old) (λ at. at.watermark ≤ watermark) }
     requires room { HasRoom (SlotsStandFor assembly.old) assembly.old.reference

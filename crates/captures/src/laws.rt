@@ -2,11 +2,11 @@
 
 ghost use Rattle.std.specs.Prelude.{◌≡◌, ℕ, List, ◌++◌, Option, Some};
 ghost use Rattle.nav_io.specs.Prefix.{IsPrefix};
-ghost use Rattle.outlets.specs.declared.target.Target.{Target};
-ghost use Rattle.outlets.specs.declared.target.Target.TheVariants.{Count};
+ghost use Rattle.streams.specs.declared.target.Target.{Target};
+ghost use Rattle.streams.specs.declared.target.Target.TheVariants.{Count};
 ghost use Rattle.captures.specs.Captures.{capture_of, flushed_output, flushed_report};
 ghost use Rattle.captures.specs.Captures.{output_of, report_of_capture};
-ghost use Rattle.nav_vectors.specs.Text.{capture_text};
+ghost use Rattle.sent_captures.specs.Text.{capture_text};
 ghost use Rattle.captures.specs.declared.seed_target.SeedTo.TheVariants as seeds;
 ghost use Rattle.captures.specs.Seeds.{generated, seed_output, seed_report};
 

@@ -10,15 +10,15 @@ ghost use Rattle.captures.specs.Pushed.{IsCutShort, IsPushed, IsReady, IsWhole};
 
 use crate::convert::{convert, end_run, first_line};
 use crate::counts::{CaptureCounts, counts_with};
-use crate::hearing::Hearing;
+use crate::receiving::CaptureState;
 use crate::target::CaptureTo;
 use capture_log::{parts_of_lines_are_values, what_is_closed_stays};
-use gnss_week::RefWeek;
+use nav_eph::RefWeek;
 use nav_io::{Failed, Lines, Sink, Source};
 use one_run::BridgeFault;
-use outlets::Target;
 use std::alloc::Global;
 use std::marker::Model;
+use streams::Target;
 
 // A piece of an input of which more may come: a read behind its end fails.
 #[derive(Drop)]
@@ -95,7 +95,7 @@ pub struct CaptureRun {
     week: Option<RefWeek>,
     lines: Lines,
     // none before the first line
-    hearing: Option<Hearing>,
+    receiving: Option<CaptureState>,
     // why it goes no further
     fault: Option<BridgeFault>,
 }
@@ -110,11 +110,11 @@ impl Model for CaptureRun {
       to = s.to;
       week = s.week;
       lines = s.lines;
-      hearing = s.hearing;
+      receiving = s.receiving;
       fault = s.fault;
     } };
 
-    ghost invariant = { λ s. s.fault ≡ None → IsReady s.to s.week s.lines s.hearing };
+    ghost invariant = { λ s. s.fault ≡ None → IsReady s.to s.week s.lines s.receiving };
 }
 
 // Reads and processes lines until the input ends or a read fails; the first line is that before any
@@ -123,29 +123,31 @@ fn follow<S: Source, T: Sink, U: Sink>(
     alloc: Global,
     week: Option<RefWeek>,
     to: &Target,
-    hearing: &mut Option<Hearing>,
+    receiving: &mut Option<CaptureState>,
     lines: &mut Lines,
     input: &mut S,
     output: &mut T,
     report: &mut U,
 ) -> Result<(), BridgeFault>
-    requires ready { IsReady to.now week lines.old hearing.old }
+    requires ready { IsReady to.now week lines.old receiving.old }
     ensures follows { Follows to.now week (S.left input.old) (S.left input.new)
-        lines.old lines.new hearing.old hearing.new (T.written output.old) (T.written output.new)
+        lines.old lines.new receiving.old receiving.new (T.written output.old)
+        (T.written output.new)
         (U.written report.old) (U.written report.new) result }
     ensures cause { HasItsCause
         (faults_of (S.faults input.old) (T.faults output.old) (U.faults report.old))
         (faults_of (S.faults input.new) (T.faults output.new) (U.faults report.new)) result }
     ensures still { IsErrOf result BridgeFault.ReadFault
-        → (T.faults output.new ≡ T.faults output.old) × (U.faults report.new ≡ U.faults report.old) }
+        → (T.faults output.new ≡ T.faults output.old)
+        × (U.faults report.new ≡ U.faults report.old) }
     ensures never { IsTrue (S.never_fails input.old) → IsErrOf result BridgeFault.ReadFault → ⊥ }
     ensures form { IsErrOf result BridgeFault.NotThisForm
         → (output.new ≡ output.old) × (report.new ≡ report.old) }
 {
     what_is_closed_stays();
     parts_of_lines_are_values();
-    if let Some(hearing) = hearing {
-        return convert(hearing, lines, to, input, output, report);
+    if let Some(receiving) = receiving {
+        return convert(receiving, lines, to, input, output, report);
     }
     let head = match first_line(lines, week, input) {
         Ok(head) => head,
@@ -155,9 +157,9 @@ fn follow<S: Source, T: Sink, U: Sink>(
         Ok(()) => {}
         Err(Failed) => return Err(BridgeFault::WriteFault),
     }
-    let mut first = Hearing::new(alloc, head.week, head.window);
+    let mut first = CaptureState::new(alloc, head.week, head.window);
     let result = convert(&mut first, lines, to, input, output, report);
-    *hearing = Some(first);
+    *receiving = Some(first);
     result
 }
 
@@ -177,7 +179,7 @@ impl CaptureRun {
             to: target,
             week,
             lines,
-            hearing: None,
+            receiving: None,
             fault: None,
         }
     }
@@ -232,7 +234,7 @@ impl CaptureRun {
             self.alloc,
             self.week,
             &self.to,
-            &mut self.hearing,
+            &mut self.receiving,
             &mut self.lines,
             &mut input,
             output,
@@ -283,7 +285,7 @@ impl CaptureRun {
             to,
             week,
             mut lines,
-            mut hearing,
+            mut receiving,
             fault,
         } = self;
         if let Some(fault) = fault {
@@ -295,7 +297,7 @@ impl CaptureRun {
             alloc,
             week,
             &to,
-            &mut hearing,
+            &mut receiving,
             &mut lines,
             &mut End,
             output,
@@ -304,10 +306,10 @@ impl CaptureRun {
             Ok(()) => {}
             Err(fault) => return Err(fault),
         }
-        let Some(hearing) = hearing else {
+        let Some(receiving) = receiving else {
             unreachable!();
         };
-        let counts = counts_with(lines.number(), &hearing.ear.tally, &hearing.said);
+        let counts = counts_with(lines.number(), &receiving.receiver.tally, &receiving.said);
         match end_run(&to, &counts, output, report) {
             Ok(()) => Ok(counts),
             Err(fault) => Err(fault),

@@ -7,10 +7,10 @@ ghost use Rattle.captures.specs.Seeds.{seed_meaning};
 use crate::count::{count_text, write_text};
 use crate::laws::generated_captures_are_accepted;
 use crate::seed_target::{SeedCounts, SeedTo};
-use gnss_week::RefWeek;
+use nav_eph::RefWeek;
 use nav_io::Sink;
-use nav_vectors::{Sats, captures_are_short, make_capture};
 use one_run::BridgeFault;
+use sent_captures::{Sats, captures_are_short, make_capture};
 use std::alloc::Global;
 
 /// Makes the capture of a seed, for `sats` satellites of each system in this week, and writes it,

@@ -1,8 +1,8 @@
 ghost use Rattle.std.specs.Prelude.{◌≡◌};
 ghost use Rattle.captures.specs.Captures.{target_of};
 
-use outlets::Target;
 use rinex_write::HeaderWords;
+use streams::Target;
 
 /// What a capture is converted to.
 #[derive(Clone, Copy)]

@@ -4,9 +4,8 @@
 use capture_lines::{
     CaptureHead, LineItem, LineText, read_first, read_line, write_half_line, write_lnav, write_rtcm,
 };
-use gnss_week::RefWeek;
 use nav_bits::Bits;
-use nav_eph::{Sat, Signal, System};
+use nav_eph::{RefWeek, Sat, Signal, System};
 
 const SUBFRAME: &[u8; 38] =
     b"\x8b\x00\x00\x48\x00\x02\x10\x43\xdc\x00\x05\x80\x00\x00\x29\xff\xff\xff\x58\x00\x00\x02\x9f\

@@ -1,10 +1,9 @@
 //! The check value, an empty frame of RTCM, and values from outside.
 
-use crc24q::{
-    Mover, bits_of_bytes_have_their_crc, crc_bits, crc_bytes, crc_of_joined_bytes,
+use nav_bits::{
+    Bits, Mover, bits_of_bytes_have_their_crc, crc_bits, crc_bytes, crc_of_joined_bytes,
     every_polynomial_has_a_crc, one_crc, shifted, the_register_holds_the_crc, with_byte,
 };
-use nav_bits::Bits;
 
 // Bytes and their CRC.
 struct BytesRow {

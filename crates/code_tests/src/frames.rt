@@ -1,7 +1,7 @@
 //! Streams and their frames: worked rows, an example of the standard, and the time of a long one.
 
 use arrayvec::ArrayVec;
-use rtcm_frame::{Deframer, frame_of, write_frame};
+use framing::{Deframer, frame_of, write_frame};
 use std::alloc::{AllocError, Global};
 use std::test::Fail;
 

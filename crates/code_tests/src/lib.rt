@@ -38,6 +38,6 @@ mod sources;
 #[cfg(test)]
 mod subframes;
 #[cfg(test)]
-mod ubx_said;
+mod ubx_message;
 #[cfg(test)]
 mod words;

@@ -1,9 +1,9 @@
 //! Runs over logs in memory, and whether they end as they must.
 
 use crate::samples::source_of;
+use framing::{SbfJudge, UbxJudge};
 use nav_io::MemSink;
 use one_run::Status;
-use receiver_frames::{SbfJudge, UbxJudge};
 use receiver_log::{Receiver, run_log};
 use std::alloc::{AllocError, Global};
 

@@ -2,8 +2,8 @@
 
 use crate::samples::source_of;
 use crate::small_log::{ALL, LOG, PAGE};
+use framing::UbxJudge;
 use nav_io::{MemSink, Source};
-use receiver_frames::UbxJudge;
 use receiver_log::LogSource;
 use std::alloc::{AllocError, Global};
 use std::test::Fail;

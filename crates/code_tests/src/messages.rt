@@ -1,15 +1,14 @@
 //! Messages of an independent program both ways, and worked faults.
 
 use arrayvec::ArrayVec;
-use gnss_week::RefWeek;
-use nav_eph::{NavItem, SentSecond};
-use nav_samples::{
+use framing::{frame_of, write_frame};
+use nav_eph::{NavItem, RefWeek, SentSecond};
+use raw_values::{
     ClockNumbers, E01_OF_ISSUE_0, E01_OF_ISSUE_378, G01_OF_WEEK_1783, G32_OF_WEEK_2294, GalNumbers,
     GpsNumbers, HealthNumbers, MESSAGE_1019_OF_G05, OrbitANumbers, OrbitBNumbers, SideNumbers,
     Word1Numbers, Word2Numbers, Word3Numbers, Word4Numbers,
 };
 use rtcm_eph::{MessageFault, MessageParts, read_item, read_message, write_1019, write_1046};
-use rtcm_frame::{frame_of, write_frame};
 
 // A payload, and what its message is read as, near week 2295.
 struct MessageRow {

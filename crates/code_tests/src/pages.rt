@@ -1,7 +1,7 @@
 //! Words and page parts of an independent program, both ways, and worked rows.
 
 use crate::samples::bits_of;
-use inav_page::{HalfFault, HalfKind, Halves, join, read_half, split, write_half};
+use inav::{HalfFault, HalfKind, Halves, join, read_half, split, write_half};
 use nav_bits::Bits;
 use nav_eph::{Sat, Signal, System};
 use std::alloc::{AllocError, Global};

@@ -4,7 +4,7 @@ use crate::samples::bits_of;
 use lnav_subframe::{LnavFault, SubframeOut, read_subframe, write_subframe};
 use nav_bits::{Bits, U};
 use nav_eph::{Body, Part, Sat, SentTag, System};
-use nav_samples::{
+use raw_values::{
     CLOCK_OF_ZEROES, ClockNumbers, GpsIonNumbers, OrbitANumbers, OrbitBNumbers, SIDE_OF_ZEROES,
     SideNumbers,
 };

@@ -1,13 +1,13 @@
 //! Words of an independent program and worked words both ways, and worked faults.
 
 use crate::samples::bits_of;
-use inav_word::{
+use inav::{
     WordFault, WordParts, read_word, write_word1, write_word2, write_word3, write_word4,
     write_word5,
 };
 use nav_bits::Bits;
 use nav_eph::{Body, Part, Sat, SentTag, System};
-use nav_samples::{
+use raw_values::{
     GalIonNumbers, HealthNumbers, Word1Numbers, Word2Numbers, Word3Numbers, Word4Numbers,
 };
 

@@ -15,7 +15,7 @@ use Rattle.receiver_log.specs.Capture.{too_many}
 use Rattle.file_conversion.specs.Causes.{ComesFrom, FileErrors, RunComesFrom, StopsFor, StopsOrLacks, StopsWith, file_errors}
 use Rattle.file_conversion.specs.Makes.{AcceptsBy, CanConvert, RejectsBy, read_under, task_under}
 use Rattle.file_conversion.specs.Says.{status_for}
-use Rattle.file_conversion.specs.Steps.{EndsSo, IsBegun, IsLack, Made, StopsAhead, told_by}
+use Rattle.file_conversion.specs.Steps.{EndsSo, IsBegun, IsLack, Made, StopsAhead, decided_by}
 use Rattle.file_conversion.specs.Stops.{stopped_by}
 use Rattle.file_conversion.specs.Tasks.{accepts, breaks_by, cause_in}
 use Rattle.file_conversion.specs.declared.stops.Stop.{Stop}
@@ -347,7 +347,7 @@ never_accepted (Err stop) A never = tt
 pub comes_file : (plan : Plan) (files : Folders) (from : List ℕ) (source : Option (List ℕ))
     (reads reads_new folder folder_open folder_mid folder_new reports reports_new names names_new : ℕ)
     (done result : Result Made Stop) (read : Option FileFault)
-    → Opens files from source → result ≡ told_by done read → reads ≡ 0 → folder_open ≡ folder → folder_open ≤ folder_mid → folder_mid ≤ folder_new
+    → Opens files from source → result ≡ decided_by done read → reads ≡ 0 → folder_open ≡ folder → folder_open ≤ folder_mid → folder_mid ≤ folder_new
     → (Rose 0 reads_new → Rose folder_mid folder_new)
     → IfErr done (ComesFrom plan source (file_errors reads folder_open reports names) (file_errors reads_new folder_mid reports_new names_new))
     → IfErr result (ComesFrom plan (bytes_of files from) (file_errors folder folder reports names) (file_errors folder_new folder_new reports_new names_new))
@@ -375,7 +375,7 @@ comes_file plan files from source reads reads_new folder folder_open folder_mid 
 
       by_end : (done : Result Made Stop)
           → IfErr done (ComesFrom plan source (file_errors reads folder_open reports names) (file_errors reads_new folder_mid reports_new names_new))
-          → IfErr (told_by done read)
+          → IfErr (decided_by done read)
           (ComesFrom plan (bytes_of files from) (file_errors folder folder reports names) (file_errors folder_new folder_new reports_new names_new))
       by_end (Ok made) comes = tt
       by_end (Err (stops.Open fault)) comes = file_rose comes
@@ -388,10 +388,10 @@ comes_file plan files from source reads reads_new folder folder_open folder_mid 
       by_end (Err stops.NoMemory) comes = tt
 
 -- what its input reports changes no exit status
-pub stops_told : (status : ℕ) (done result : Result Made Stop) (read : Option FileFault) → result ≡ told_by done read → StopsWith status done
+pub stops_told : (status : ℕ) (done result : Result Made Stop) (read : Option FileFault) → result ≡ decided_by done read → StopsWith status done
     → StopsWith status result
 stops_told status done result read so has = subst (StopsWith status) (sym so) (by_end done has) where
-  by_end : (done : Result Made Stop) → StopsWith status done → StopsWith status (told_by done read)
+  by_end : (done : Result Made Stop) → StopsWith status done → StopsWith status (decided_by done read)
   by_end (Ok made) never = never
   by_end (Err (stops.Open fault)) is = is
   by_end (Err (stops.Look told)) is = is
@@ -402,9 +402,9 @@ stops_told status done result read so has = subst (StopsWith status) (sym so) (b
   by_end (Err (stops.Publish fault)) is = is
   by_end (Err stops.NoMemory) is = is
 
-pub unnamed_told : (done result : Result Made Stop) (read : Option FileFault) → result ≡ told_by done read → done ≡ Err stops.Unnamed
+pub unnamed_told : (done result : Result Made Stop) (read : Option FileFault) → result ≡ decided_by done read → done ≡ Err stops.Unnamed
     → result ≡ Err stops.Unnamed
-unnamed_told done result read so is = so ∙ subst (λ (d : Result Made Stop). told_by d read ≡ Err stops.Unnamed) (sym is) refl
+unnamed_told done result read so is = so ∙ subst (λ (d : Result Made Stop). decided_by d read ≡ Err stops.Unnamed) (sym is) refl
 
 -- bytes that are not accepted give the reason where the directory did not fail either
 pub rejected_file : (plan : Plan) (source : Option (List ℕ)) (before now : FileErrors) (result : Result Made Stop)

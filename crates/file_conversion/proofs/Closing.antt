@@ -15,7 +15,7 @@ use Rattle.whole_file.specs.declared.step.StepFault.TheVariants.{Begin, Run, Unn
 use Rattle.receiver_log.specs.Capture.{too_many}
 use Rattle.file_conversion.specs.Makes.{AcceptsBy, CanConvert, ConvertsAs, CountsAs, CountsBy, Makes, MakesBy, PutsAs, ReadsUnder, kind_under, read_under, task_under}
 use Rattle.file_conversion.specs.Stops.{stopped_by}
-use Rattle.file_conversion.specs.Steps.{EndsSo, IsBegun, IsLack, IsMissing, IsStopped, IsUnconverted, LacksMore, Made, TellsForm, told_by}
+use Rattle.file_conversion.specs.Steps.{EndsSo, IsBegun, IsLack, IsMissing, IsStopped, IsUnconverted, LacksMore, Made, DecidesFormat, decided_by}
 use Rattle.file_conversion.specs.Tasks.{accepts, counts_by, makes_by}
 use Rattle.file_conversion.specs.declared.stops.Stop.{Stop}
 use Rattle.file_conversion.specs.declared.table.Plan.{Plan}
@@ -112,7 +112,7 @@ by_count count N F (Err fault) (inr many) (inr (inr rose)) named none few = absu
 
 -- what is told is the form under which it was begun
 pub tells : (plan : Plan) (source : Option (List ℕ)) (done : Result Made Stop) (kind : Kind) (told : Option Kind) → told ≡ Some kind
-    → ReadsUnder plan source kind → TellsForm plan source done told
+    → ReadsUnder plan source kind → DecidesFormat plan source done told
 tells plan source done kind told is under = rw is (record { some = all_ok done _ refl; is = under }) where
   all_ok : (done : Result Made Stop) (A : Type 0) → A → OnOk done A
   all_ok (Ok made) A a = a
@@ -154,7 +154,7 @@ none_told (Ok made) A never = absurd never
 none_told (Err stop) A never = tt
 
 pub untold : (plan : Plan) (source : Option (List ℕ)) (done : Result Made Stop) (told : Option Kind) → OnOk done ⊥ → told ≡ None
-    → TellsForm plan source done told
+    → DecidesFormat plan source done told
 untold plan source done told never is = record {
   some = none_told done (IsSome told) never;
   is = subst (λ (k : Option Kind). IfSome k (ReadsUnder plan source)) (sym is) tt;
@@ -211,7 +211,7 @@ under_file plan files from source None opens is = tt
 under_file plan files from source (Some kind) opens is = of_file files from source _ opens is
 
 pub tells_file : (plan : Plan) (files : Folders) (from : List ℕ) (source : Option (List ℕ)) (done result : Result Made Stop) (told : Option Kind)
-    → Opens files from source → EndsSo IsLack done result → TellsForm plan source done told → TellsForm plan (bytes_of files from) result told
+    → Opens files from source → EndsSo IsLack done result → DecidesFormat plan source done told → DecidesFormat plan (bytes_of files from) result told
 tells_file plan files from source done result told opens so form = record {
   some = told_so done result so form.some;
   is = under_file plan files from source told opens form.is;
@@ -261,15 +261,15 @@ pub none_begun : (plan : Plan) (source left : Option (List ℕ)) (task : Task) (
 none_begun plan None left task A P is = tt
 none_begun plan (Some bytes) left task A P (reads, asks) = λ none a. absurd (let no : Some task ≡ None = sym asks ∙ none in cc)
 
-unconverted_told : (kind : Kind) (done : Result Made Stop) (read : Option FileFault) → IsUnconverted kind done → IsUnconverted kind (told_by done read)
+unconverted_told : (kind : Kind) (done : Result Made Stop) (read : Option FileFault) → IsUnconverted kind done → IsUnconverted kind (decided_by done read)
 unconverted_told kind (Ok made) read never = absurd never
-unconverted_told kind (Err stop) read (inl is) = subst (λ (s : Stop). IsUnconverted kind (told_by (Err s) read)) (sym is) (inl refl)
-unconverted_told kind (Err stop) read (inr is) = subst (λ (s : Stop). IsUnconverted kind (told_by (Err s) read)) (sym is) (inr refl)
+unconverted_told kind (Err stop) read (inl is) = subst (λ (s : Stop). IsUnconverted kind (decided_by (Err s) read)) (sym is) (inl refl)
+unconverted_told kind (Err stop) read (inr is) = subst (λ (s : Stop). IsUnconverted kind (decided_by (Err s) read)) (sym is) (inr refl)
 
 -- what is so of the bytes of the source is so of those of the file, and a read that failed fails the close
 pub closed_none : (plan : Plan) (files : Folders) (from : List ℕ) (source : Option (List ℕ)) (reads reads_new : ℕ)
     (faults faults_open faults_mid faults_new : ℕ) (done result : Result Made Stop) (read : Option FileFault)
-    → Opens files from source → result ≡ told_by done read → reads ≡ 0 → faults_open ≡ faults → faults_open ≤ faults_mid
+    → Opens files from source → result ≡ decided_by done read → reads ≡ 0 → faults_open ≡ faults → faults_open ≤ faults_mid
     → (Rose 0 reads_new → Rose faults_mid faults_new)
     → IfSome source (λ bytes. task_under plan bytes ≡ None → (Rose reads reads_new → ⊥) → IsUnconverted (kind_under plan bytes) done)
     → IfSome (bytes_of files from) (λ bytes. task_under plan bytes ≡ None → (Rose faults faults_new → ⊥)

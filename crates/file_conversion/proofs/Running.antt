@@ -6,7 +6,7 @@ use Rattle.std.specs.Prelude.{IfErr, IfOk, IfSome, IsErr, IsErrOf, IsOk, IsSome,
 use Rattle.std.specs.Io.KnownBytes.{Appends}
 use Rattle.nav_io.specs.Causes.{Rose}
 use Rattle.one_run.specs.Causes.{Faults, HasItsCause}
-use Rattle.one_run.specs.Runs.{Broke, Ended, Meaning, World, bytes_for, faults_in}
+use Rattle.one_run.specs.Runs.{IsBroken, Ended, Meaning, World, bytes_for, faults_in}
 use Rattle.one_run.proofs.Surface.{complete_of, counts_of, long_of, no_fault, text_of, with_rest}
 use Rattle.one_run.specs.declared.fault.BridgeFault.{BridgeFault}
 use Rattle.one_run.specs.declared.fault.BridgeFault.TheVariants.{ReadFault, WriteFault, ReportFault, NotThisForm, TooLong, NoMemory}
@@ -119,20 +119,20 @@ rises_for b a TooLong same = (ap (λ (f : Faults). f.input) same, ap (λ (f : Fa
 rises_for b a NoMemory same = (ap (λ (f : Faults). f.input) same, ap (λ (f : Faults). f.report) same)
 
 -- one that broke off did so for the object that failed
-pub broke_for : {C S T U : Type 0} (m : Meaning C) (b a : World S T U) (fault : BridgeFault) → Broke m b a fault
+pub broke_for : {C S T U : Type 0} (m : Meaning C) (b a : World S T U) (fault : BridgeFault) → IsBroken m b a fault
     → RoseFor (cause_in fault) (error_counts b.reads_failed b.writes_failed b.reports_failed) (error_counts a.reads_failed a.writes_failed a.reports_failed)
 broke_for m b a fault broke = rises_for b a fault broke.cause
 
-nothing_said : (left : Option (List ℕ)) → IfSome left (λ bytes. Unit {0})
-nothing_said None = tt
-nothing_said (Some bytes) = tt
+nothing_stated : (left : Option (List ℕ)) → IfSome left (λ bytes. Unit {0})
+nothing_stated None = tt
+nothing_stated (Some bytes) = tt
 
 -- or for its bytes
 pub breaks_of : {C S T U : Type 0} (m : Meaning C) (b a : World S T U) (fault : BridgeFault) → m.reads ≡ true → m.limit ≡ 2 ^ 32
-    → Broke m b a fault → IfSome b.left (λ bytes. breaks_by (IsSome (m.counts bytes)) bytes fault)
-breaks_of m b a ReadFault reads limit broke = nothing_said b.left
-breaks_of m b a WriteFault reads limit broke = nothing_said b.left
-breaks_of m b a ReportFault reads limit broke = nothing_said b.left
+    → IsBroken m b a fault → IfSome b.left (λ bytes. breaks_by (IsSome (m.counts bytes)) bytes fault)
+breaks_of m b a ReadFault reads limit broke = nothing_stated b.left
+breaks_of m b a WriteFault reads limit broke = nothing_stated b.left
+breaks_of m b a ReportFault reads limit broke = nothing_stated b.left
 breaks_of m b a NotThisForm reads limit broke =
     if_some b.left _ (λ bytes there.
     none_counts (m.counts bytes) (at_some (bytes_for m b) (λ l. m.counts l ≡ None) bytes (left_of m b reads ∙ there) broke.says.1))
@@ -140,7 +140,7 @@ breaks_of m b a TooLong reads limit broke =
     subst (λ (left : Option (List ℕ)). IfSome left (λ bytes. 2 ^ 32 ≤ length bytes)) (left_of m b reads)
     (with_rest (bytes_for m b) (bytes_for m a) broke.taken (λ bytes. 2 ^ 32 ≤ length bytes) broke.consumes
     (λ rest there. omega (arith, broke.says, limit, length-append broke.taken rest)))
-breaks_of m b a NoMemory reads limit broke = nothing_said b.left
+breaks_of m b a NoMemory reads limit broke = nothing_stated b.left
 
 -- ---- a copy
 

@@ -1,7 +1,7 @@
 -- The times of what a conversion has counted.
 use Rattle.std.specs.Prelude.{Option}
 use Rattle.bridge_engine.specs.Counts.{times_in as times_of_job}
-use Rattle.outlets.specs.declared.times.Times.{Times}
+use Rattle.streams.specs.declared.times.Times.{Times}
 use Rattle.file_conversion.specs.declared.done.Done.{Done}
 use Rattle.file_conversion.specs.declared.done.Done.TheVariants.{Job, Stream, File, Merged}
 

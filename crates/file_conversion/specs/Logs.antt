@@ -1,18 +1,18 @@
 -- Logs of receivers, which are converted as their captures, and files of RINEX 2, as those of RINEX 3.
 use Rattle.std.specs.Prelude.{ℕ, List}
-use Rattle.receiver_frames.specs.UbxForm.{ubx}
-use Rattle.receiver_frames.specs.SbfForm.{sbf}
-use Rattle.receiver_messages.specs.Sbf.{sbf_said}
-use Rattle.receiver_messages.specs.Ubx.{ubx_said}
+use Rattle.framing.specs.UbxForm.{ubx}
+use Rattle.framing.specs.SbfForm.{sbf}
+use Rattle.receiver_log.specs.Sbf.{sbf_message}
+use Rattle.receiver_log.specs.Ubx.{ubx_message}
 use Rattle.receiver_log.specs.Capture.{capture_of}
-use Rattle.rinex2_lines.specs.Files.{rinex3_of}
+use Rattle.rinex_lines.specs.Files.{rinex3_of}
 use Rattle.whole_file.specs.declared.kinds.Kind.{Kind}
 use Rattle.whole_file.specs.declared.kinds.Kind.TheVariants as kinds
 
 -- what is read of a file of this format: of a log its capture, of a file of RINEX 2 the file of RINEX 3 with the same records,
 -- and of any other the bytes themselves
 abbrev pub read_as : Kind → List ℕ → List ℕ
-read_as kinds.Ubx bytes = capture_of ubx ubx_said bytes
-read_as kinds.Sbf bytes = capture_of sbf sbf_said bytes
+read_as kinds.Ubx bytes = capture_of ubx ubx_message bytes
+read_as kinds.Sbf bytes = capture_of sbf sbf_message bytes
 read_as kinds.Rinex2 bytes = rinex3_of bytes
 read_as kind bytes = bytes

@@ -1,8 +1,8 @@
 -- Names of navigation files by the convention of RINEX 3 and 4: the nine characters of the site, `R` for data of a receiver, the
 -- start as year, day of year, hour and minute, the period, and the type of the data, as `MN` for mixed navigation data.
 use Rattle.std.specs.Prelude.{◌==◌, ◌+◌, ◌-◌, ◌/◌, ◌%◌, ◌&&◌, ◌||◌, not, nat_lt, ℕ, Bool, if◌then◌else◌, List, [], ◌∷◌, ◌++◌, slice_index, codes}
-use Rattle.gnss_week.specs.Functions.{civil_to}
-use Rattle.gnss_week.specs.declared.calendar.Civil.{Civil}
+use Rattle.nav_eph.specs.Functions.{civil_to}
+use Rattle.nav_eph.specs.declared.calendar.Civil.{Civil}
 use Rattle.file_conversion.specs.Fits.{fits}
 
 -- the last two digits of a number

@@ -55,14 +55,14 @@ EndsSo lacks (Err fault) (Ok made) = ⊥
 EndsSo lacks (Err fault) (Err stop) = lacks fault → IsLack stop
 
 -- how it ended, with what its input reports of a failed read
-abbrev pub told_by : Result Made Stop → Option FileFault → Result Made Stop
-told_by (Err (stops.Look told)) read = Err (stops.Look read)
-told_by (Err (stops.Run kind fault count told put)) read = Err (stops.Run kind fault count read put)
-told_by done read = done
+abbrev pub decided_by : Result Made Stop → Option FileFault → Result Made Stop
+decided_by (Err (stops.Look told)) read = Err (stops.Look read)
+decided_by (Err (stops.Run kind fault count told put)) read = Err (stops.Run kind fault count read put)
+decided_by done read = done
 
 -- if it is done its format is known, and this is the format under which a source with these bytes
 -- is read
-pub record TellsForm (plan : Plan) (source : Option (List ℕ)) (done : Result Made Stop) (told : Option Kind) : Type 0 where
+pub record DecidesFormat (plan : Plan) (source : Option (List ℕ)) (done : Result Made Stop) (told : Option Kind) : Type 0 where
   pub some : OnOk done (IsSome told)
   pub is : IfSome told (ReadsUnder plan source)
 

@@ -3,11 +3,11 @@ use Rattle.std.specs.Prelude.{ℕ, Option, None, Some, option_map, unwrap_or}
 use Rattle.rinex_write.specs.declared.words.HeaderWords.{HeaderWords}
 use Rattle.captures.specs.declared.target.CaptureTo.{CaptureTo}
 use Rattle.captures.specs.declared.target.CaptureTo.TheVariants as captures
-use Rattle.outlets.specs.declared.target.Target.{Target as Outlet}
-use Rattle.outlets.specs.declared.target.Target.TheVariants as outlets
+use Rattle.streams.specs.declared.target.Target.{Target as Outlet}
+use Rattle.streams.specs.declared.target.Target.TheVariants as outlets
 use Rattle.bridge_engine.specs.declared.job.Job.TheVariants as jobs
-use Rattle.system_files.specs.declared.version.Version.{Version}
-use Rattle.system_files.specs.declared.version.Version.TheVariants.{Four, Three}
+use Rattle.all_systems.specs.declared.version.Version.{Version}
+use Rattle.all_systems.specs.declared.version.Version.TheVariants.{Four, Three}
 use Rattle.whole_file.specs.declared.kinds.Kind.{Kind}
 use Rattle.whole_file.specs.declared.kinds.Kind.TheVariants as kinds
 use Rattle.file_conversion.specs.declared.table.Plan.{Plan}

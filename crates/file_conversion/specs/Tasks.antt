@@ -6,12 +6,12 @@ use Rattle.whole_file.specs.Steps.{Cause}
 use Rattle.whole_file.specs.Steps.Cause.{Read, Write, Other, NoCall}
 use Rattle.one_run.specs.Ends.{giving}
 use Rattle.one_run.specs.Runs.{Meaning}
-use Rattle.system_streams.specs.Streams.{systems_meaning}
-use Rattle.system_files.specs.Files.{files_meaning}
-use Rattle.system_files.specs.Merging.{outlet_of, system_merge_meaning}
-use Rattle.system_files.specs.declared.counts.SystemCounts.{SystemCounts}
-use Rattle.system_files.specs.declared.merge_counts.SystemMergeCounts.{SystemMergeCounts}
-use Rattle.system_files.specs.declared.version.Version.TheVariants.{Four}
+use Rattle.all_systems.specs.Streams.{systems_meaning}
+use Rattle.all_systems.specs.Files.{files_meaning}
+use Rattle.all_systems.specs.Merging.{outlet_of, system_merge_meaning}
+use Rattle.all_systems.specs.declared.counts.SystemCounts.{SystemCounts}
+use Rattle.all_systems.specs.declared.merge_counts.SystemMergeCounts.{SystemMergeCounts}
+use Rattle.all_systems.specs.declared.version.Version.TheVariants.{Four}
 use Rattle.bridge_engine.specs.Meanings.{done_of, meaning_of}
 use Rattle.file_conversion.specs.declared.done.Done.{Done}
 use Rattle.file_conversion.specs.declared.done.Done.TheVariants as dones

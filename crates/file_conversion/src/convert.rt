@@ -12,7 +12,7 @@ ghost use Rattle.file_conversion.specs.Says.{status_for};
 ghost use Rattle.file_conversion.specs.Causes.{ComesFrom, StopsFor, StopsOrLacks, StopsWith};
 ghost use Rattle.file_conversion.specs.Causes.{file_errors};
 ghost use Rattle.file_conversion.specs.Steps.{IsLack, IsMissing, IsNotOpened, IsUnconverted};
-ghost use Rattle.file_conversion.specs.Steps.{TellsForm};
+ghost use Rattle.file_conversion.specs.Steps.{DecidesFormat};
 
 use crate::begun::{Begun, begin};
 use crate::done::Done;
@@ -50,7 +50,7 @@ pub fn convert_one<F: Folder, U: Sink, N: Refused + Drop, P: Progress, A: Namer<
     ensures named { IfOk result.done (λ made.
         A.gives names.old made.done (string_bytes made.name)) }
     ensures stays { OnErr result.done (Stays (F.files folder.old) (F.files folder.new) part.now) }
-    ensures form { TellsForm plan.now (bytes_of (F.files folder.old) from.now) result.done
+    ensures form { DecidesFormat plan.now (bytes_of (F.files folder.old) from.now) result.done
         result.kind }
 
     // Where no file has the name it is not opened (status 3), and where there is no conversion of
@@ -103,7 +103,7 @@ pub fn convert_one<F: Folder, U: Sink, N: Refused + Drop, P: Progress, A: Namer<
             let left = convert_source(alloc, plan, folder, input, observers, part, names);
             let Sourced { outcome, source } = left;
             let closed = folder.close(source);
-            outcome.told_by(closed.err())
+            outcome.decided_by(closed.err())
         }
         Err(fault) => Outcome::stopped(Stop::Open(fault), observers.report),
     }
@@ -140,7 +140,7 @@ pub fn convert_source<
     ensures stays { OnErr result.outcome.done
         (Stays (F.files folder.old) (F.files folder.new) part.now) }
     ensures later { F.faults folder.old ≤ F.faults folder.new }
-    ensures form { TellsForm plan.now (S.left source) result.outcome.done result.outcome.kind }
+    ensures form { DecidesFormat plan.now (S.left source) result.outcome.done result.outcome.kind }
 
     // Where there is no conversion of the bytes of the source, and no read fails, that is the
     // reason, or there was no memory.

@@ -3,9 +3,8 @@
 ghost use Rattle.std.specs.Prelude.{◌≡◌};
 ghost use Rattle.file_conversion.specs.Counted.{times_in};
 
-use outlets::Times;
-use streams::StreamCounts;
-use system_files::{SystemCounts, SystemMergeCounts};
+use all_systems::{SystemCounts, SystemMergeCounts};
+use streams::{StreamCounts, Times};
 
 /// What a conversion that is done has counted.
 #[derive(Clone, Copy)]

@@ -2,7 +2,7 @@
 
 ghost use Rattle.std.specs.Prelude.{◌≡◌, ◌<◌, ◌≤◌, Err, None, Some};
 ghost use Rattle.receiver_log.specs.Capture.{too_many};
-ghost use Rattle.file_conversion.specs.Steps.{EndsSo, IsLack, LacksMore, told_by};
+ghost use Rattle.file_conversion.specs.Steps.{EndsSo, IsLack, LacksMore, decided_by};
 ghost use Rattle.file_conversion.specs.Stops.{stopped_by};
 
 use crate::begun::Begun;
@@ -66,9 +66,9 @@ impl<U: Sink> Outcome<U> {
     }
 
     /// The same with what its input reports of a failed read.
-    pub(crate) fn told_by(self, read: Option<FileFault>) -> Outcome<U>
+    pub(crate) fn decided_by(self, read: Option<FileFault>) -> Outcome<U>
         ensures ends { EndsSo IsLack self.done result.done }
-        ensures told { result.done ≡ told_by self.done read }
+        ensures told { result.done ≡ decided_by self.done read }
         ensures report { result.report ≡ self.report }
         ensures kind { result.kind ≡ self.kind }
     {
@@ -80,7 +80,7 @@ impl<U: Sink> Outcome<U> {
             counts,
         } = self;
         Outcome {
-            done: told_by(done, read),
+            done: decided_by(done, read),
             report,
             kind,
             count,
@@ -126,9 +126,9 @@ pub(crate) fn ended<S: Source, U: Sink, N: Refused + Drop, P: Progress>(
 }
 
 // How a conversion ended, with what its input says of a read that failed.
-fn told_by(done: Result<Made, Stop>, read: Option<FileFault>) -> Result<Made, Stop>
+fn decided_by(done: Result<Made, Stop>, read: Option<FileFault>) -> Result<Made, Stop>
     ensures ends { EndsSo IsLack done result }
-    ensures told { result ≡ told_by done read }
+    ensures told { result ≡ decided_by done read }
 {
     match done {
         Ok(made) => Ok(made),

@@ -45,7 +45,7 @@ mod stops;
 mod table;
 mod targets;
 mod tasks;
-mod telling;
+mod wording;
 
 pub use crate::convert::{convert_one, convert_source};
 pub use crate::copies::copy;
@@ -63,5 +63,5 @@ pub use crate::table::{
     Plan, SystemFileJob, SystemMergeJob, SystemsJob, Task, is_converted, task_for,
 };
 pub use crate::targets::{Target, ending_of, kind_named, target_named, to_word};
-pub use crate::telling::{Teller, finish};
-pub use system_streams::Kinds;
+pub use crate::wording::{Reporter, finish};
+pub use all_systems::Kinds;

@@ -9,7 +9,7 @@ ghost use Rattle.file_conversion.specs.Long.{site_times, start_date};
 
 use crate::digits::{push_four, push_three, push_two};
 use crate::form::fits;
-use gnss_week::{Civil, Moment, civil};
+use nav_eph::{Civil, Moment, civil};
 use std::alloc::{AllocError, Global};
 
 // The days of a common year before a month.

@@ -5,10 +5,10 @@ ghost use Rattle.std.specs.Option.{option_map};
 ghost use Rattle.receiver_log.specs.Capture.{too_many};
 ghost use Rattle.file_conversion.specs.Logs.{read_as};
 
+use framing::{SbfJudge, UbxJudge};
 use nav_io::{Failed, Source};
-use receiver_frames::{SbfJudge, UbxJudge};
 use receiver_log::{LogCounts, LogParts, LogSource, Receiver, Refused};
-use rinex2_lines::{Rinex2Parts, Rinex2Source};
+use rinex_lines::{Rinex2Parts, Rinex2Source};
 use whole_file::{Counted, Kind, Peeked, Progress};
 
 /// An input as it is read: of a log its capture, of a file of RINEX 2 that of RINEX 3 with the same

@@ -7,11 +7,10 @@ ghost use Rattle.file_conversion.specs.Table.{systems_to, task_for, week_of};
 ghost use Rattle.file_conversion.specs.Tasks.{reads_input};
 
 use crate::targets::Target;
+use all_systems::{Kinds, Version};
 use bridge_engine::{CaptureJob, CaptureTo, Job};
-use gnss_week::RefWeek;
+use nav_eph::RefWeek;
 use rinex_write::HeaderWords;
-use system_files::Version;
-use system_streams::Kinds;
 use whole_file::Kind;
 
 /// What is asked of each file.
@@ -39,7 +38,7 @@ pub struct SystemsJob {
     /// The reference week.
     pub week: RefWeek,
     /// What is made of them.
-    pub to: outlets::Target,
+    pub to: streams::Target,
 }
 
 /// A conversion of the ephemerides of all systems in a navigation file.
@@ -50,7 +49,7 @@ pub struct SystemFileJob {
     /// The version of the file.
     pub version: Version,
     /// What is made of them.
-    pub to: outlets::Target,
+    pub to: streams::Target,
 }
 
 /// A merge of the ephemerides of all systems in navigation files of RINEX 4.
@@ -242,15 +241,15 @@ fn capture_to(target: Target, header: HeaderWords) -> Option<CaptureTo>
 }
 
 // The target of ephemerides of all systems.
-fn systems_to(target: Target, header: HeaderWords) -> Option<outlets::Target>
+fn systems_to(target: Target, header: HeaderWords) -> Option<streams::Target>
     ensures { result ≡ systems_to target header }
 {
     match target {
-        Target::Rinex => Some(outlets::Target::Rinex(header)),
-        Target::Rinex3 => Some(outlets::Target::Rinex3(header)),
-        Target::Rtcm => Some(outlets::Target::Rtcm),
-        Target::List => Some(outlets::Target::ToList),
-        Target::Count => Some(outlets::Target::Count),
+        Target::Rinex => Some(streams::Target::Rinex(header)),
+        Target::Rinex3 => Some(streams::Target::Rinex3(header)),
+        Target::Rtcm => Some(streams::Target::Rtcm),
+        Target::List => Some(streams::Target::ToList),
+        Target::Count => Some(streams::Target::Count),
         _ => None,
     }
 }

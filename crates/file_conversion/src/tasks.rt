@@ -13,11 +13,10 @@ ghost use Rattle.file_conversion.specs.declared.done.Done.TheVariants as dones;
 use crate::copies::copy;
 use crate::done::Done;
 use crate::table::{SystemFileJob, SystemMergeJob, SystemsJob, Task};
+use all_systems::{Version, run_system_file, run_system_merge, run_systems};
 use bridge_engine::{BridgeFault, Job, run_job};
 use nav_io::{Sink, Source};
 use std::alloc::Global;
-use system_files::{Version, run_system_file, run_system_merge};
-use system_streams::run_systems;
 use whole_file::Conversion;
 
 /// A task that is done with a report.

@@ -12,9 +12,9 @@ use Rattle.rinex_write.specs.Texts.{header_lines, item_lines, rinex_text, text_o
 use Rattle.rinex_write.specs.Texts3.{header3_lines, item3_lines, rinex3_text}
 use Rattle.rinex_write.specs.declared.words.HeaderWords.{HeaderWords}
 use Rattle.rinex_write.proofs.Surface.{text_more}
-use Rattle.outlets.specs.ItemTexts.{rtcm_item}
-use Rattle.outlets.specs.Targets.{verdict_item}
-use Rattle.outlets.specs.declared.target.Target.TheVariants.{Rinex, Rinex3, Rtcm}
+use Rattle.streams.specs.ItemTexts.{rtcm_item}
+use Rattle.streams.specs.Targets.{verdict_item}
+use Rattle.streams.specs.declared.target.Target.TheVariants.{Rinex, Rinex3, Rtcm}
 use Rattle.captures.specs.Captures.{Capture, capture_of, items, output_of, periods, whole_text}
 
 -- the text of a period is that of its item, where it has one

@@ -2,15 +2,15 @@
 use Rattle.std.proofs.Common.{◌≡◌, ℕ, ◌+◌, List, [], ◌∷◌, ◌++◌, map, length, refl, sym, ap, subst, ◌∙◌, append_assoc}
 use Rattle.std.proofs.Common.{append-nil, arith}
 use Rattle.std.specs.Prelude.{sum}
-use Rattle.inav_page.specs.Heard.{StampedHalf}
+use Rattle.inav.specs.Received.{StampedHalf}
 use Rattle.capture_lines.specs.declared.item.LineItem.{LineItem}
 use Rattle.capture_log.specs.Events.{Known, events_of, known_with, nothing_known}
-use Rattle.capture_log.specs.Heard.{IsHalfHeard}
+use Rattle.capture_log.specs.Received.{IsHalfReceived}
 use Rattle.capture_log.specs.Log.{Noted, log_from, noted}
 use Rattle.capture_log.specs.declared.event.Event.{Event}
 use Rattle.capture_log.proofs.Surface.{in_from_contains, contains_from_in, in_middle}
 use Rattle.capture_log.proofs.Surface.{HalfLaws, Knows, knows_more}
-use Rattle.job_laws.specs.Counted.{ArePairsHeard, Pair, own_weight, pair_events, pairs_weight, weight_in, weight_of}
+use Rattle.job_laws.specs.Counted.{ArePairsReceived, Pair, own_weight, pair_events, pairs_weight, weight_in, weight_of}
 use Rattle.job_laws.proofs.Sums.{length_sum, same_sums, sum_mapped}
 use Rattle.job_laws.proofs.PairLists.{no_pairs}
 use Rattle.job_laws.proofs.Steps.{step}
@@ -39,17 +39,17 @@ first_weight kind w known number item items =
 -- the pairs of all items, and what the items after the first ones yield with them
 pub record IsCounted (w : ℕ) (before items : List LineItem) (known : Known) (pairs : List Pair) : Type 0 where
   pub all : List Pair
-  pub are : ArePairsHeard w (before ++ items) all
+  pub are : ArePairsReceived w (before ++ items) all
   pub weighs : (kind : Event → ℕ) (number : ℕ) → weight_in kind (log_from w known number items) + pairs_weight kind pairs
       ≡ own_weight kind w before items + pairs_weight kind all
 
 module _ (laws : HalfLaws) (w : ℕ) where
   counted : (items before : List LineItem) (known : Known) (pairs : List Pair) → Knows w before known
-      → ArePairsHeard w before pairs
+      → ArePairsReceived w before pairs
       → IsCounted w before items known pairs
   counted [] before known pairs knows are = record {
     all = pairs;
-    are = subst (λ l. ArePairsHeard w l pairs) (sym (append-nil before)) are;
+    are = subst (λ l. ArePairsReceived w l pairs) (sym (append-nil before)) are;
     weighs = λ kind number. refl;
   }
   counted (item ∷ items) before known pairs knows are =
@@ -58,7 +58,7 @@ module _ (laws : HalfLaws) (w : ℕ) where
       (knows_more laws w before known knows item) s.are in
       record {
         all = rest.all;
-        are = subst (λ l. ArePairsHeard w l rest.all) (append_assoc before (item ∷ []) items) rest.are;
+        are = subst (λ l. ArePairsReceived w l rest.all) (append_assoc before (item ∷ []) items) rest.are;
         weighs = λ kind number.
             let a = first_weight kind w known number item items in
             let b = s.weighs kind in
@@ -67,7 +67,7 @@ module _ (laws : HalfLaws) (w : ℕ) where
             omega arith;
       }
 
-  nothing_heard : (half : StampedHalf) → IsHalfHeard w [] half → ⊥
+  nothing_heard : (half : StampedHalf) → IsHalfReceived w [] half → ⊥
   nothing_heard half h = in_middle h.accepted.before h.accepted.after [] _ h.accepted.place
 
   pub knows_nothing : Knows w [] nothing_known
@@ -82,8 +82,8 @@ module _ (laws : HalfLaws) (w : ℕ) where
 
 -- ---- the pairs in whatever order
 
-module _ (w : ℕ) (items : List LineItem) (some other : List Pair) (are : ArePairsHeard w items some)
-    (others : ArePairsHeard w items other) where
+module _ (w : ℕ) (items : List LineItem) (some other : List Pair) (are : ArePairsReceived w items some)
+    (others : ArePairsReceived w items other) where
   pub one_sum : (f : Pair → ℕ) → sum (map f some) ≡ sum (map f other)
   one_sum f = same_sums f some other are.once others.once
       (λ p h. in_from_contains other p ((others.each p).1 ((are.each p).0 (contains_from_in some p h))))
@@ -93,7 +93,7 @@ module _ (w : ℕ) (items : List LineItem) (some other : List Pair) (are : ArePa
   one_length = length_sum some ∙ one_sum (λ p. 1) ∙ sym (length_sum other)
 
 pub all_counted : (laws : HalfLaws) (kind : Event → ℕ) (w first : ℕ) (items : List LineItem) (pairs : List Pair)
-    → ArePairsHeard w items pairs
+    → ArePairsReceived w items pairs
     → weight_in kind (log_from w nothing_known first items) ≡ own_weight kind w [] items + pairs_weight kind pairs
 all_counted laws kind w first items pairs are =
     let c = some_pairs laws w items in

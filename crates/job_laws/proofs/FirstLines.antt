@@ -15,7 +15,7 @@ use Rattle.rinex_read.specs.Files.{is_navigation}
 use Rattle.rinex_read.specs.Forms.{is_four, is_version, rinex4}
 use Rattle.rinex_read.specs.Form3.{is_three, rinex3}
 use Rattle.rinex_read.specs.Lines.{columns, lines_of, stands_at}
-use Rattle.whole_file.specs.Kinds.{binary_kind, first_char, is_head, kind_of, or_else, other_kind, prefix_kind, rinex_kind, text_kind, told_by, version_of}
+use Rattle.whole_file.specs.Kinds.{binary_kind, first_char, is_head, kind_of, or_else, other_kind, prefix_kind, rinex_kind, text_kind, decided_by, version_of}
 use Rattle.whole_file.specs.Units.{first_unit}
 use Rattle.whole_file.specs.declared.kinds.Kind.{Kind}
 use Rattle.whole_file.specs.declared.kinds.Kind.TheVariants.{Capture1, Capture2, Empty, Hatanaka, Observations, OtherRinex, Rinex2, Rinex3, Rinex4, Unknown}
@@ -92,7 +92,7 @@ filled c more =
 by_head : (bytes : List ℕ) (kind : Kind) → prefix_kind (take 80 bytes) ≡ kind → is_head kind ≡ true → kind_of bytes ≡ kind
 unfolding kind_of
 by_head bytes kind told head =
-    ap (λ (k : Kind). told_by k (first_unit (take 65536 bytes))) told
+    ap (λ (k : Kind). decided_by k (first_unit (take 65536 bytes))) told
     ∙ ap (λ (b : Bool). if b then kind else unwrap_or (first_unit (take 65536 bytes)) kind) head
 
 plain_told : (rest : List ℕ) → kind_of (codes "NAVCAP 1" ++ rest) ≡ Capture1

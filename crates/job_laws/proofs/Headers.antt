@@ -6,7 +6,7 @@ use Rattle.std.specs.List.{list_all}
 use Rattle.std.specs.Char.{is_ascii_digit}
 use Rattle.std.proofs.lemmas.Bool.{and_parts, leb-true}
 use Rattle.std.proofs.lemmas.List.{drop-drop, drop_more, take-append-drop}
-use Rattle.gnss_week.specs.Weeks.{IsReference}
+use Rattle.nav_eph.specs.Weeks.{IsReference}
 use Rattle.scaled_decimal.specs.NumberText.{AreShown}
 use Rattle.rinex_write.specs.Texts.{IsHeader}
 use Rattle.rinex_write.specs.declared.words.HeaderWords.{HeaderWords}

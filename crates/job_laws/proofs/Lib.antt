@@ -14,13 +14,13 @@ mod Headers
 mod Jobs
 mod Refusals
 mod RoundTrips
-mod SaidRanges
+mod StatedRanges
 mod LogTexts
 mod LogBegins
 mod LogLines
 mod TakenLogs
 mod FirstLines
-mod FormsTold
+mod FormatsDecided
 mod RinexTexts
 mod RinexFields
 mod RinexRows

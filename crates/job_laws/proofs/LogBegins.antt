@@ -2,17 +2,17 @@
 use Rattle.std.proofs.Common.{◌≡◌, ℕ, ◌+◌, ◌-◌, ◌*◌, ◌/◌, ◌≤◌, nat_lt, nat_le, false, List, [], ◌∷◌, ◌++◌, refl, sym, ap, ◌∙◌, arith, append-nil, append_assoc}
 use Rattle.std.proofs.lemmas.Bool.{le-ltb, lt-leb}
 use Rattle.std.specs.Prelude.{Option, Some, None}
-use Rattle.gnss_week.specs.Weeks.{IsReference}
-use Rattle.page_send.specs.Slots.{text_of_items}
+use Rattle.nav_eph.specs.Weeks.{IsReference}
+use Rattle.sent_captures.specs.Slots.{text_of_items}
 use Rattle.capture_lines.specs.Texts.{half_text}
-use Rattle.receiver_messages.specs.declared.said.Content.{Content}
-use Rattle.receiver_messages.specs.declared.said.Content.TheVariants.{Refused, Subframe, Page}
+use Rattle.receiver_log.specs.declared.content.LogContent.{LogContent}
+use Rattle.receiver_log.specs.declared.content.LogContent.TheVariants.{Refused, Subframe, Page}
 use Rattle.receiver_log.specs.declared.reception.Reception.{Reception}
 use Rattle.receiver_log.specs.declared.state.LogState.{LogState}
 use Rattle.receiver_log.specs.Capture.{given, lines_from}
 use Rattle.receiver_log.specs.Log.{LinesGiven, given_at, head_line, reason_in, week_of}
 use Rattle.job_laws.specs.LogItems.{first_second, items_at, items_of_log, week_before, week_of_log}
-use Rattle.job_laws.proofs.SaidRanges.{IsTime}
+use Rattle.job_laws.proofs.StatedRanges.{IsTime}
 use Rattle.job_laws.proofs.LogTexts.{lines_behind, log_texts, texts_append}
 
 -- the week of a first line
@@ -35,7 +35,7 @@ in_range : (first : ℕ) → 604800 * 1025 ≤ first + 1 → first ≤ 604800 * 
 in_range first low high = (omega (arith, low), omega (arith, high))
 
 -- what is given at a time, where no line was written
-abbrev First : Option ℕ → Option ℕ → Content → LogState → LinesGiven → Type 0
+abbrev First : Option ℕ → Option ℕ → LogContent → LogState → LinesGiven → Type 0
 First None time content s g =
     (g.text ≡ []) × (g.state.week ≡ None)
     × ((week : ℕ) → items_at week time content ≡ [])
@@ -43,7 +43,7 @@ First (Some first) time content s g =
     (g.text ≡ head_line (week_at first) ++ text_of_items (items_at (week_at first) time content))
     × (g.state.week ≡ Some (week_at first)) × IsReference (week_at first)
 
-first_at : (s : LogState) (time : Option ℕ) (content : Content) → s.week ≡ None → IsTime time
+first_at : (s : LogState) (time : Option ℕ) (content : LogContent) → s.week ≡ None → IsTime time
     → First (first_second time content) time content s (given_at s time content)
 first_at s None (Refused reason) e is = (refl, e, λ _. refl)
 first_at s None (Subframe sat words) e is = (refl, e, λ _. refl)

@@ -14,7 +14,7 @@ use Rattle.nav_bits.proofs.Surface.{bytes_of-lt, bytes_of-length}
 use Rattle.nav_io.specs.Lines.{IsOneLine, lines_by}
 use Rattle.nav_eph.specs.Satellite.{IsSat, Satellite}
 use Rattle.nav_eph.specs.declared.sat.System.TheVariants.{Gps, Gal}
-use Rattle.gnss_week.specs.Weeks.{IsReference}
+use Rattle.nav_eph.specs.Weeks.{IsReference}
 use Rattle.nav_eph.specs.declared.signal.Signal.{Signal}
 use Rattle.capture_lines.specs.Heads.{IsHead, head_of}
 use Rattle.capture_lines.specs.Spellings.{IsEnded, IsHalfLine, IsLnavLine, IsPrinted}
@@ -25,15 +25,15 @@ use Rattle.capture_lines.specs.declared.item.LineItem.TheVariants.{Half, Lnav}
 use Rattle.capture_lines.proofs.Surface.{decimal_is_text, last_digit, one_digit}
 use Rattle.capture_log.specs.Log.{line_items_of}
 use Rattle.nav_laws.proofs.Surface.{AreSpelt, LineLaws, lines_are, no_cr, no_end, spelt_append}
-use Rattle.receiver_frames.specs.Headings.{Heading, format_of}
-use Rattle.receiver_frames.specs.Messages.{messages}
+use Rattle.framing.specs.Headings.{Heading, format_of}
+use Rattle.framing.specs.Messages.{messages}
 use Rattle.nav_bits.specs.Packed.{pack}
-use Rattle.receiver_messages.specs.Words.{read_words, subframe_bytes, word_fields}
-use Rattle.receiver_messages.specs.declared.said.Content.{Content}
-use Rattle.receiver_messages.specs.declared.said.Content.TheVariants.{Refused, Subframe, Page}
-use Rattle.receiver_messages.specs.declared.said.Reason.{Reason}
-use Rattle.receiver_messages.specs.declared.said.Said.{Said}
-use Rattle.receiver_messages.specs.declared.said.Said.TheVariants.{Other, Time, Heard, Dated}
+use Rattle.receiver_log.specs.Words.{read_words, subframe_bytes, word_fields}
+use Rattle.receiver_log.specs.declared.content.LogContent.{LogContent}
+use Rattle.receiver_log.specs.declared.content.LogContent.TheVariants.{Refused, Subframe, Page}
+use Rattle.receiver_log.specs.declared.content.LogReason.{LogReason}
+use Rattle.receiver_log.specs.declared.content.LogMessage.{LogMessage}
+use Rattle.receiver_log.specs.declared.content.LogMessage.TheVariants.{Other, Time, Received, Dated}
 use Rattle.receiver_log.specs.Capture as logs
 use Rattle.receiver_log.specs.Log.{begun, head_line, reason_in}
 use Rattle.receiver_log.specs.declared.reception.Reception.{Reception}
@@ -41,10 +41,10 @@ use Rattle.receiver_log.specs.Receptions.{between, is_open, nearest, parts_round
 use Rattle.receiver_log.specs.Receptions.{receptions_of}
 use Rattle.job_laws.specs.LogItems.{items_at, items_of_log}
 use Rattle.job_laws.specs.LogItems.{unless, week_of_log}
-use Rattle.job_laws.specs.LogHeard.{IsHeardBy, IsHeardThrough, parts_heard}
+use Rattle.job_laws.specs.LogReceived.{IsReceivedBy, IsReceivedThrough, parts_received}
 use Rattle.job_laws.proofs.LogBegins.{AreTimes, IsText, lines_are_text}
 use Rattle.job_laws.proofs.LogTexts.{log_texts}
-use Rattle.job_laws.proofs.SaidRanges.{IsContent, IsSaid, IsTime}
+use Rattle.job_laws.proofs.StatedRanges.{IsContent, IsStated, IsTime}
 
 -- what the laws of lines say
 pub record ChainLaws : Type 0 where
@@ -84,13 +84,13 @@ unfolding subframe_bytes
 words_bytes words =
     let number = pack 0 (word_fields words) in (bytes_of-lt 38 number, bytes_of-length 38 number)
 
-spelt_at : ChainLaws → (week : ℕ) (time : Option ℕ) (content : Content) → IsContent content
+spelt_at : ChainLaws → (week : ℕ) (time : Option ℕ) (content : LogContent) → IsContent content
     → AreSpelt (items_at week time content)
 spelt_at laws week None content is = tt
 spelt_at laws week (Some time) (Refused reason) is = tt
 spelt_at laws week (Some time) (Subframe sat words) is = by (reason_in week time time) refl
   where
-    by : (reason : Option Reason) → reason_in week time time ≡ reason → AreSpelt (unless reason
+    by : (reason : Option LogReason) → reason_in week time time ≡ reason → AreSpelt (unless reason
         (Lnav (time - 604800 * week) sat (subframe_bytes (read_words words)) ∷ []))
     by (Some reason) e = tt
     by None e =
@@ -103,7 +103,7 @@ spelt_at laws week (Some time) (Subframe sat words) is = by (reason_in week time
 spelt_at laws week (Some time) (Page sat signal even odd) is =
     by (reason_in week (time - 1) time) refl
   where
-    by : (reason : Option Reason) → reason_in
+    by : (reason : Option LogReason) → reason_in
         week (time - 1) time ≡ reason → AreSpelt (unless reason
         (Half (time - 1 - 604800 * week) sat signal even
         ∷ Half (time - 604800 * week) sat signal odd ∷ []))
@@ -125,15 +125,15 @@ AreContents [] = Unit {0}
 AreContents (x ∷ xs) = IsContent x.content × AreContents xs
 
 -- all messages are
-abbrev AreSaid : List Said → Type 0
-AreSaid [] = Unit {0}
-AreSaid (x ∷ xs) = IsSaid x × AreSaid xs
+abbrev AreStated : List LogMessage → Type 0
+AreStated [] = Unit {0}
+AreStated (x ∷ xs) = IsStated x × AreStated xs
 
-nearest_is : (says : List Said) → AreSaid says → IsTime (nearest says)
+nearest_is : (says : List LogMessage) → AreStated says → IsTime (nearest says)
 nearest_is [] are = tt
 nearest_is (Other ∷ says) are = nearest_is says are.1
 nearest_is (Time time ∷ says) are = are.0
-nearest_is (Heard content ∷ says) are = nearest_is says are.1
+nearest_is (Received content ∷ says) are = nearest_is says are.1
 nearest_is (Dated time content ∷ says) are = nearest_is says are.1
 
 between_is : (first second : Option ℕ) (parts : ℕ) → IsTime first → IsTime (between first second parts)
@@ -146,7 +146,7 @@ between_is (Some first) (Some second) parts is =
     by true = is
     by false = tt
 
-received_are : (before says : List Said) → AreSaid before → AreSaid says
+received_are : (before says : List LogMessage) → AreStated before → AreStated says
     → AreContents (received_from false before says) × AreTimes (received_from false before says)
 received_are before [] b a = (tt, tt)
 received_are before (Other ∷ says) b a = received_are (Other ∷ before) says (a.0, b) a.1
@@ -154,8 +154,8 @@ received_are before (Time time ∷ says) b a = received_are (Time time ∷ befor
 received_are before (Dated time content ∷ says) b a =
     let more = received_are (Dated time content ∷ before) says (a.0, b) a.1 in
     ((a.0.1, more.0), (a.0.0, more.1))
-received_are before (Heard content ∷ says) b a =
-    let more = received_are (Heard content ∷ before) says (a.0, b) a.1 in
+received_are before (Received content ∷ says) b a =
+    let more = received_are (Received content ∷ before) says (a.0, b) a.1 in
     let parts = parts_round before says in
     rw (and_false (is_open (nearest before) says parts))
     ((a.0, more.0), (between_is (nearest before) (nearest says) parts (nearest_is before b), more.1))
@@ -164,8 +164,8 @@ received_are before (Heard content ∷ says) b a =
     and_false true = refl
     and_false false = refl
 
-messages_said : (said : List ℕ → Said) → ((m : List ℕ) → IsSaid (said m)) → (ms : List (List ℕ))
-    → AreSaid (map said ms)
+messages_said : (said : List ℕ → LogMessage) → ((m : List ℕ) → IsStated (said m)) → (ms : List (List ℕ))
+    → AreStated (map said ms)
 messages_said said each [] = tt
 messages_said said each (m ∷ ms) = (each m, messages_said said each ms)
 
@@ -263,7 +263,7 @@ head_ends week rest =
 -- ---- the capture
 
 heard_by : ChainLaws → (week : Option ℕ) (log : List Reception) (text : List ℕ) → AreContents log
-    → IsText week log text → IsHeardBy week log text
+    → IsText week log text → IsReceivedBy week log text
 unfolding log_texts
 heard_by laws None log text contents is = is
 heard_by laws (Some week) log text contents is =
@@ -281,12 +281,12 @@ heard_by laws (Some week) log text contents is =
           ∙ laws.lines.given false (head_words week) (log_texts week log) whole;
       head_is = head_is laws week is.1;
       items_are = items_are;
-      parts_are = ap (λ (i : List LineItem). parts_heard 7200 i) items_are;
+      parts_are = ap (λ (i : List LineItem). parts_received 7200 i) items_are;
     }
 
-pub heard_through : ChainLaws → (heading : Heading) (said : List ℕ → Said)
-    → ((m : List ℕ) → IsSaid (said m)) → (bytes : List ℕ)
-    → IsHeardThrough (receptions_of said (messages (format_of heading) bytes))
+pub heard_through : ChainLaws → (heading : Heading) (said : List ℕ → LogMessage)
+    → ((m : List ℕ) → IsStated (said m)) → (bytes : List ℕ)
+    → IsReceivedThrough (receptions_of said (messages (format_of heading) bytes))
     (logs.capture_of heading said bytes)
 heard_through laws heading said each bytes =
     let ms = messages (format_of heading) bytes in

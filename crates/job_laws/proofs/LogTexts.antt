@@ -5,10 +5,10 @@ use Rattle.nav_eph.specs.Satellite.{Satellite}
 use Rattle.nav_eph.specs.declared.signal.Signal.{Signal}
 use Rattle.capture_lines.specs.Texts.{half_text}
 use Rattle.capture_lines.specs.declared.item.LineItem.{LineItem}
-use Rattle.page_send.specs.Slots.{text_of_item, text_of_items}
-use Rattle.receiver_messages.specs.declared.said.Content.{Content}
-use Rattle.receiver_messages.specs.declared.said.Content.TheVariants.{Refused, Subframe, Page}
-use Rattle.receiver_messages.specs.declared.said.Reason.{Reason}
+use Rattle.sent_captures.specs.Slots.{text_of_item, text_of_items}
+use Rattle.receiver_log.specs.declared.content.LogContent.{LogContent}
+use Rattle.receiver_log.specs.declared.content.LogContent.TheVariants.{Refused, Subframe, Page}
+use Rattle.receiver_log.specs.declared.content.LogReason.{LogReason}
 use Rattle.receiver_log.specs.declared.reception.Reception.{Reception}
 use Rattle.receiver_log.specs.declared.state.LogState.{LogState}
 use Rattle.receiver_log.specs.Capture.{given, lines_from}
@@ -30,13 +30,13 @@ log_texts week log = text_of_items (items_of_log week log)
 -- ---- a message, where the first line was written
 
 -- what is given at a time
-record Goes (s : LogState) (week : ℕ) (time : Option ℕ) (content : Content)
+record Goes (s : LogState) (week : ℕ) (time : Option ℕ) (content : LogContent)
     (g : LinesGiven) : Type 0 where
   text_is : g.text ≡ text_of_items (items_at week time content)
   week_is : g.state.week ≡ Some week
 
 subframe_goes : (s : LogState) (week time : ℕ) (sat : Satellite) (words : List ℕ)
-    (reason : Option Reason)
+    (reason : Option LogReason)
     → s.week ≡ Some week → reason_in week time time ≡ reason
     → Goes s week (Some time) (Subframe sat words) (subframe_in s time sat words reason)
 subframe_goes s week time sat words (Some r) e is =
@@ -45,7 +45,7 @@ subframe_goes s week time sat words None e is =
     record { text_is = rw (is, e) (sym (append-nil _)); week_is = rw e refl }
 
 page_goes : (s : LogState) (week time : ℕ) (sat : Satellite) (signal : Signal) (even odd : List ℕ)
-    (reason : Option Reason)
+    (reason : Option LogReason)
     → s.week ≡ Some week → reason_in week (time - 1) time ≡ reason
     → Goes s week (Some time) (Page sat signal even odd) (page_in s time sat signal even odd reason)
 page_goes s week time sat signal even odd (Some r) e is =
@@ -57,7 +57,7 @@ page_goes s week time sat signal even odd None e is = record {
   week_is = rw e refl;
 }
 
-goes_at : (s : LogState) (week : ℕ) (time : Option ℕ) (content : Content) → s.week ≡ Some week
+goes_at : (s : LogState) (week : ℕ) (time : Option ℕ) (content : LogContent) → s.week ≡ Some week
     → Goes s week time content (given_at s time content)
 goes_at s week None (Refused reason) e = record { text_is = refl; week_is = e }
 goes_at s week None (Subframe sat words) e = record { text_is = refl; week_is = e }

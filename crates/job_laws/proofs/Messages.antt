@@ -5,7 +5,7 @@ use Rattle.std.specs.List.{flat_map}
 use Rattle.std.proofs.lemmas.List.Elements.{All-contains, All-head, All-tail}
 use Rattle.nav_bits.specs.Fields.{StandFrom}
 use Rattle.nav_bits.specs.Packed.{AreBytes}
-use Rattle.gnss_week.specs.Weeks.{IsNearGalileo, IsNearGps, IsReference}
+use Rattle.nav_eph.specs.Weeks.{IsNearGalileo, IsNearGps, IsReference}
 use Rattle.nav_eph.specs.Items.{unsent}
 use Rattle.nav_eph.specs.Ranges.{HasGalRanges, HasGpsRanges, IsItem}
 use Rattle.nav_eph.specs.declared.items.GpsEph.{GpsEph}
@@ -20,10 +20,10 @@ use Rattle.rtcm_eph.specs.Messages.{fields_1019, fields_1046}
 use Rattle.rtcm_eph.specs.Reading.{GivesItem, content_of, item_in}
 use Rattle.rtcm_eph.specs.RoundTrip.{Begins1019, Begins1046, IsGal, IsGps}
 use Rattle.rtcm_eph.specs.Writing.{bytes_1019, bytes_1046, message_1019, message_1046}
-use Rattle.rtcm_frame.specs.Frames.{frames}
-use Rattle.rtcm_frame.specs.State.{payload_of}
-use Rattle.rtcm_frame.specs.Writing.{frame_bytes}
-use Rattle.outlets.specs.ItemTexts.{rtcm_item}
+use Rattle.framing.specs.Frames.{frames}
+use Rattle.framing.specs.State.{payload_of}
+use Rattle.framing.specs.Writing.{frame_bytes}
+use Rattle.streams.specs.ItemTexts.{rtcm_item}
 use Rattle.job_laws.specs.Converted.{AreSent, IsNear}
 
 -- what the crates below say of messages and frames

@@ -1,11 +1,11 @@
 -- The pairs of a page part with its partners: each once, and their words yield what the words of the page part yield.
 use Rattle.std.proofs.Common.{◌≡◌, ℕ, ◌+◌, List, [], ◌∷◌, map, inl, inr, refl, sym, ap, ◌∙◌, ⊎_elim, arith}
 use Rattle.nav_eph.specs.Satellite.{Satellite}
-use Rattle.inav_page.specs.declared.half.HalfKind.{HalfKind}
-use Rattle.inav_page.specs.declared.half.HalfKind.TheVariants.{Even, Odd}
-use Rattle.inav_page.specs.Pages.{kind_of}
-use Rattle.inav_page.specs.Heard.{StampedHalf, MakeWord, ArePartners, AreWordsWith, IsAbove, IsAscending, stamp_by, word_with}
-use Rattle.inav_word.specs.Reading.{reading_of}
+use Rattle.inav.specs.declared.half.HalfKind.{HalfKind}
+use Rattle.inav.specs.declared.half.HalfKind.TheVariants.{Even, Odd}
+use Rattle.inav.specs.Pages.{kind_of}
+use Rattle.inav.specs.Received.{StampedHalf, MakeWord, ArePartners, AreWordsWith, IsAbove, IsAscending, stamp_by, word_with}
+use Rattle.inav.specs.Reading.{reading_of}
 use Rattle.capture_log.specs.Events.{of_word, of_words}
 use Rattle.capture_log.specs.declared.event.Event.{Event}
 use Rattle.capture_log.proofs.Surface.{In, in_map}

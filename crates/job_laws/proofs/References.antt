@@ -3,7 +3,7 @@ use Rattle.std.proofs.Common.{◌≡◌, ℕ, ◌↔◌, List, [], ◌∷◌, re
 use Rattle.std.specs.Prelude.{Option, None, Some, IfSome, ◌==◌, false}
 use Rattle.std.proofs.lemmas.Bool.{cond_both}
 use Rattle.nav_io.specs.Lines.{Line, lines_by}
-use Rattle.gnss_week.specs.Weeks.{IsReference}
+use Rattle.nav_eph.specs.Weeks.{IsReference}
 use Rattle.capture_lines.specs.Heads.{IsHead, Names, head_of}
 use Rattle.capture_lines.specs.declared.head.CaptureHead.{CaptureHead}
 use Rattle.captures.specs.Captures.{Capture, accepted_head, accepted_line, accepted_with, capture_in, capture_of, capture_with}

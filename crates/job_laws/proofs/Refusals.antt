@@ -7,11 +7,11 @@ use Rattle.capture_lines.specs.declared.item.LineItem.{LineItem}
 use Rattle.capture_log.specs.Events.{Known, events_of, known_with, nothing_known}
 use Rattle.capture_log.specs.Log.{Noted, known_from, log_from, noted}
 use Rattle.capture_log.specs.declared.event.Event.{Event}
-use Rattle.capture_log.specs.declared.event.Event.TheVariants.{Heard, Malformed, Late, Refused, Unused}
-use Rattle.capture_log.specs.declared.event.Refusal.{Refusal}
-use Rattle.capture_log.specs.declared.event.Refusal.TheVariants as refusals
+use Rattle.capture_log.specs.declared.event.Event.TheVariants.{Received, Malformed, Late, Refused, Unused}
+use Rattle.capture_log.specs.declared.event.EventFault.{EventFault}
+use Rattle.capture_log.specs.declared.event.EventFault.TheVariants as refusals
 use Rattle.capture_log.proofs.Surface.{HalfLaws, In, Knows, contains_from_in, in_append, in_from_contains, in_left, in_right, knows_more}
-use Rattle.job_laws.specs.Counted.{ArePairsHeard, IsOnce, Pair, own_events, pair_events, pairs_weight, weight_of}
+use Rattle.job_laws.specs.Counted.{ArePairsReceived, IsOnce, Pair, own_events, pair_events, pairs_weight, weight_of}
 use Rattle.job_laws.specs.Places.{InLineOrder, IsCompletedBy, IsRefusedLine}
 use Rattle.job_laws.proofs.Counts.{knows_nothing, some_pairs}
 use Rattle.job_laws.proofs.Steps.{IsStep, step}
@@ -35,7 +35,7 @@ in_order w (item ∷ items) known first =
 
 -- ---- a number for each reason
 
-abbrev number_of : Refusal → ℕ
+abbrev number_of : EventFault → ℕ
 number_of refusals.Frame = 0
 number_of refusals.Preamble = 1
 number_of refusals.Tow = 2
@@ -45,7 +45,7 @@ number_of refusals.Sisa = 5
 number_of refusals.Short = 6
 number_of (refusals.Parity word) = suc (suc (suc (suc (suc (suc (suc word))))))
 
-abbrev reason_of : ℕ → Refusal
+abbrev reason_of : ℕ → EventFault
 reason_of zero = refusals.Frame
 reason_of (suc zero) = refusals.Preamble
 reason_of (suc (suc zero)) = refusals.Tow
@@ -55,7 +55,7 @@ reason_of (suc (suc (suc (suc (suc zero))))) = refusals.Sisa
 reason_of (suc (suc (suc (suc (suc (suc zero)))))) = refusals.Short
 reason_of (suc (suc (suc (suc (suc (suc (suc word))))))) = refusals.Parity word
 
-reason_again : (reason : Refusal) → reason_of (number_of reason) ≡ reason
+reason_again : (reason : EventFault) → reason_of (number_of reason) ≡ reason
 reason_again refusals.Frame = refl
 reason_again refusals.Preamble = refl
 reason_again refusals.Tow = refl
@@ -67,17 +67,17 @@ reason_again (refusals.Parity word) = refl
 
 -- 1 for a refusal with this number
 abbrev is_reason : ℕ → Event → ℕ
-is_reason n (Heard part) = 0
+is_reason n (Received part) = 0
 is_reason n Malformed = 0
 is_reason n Late = 0
 is_reason n (Refused reason) = if nat_eq (number_of reason) n then 1 else 0
 is_reason n Unused = 0
 
-counts_reason : (reason : Refusal) → 0 < is_reason (number_of reason) (Refused reason)
+counts_reason : (reason : EventFault) → 0 < is_reason (number_of reason) (Refused reason)
 counts_reason reason = subst (λ (t : Bool). 0 < (if t then 1 else 0)) (sym (eq-eqb (number_of reason) (number_of reason) refl)) (omega arith)
 
-told_reason : (reason : Refusal) (event : Event) → 0 < is_reason (number_of reason) event → event ≡ Refused reason
-told_reason reason (Heard part) h = absurd (omega (arith, h))
+told_reason : (reason : EventFault) (event : Event) → 0 < is_reason (number_of reason) event → event ≡ Refused reason
+told_reason reason (Received part) h = absurd (omega (arith, h))
 told_reason reason Malformed h = absurd (omega (arith, h))
 told_reason reason Late h = absurd (omega (arith, h))
 told_reason reason Unused h = absurd (omega (arith, h))
@@ -111,10 +111,10 @@ of_some f (y ∷ ys) x (inr i) l =
     omega (arith, first, rest)
 
 -- the refusal is one of the events exactly where its total is not 0
-weight_from : (reason : Refusal) (events : List Event) → In events (Refused reason) → 0 < weight_of (is_reason (number_of reason)) events
+weight_from : (reason : EventFault) (events : List Event) → In events (Refused reason) → 0 < weight_of (is_reason (number_of reason)) events
 weight_from reason events i = of_some (is_reason (number_of reason)) events (Refused reason) i (counts_reason reason)
 
-weight_to : (reason : Refusal) (events : List Event) → 0 < weight_of (is_reason (number_of reason)) events → In events (Refused reason)
+weight_to : (reason : EventFault) (events : List Event) → 0 < weight_of (is_reason (number_of reason)) events → In events (Refused reason)
 weight_to reason events h =
     let f = some_of (is_reason (number_of reason)) events h in
     subst (λ (e : Event). In events e) (told_reason reason f.0 f.2) f.1
@@ -135,12 +135,12 @@ once_apart {X} (y ∷ xs) ys x once (inl e) j =
 once_apart (y ∷ xs) ys x once (inr i) j = once_apart xs ys x once.1 i j
 
 -- the reasons of an item, after those before it
-abbrev IsRefusedFor : ℕ → List LineItem → LineItem → Refusal → Type 0
+abbrev IsRefusedFor : ℕ → List LineItem → LineItem → EventFault → Type 0
 IsRefusedFor w before item reason =
     Contains (own_events w before item) (Refused reason)
     ⊎ ((word : Pair) × IsCompletedBy w before item word × Contains (pair_events word) (Refused reason))
 
-module _ (laws : HalfLaws) (w : ℕ) (before : List LineItem) (item : LineItem) (reason : Refusal) where
+module _ (laws : HalfLaws) (w : ℕ) (before : List LineItem) (item : LineItem) (reason : EventFault) where
   abbrev known : Known
   known = known_from w nothing_known before
 
@@ -151,7 +151,7 @@ module _ (laws : HalfLaws) (w : ℕ) (before : List LineItem) (item : LineItem) 
   abbrev pairs : List Pair
   pairs = (some_pairs laws w before).all
 
-  are : ArePairsHeard w before pairs
+  are : ArePairsReceived w before pairs
   are = (some_pairs laws w before).are
 
   one : IsStep w before known item pairs
@@ -197,7 +197,7 @@ module _ (laws : HalfLaws) (w : ℕ) (before : List LineItem) (item : LineItem) 
 
 -- ---- the lines of the log
 
-pub refused_lines : (laws : HalfLaws) (w first : ℕ) (items : List LineItem) (number : ℕ) (reason : Refusal)
+pub refused_lines : (laws : HalfLaws) (w first : ℕ) (items : List LineItem) (number : ℕ) (reason : EventFault)
     → Contains (log_from w nothing_known first items) (note number (Refused reason)) ↔ IsRefusedLine w first items number reason
 refused_lines laws w first items number reason =
     let log = log_from w nothing_known first items in (

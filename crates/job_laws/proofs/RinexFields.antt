@@ -10,8 +10,8 @@ use Rattle.rinex_write.specs.declared.columns.Rule.{Rule}
 use Rattle.rinex_write.specs.declared.columns.Rule.TheVariants.{Plain, OrZero, OrLeast, OrUnknown, Ura, Sisa, Fit, Sent, Unread}
 use Rattle.rinex_write.specs.Accuracies.{first_from, ura_greatest, ura_of, sisa_value, sisa_from, sisa_of}
 use Rattle.rinex_write.specs.Columns.{IsField, not_known}
-use Rattle.rinex_read.specs.declared.reason.Reason.{Reason}
-use Rattle.rinex_read.specs.declared.reason.Reason.TheVariants as reasons
+use Rattle.rinex_read.specs.declared.reason.RecordFault.{RecordFault}
+use Rattle.rinex_read.specs.declared.reason.RecordFault.TheVariants as reasons
 use Rattle.rinex_read.specs.Fields.{in_range, flag_of, sent_or_unknown, taken, whole, is_beyond, or_unknown}
 use Rattle.job_laws.specs.RinexRecords.{IsLeast, IsUraOf, IsSisaOf, IsFlagOf, IsWithin, Means, IsBlank, IsBeyond, Encodes}
 use Rattle.job_laws.proofs.RinexTexts.{bound, go_on, if_ok}
@@ -216,7 +216,7 @@ number-taken Fit unit text w z stands h =
     flag-of (negsuc n) z low h = absurd (omega (arith, ints, low))
 number-taken Sent unit text w z stands h = go (int_le (negsuc 302399) w) (int_le w (pos 907199)) refl refl h
   where
-    go : (a b : Bool) → int_le (negsuc 302399) w ≡ a → int_le w (pos 907199) ≡ b → ◌≡◌ {A = Result ℤ Reason} (Ok (if a && b then w else pos 999900000)) (Ok z) → Encodes Sent unit text z
+    go : (a b : Bool) → int_le (negsuc 302399) w ≡ a → int_le w (pos 907199) ≡ b → ◌≡◌ {A = Result ℤ RecordFault} (Ok (if a && b then w else pos 999900000)) (Ok z) → Encodes Sent unit text z
     go true true p q e =
         let is : w ≡ z = cc in
         inl (number-says unit text (negsuc 302399) (pos 907199) w (λ v. z ≡ v) stands (le_from (negsuc 302399) w p, le_from w (pos 907199) q) (sym is))
@@ -306,7 +306,7 @@ pub field-says : Seen → (r : Rule) (unit : Fraction) (text : List ℕ) (z : �
     → or_unknown r (seen (size_of whole) text) (taken r (seen unit text)) ≡ Ok z → Encodes r unit text z
 field-says laws r unit text z good h = go r (taken r (seen unit text)) refl h
   where
-    go : (q : Rule) (t : Result ℤ Reason) → taken q (seen unit text) ≡ t → or_unknown q (seen (size_of whole) text) t ≡ Ok z → Encodes q unit text z
+    go : (q : Rule) (t : Result ℤ RecordFault) → taken q (seen unit text) ≡ t → or_unknown q (seen (size_of whole) text) t ≡ Ok z → Encodes q unit text z
     go q (Ok y) e t = taken-says laws q unit text z good (e ∙ t)
     go (OrUnknown low high) (Err reasons.OutOfRange) e t = beyond-says laws unit text low high z good e t
     go q (Err f) e t = absurd (cc)
@@ -315,13 +315,13 @@ means-read : Seen → (unit : Fraction) (text : List ℕ) (low high : ℤ) (Mean
     → (seen unit text ≡ number h.number) × (in_range low high h.number ≡ Ok h.number)
 means-read laws unit text low high Meaning good h = ((laws.numbers unit text h.number good).1 h.text_is, range-read low high h.number h.within)
 
-plain-read : Seen → (unit : Fraction) (text : List ℕ) (low high z : ℤ) (take : NumberSeen → Result ℤ Reason) → ((w : ℤ) → take (number w) ≡ in_range low high w) → IsScale unit
+plain-read : Seen → (unit : Fraction) (text : List ℕ) (low high z : ℤ) (take : NumberSeen → Result ℤ RecordFault) → ((w : ℤ) → take (number w) ≡ in_range low high w) → IsScale unit
     → Means unit text low high (λ w. z ≡ w) → take (seen unit text) ≡ Ok z
 plain-read laws unit text low high z take rule good h =
     let read = means-read laws unit text low high (λ w. z ≡ w) good h in
     ap take read.0 ∙ rule h.number ∙ read.1 ∙ ap Ok (sym h.means)
 
-blank-read : Seen → (unit : Fraction) (text : List ℕ) (z other : ℤ) (take : NumberSeen → Result ℤ Reason) → take blank ≡ Ok other → IsBlank text z other → take (seen unit text) ≡ Ok z
+blank-read : Seen → (unit : Fraction) (text : List ℕ) (z other : ℤ) (take : NumberSeen → Result ℤ RecordFault) → take blank ≡ Ok other → IsBlank text z other → take (seen unit text) ≡ Ok z
 blank-read laws unit text z other take rule h = ap take ((laws.blanks unit text).1 h.0) ∙ rule ∙ ap Ok (sym h.1)
 
 -- what is taken is kept

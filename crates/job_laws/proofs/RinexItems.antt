@@ -2,7 +2,7 @@
 use Rattle.std.proofs.Common.{◌≡◌, ℕ, zero, suc, ◌+◌, ◌*◌, ◌/◌, ◌%◌, ◌<◌, ◌==◌, ◌&&◌, nat_lt, nat_le, true, if◌then◌else◌, List, [], ◌∷◌, length, drop, get_or, Ok, refl, ap, ap₂, sym, ◌∙◌, subst, inl, inr, arith, ℤ, pos, negsuc, ◌≤ℤ◌, unsigned_abs, eq-eqb, eqb-true, le-leb, lt-ltb}
 use Rattle.std.proofs.lemmas.Bool.{and_parts, leb-true, ltb-true}
 use Rattle.std.proofs.lemmas.Int.{ints}
-use Rattle.gnss_week.specs.Weeks.{IsNearestMoment}
+use Rattle.nav_eph.specs.Weeks.{IsNearestMoment}
 use Rattle.nav_eph.specs.Satellite.{Satellite}
 use Rattle.nav_eph.specs.Bodies.{IsGalHealth}
 use Rattle.nav_eph.specs.Items.{IsSentSecond}
@@ -21,9 +21,9 @@ use Rattle.rinex_write.specs.Accuracies.{health_of}
 use Rattle.rinex_write.specs.Columns.{IsField, AreFields, joined_rows}
 use Rattle.rinex_write.specs.Layouts.{gps_rows, galileo_rows, gps_ionosphere_rows, galileo_ionosphere_rows}
 use Rattle.rinex_write.specs.Fields.{sent_field, gps_fields, gps_ionosphere_fields, galileo_ionosphere_fields}
-use Rattle.rinex_read.specs.declared.reason.Reason.TheVariants as reasons
+use Rattle.rinex_read.specs.declared.reason.RecordFault.TheVariants as reasons
 use Rattle.rinex_read.specs.Fields.{◌>>=◌}
-use Rattle.rinex_read.specs.Judging.{need, natural, toc_of, gps_of, gps_clock_of, gps_side_of, gps_orbit_a_of, gps_orbit_b_of, galileo_of, galileo_word1_of, galileo_word2_of, galileo_word3_of, galileo_word4_of, gps_ionosphere_of, galileo_ionosphere_of, health_said, sent_of}
+use Rattle.rinex_read.specs.Judging.{need, natural, toc_of, gps_of, gps_clock_of, gps_side_of, gps_orbit_a_of, gps_orbit_b_of, galileo_of, galileo_word1_of, galileo_word2_of, galileo_word3_of, galileo_word4_of, gps_ionosphere_of, galileo_ionosphere_of, health_stated, sent_of}
 use Rattle.job_laws.proofs.RinexTexts.{bound, needed}
 use Rattle.job_laws.proofs.RinexFields.{le_true}
 
@@ -127,7 +127,7 @@ galileo_with_again sat toc zs are =
     one_by_one (joined_rows galileo_rows) (λ ws. galileo_with (galileo_of sat toc ws) (pos (natural ws 23)) ≡ ws)
     (λ ws h. all_same (joined_rows galileo_rows) (listed (length (joined_rows galileo_rows)) ws) h) zs are
 
-health_parts : (a b : ℤ) (n : ℕ) → n < 512 → health_of (health_said a b n) + 8 * (n / 8 % 8) ≡ n
+health_parts : (a b : ℤ) (n : ℕ) → n < 512 → health_of (health_stated a b n) + 8 * (n / 8 % 8) ≡ n
 health_parts a b n h = omega arith
 
 field_is : (cs : List Column) (zs : List ℤ) (k : ℕ) (d : Column) → AreFields cs zs → k < length cs → IsField (get_or cs k d).rule (get_or zs k (pos 0))
@@ -176,7 +176,7 @@ gps_again e h =
     let iode = h.whole.issue in
     λ j. record e { sent = sent j; b = record e.b { iode = iode j } }
 
-health_again : (h : GalHealth) (spare : ℕ) → IsGalHealth h → spare < 8 → health_said h.bgd_a h.bgd_b (health_of h + 8 * spare) ≡ h
+health_again : (h : GalHealth) (spare : ℕ) → IsGalHealth h → spare < 8 → health_stated h.bgd_a h.bgd_b (health_of h + 8 * spare) ≡ h
 health_again h spare is few =
     let n = health_of h + 8 * spare in
     let hs_e5b : n / 128 % 4 ≡ h.hs_e5b = omega (arith, is.dvs_e1b, is.hs_e1b, is.dvs_e5b, is.hs_e5b) in

@@ -1,7 +1,7 @@
 -- A record of version 4 is judged as an item exactly if it is a record of that item by the relation.
 use Rattle.std.proofs.Common.{◌≡◌, ℕ, ◌/◌, ◌%◌, ◌==◌, ◌&&◌, nat_le, Bool, true, false, List, [], ◌∷◌, length, get_or, codes, Result, Ok, Err, refl, ap, sym, ◌∙◌, subst, arith, ℤ, le-leb, eqb-true, eq-eqb}
 use Rattle.std.proofs.lemmas.Bool.{and_parts, leb-true}
-use Rattle.gnss_week.specs.Weeks.{IsWeek, week_of}
+use Rattle.nav_eph.specs.Weeks.{IsWeek, week_of}
 use Rattle.nav_eph.specs.Satellite.{Satellite}
 use Rattle.nav_eph.specs.Ranges.{IsGpsItem, IsGalItem}
 use Rattle.nav_eph.specs.declared.sat.System.TheVariants as systems
@@ -19,14 +19,14 @@ use Rattle.rinex_write.specs.Columns.{AreFields, joined_rows}
 use Rattle.rinex_write.specs.Layouts.{Kind, toe_week, gps_kind, galileo_kind, gps_ionosphere_kind, galileo_ionosphere_kind, gps_rows, galileo_rows, gps_ionosphere_rows, galileo_ionosphere_rows}
 use Rattle.rinex_write.specs.Fields.{gps_fields, gps_ionosphere_fields, galileo_ionosphere_fields}
 use Rattle.rinex_write.specs.Texts.{letter_of}
-use Rattle.rinex_read.specs.declared.reason.Reason.{Reason}
-use Rattle.rinex_read.specs.declared.reason.Reason.TheVariants as reasons
+use Rattle.rinex_read.specs.declared.reason.RecordFault.{RecordFault}
+use Rattle.rinex_read.specs.declared.reason.RecordFault.TheVariants as reasons
 use Rattle.rinex_read.specs.declared.judged.Judged.{Judged}
 use Rattle.rinex_read.specs.declared.judged.Judged.TheVariants as judgments
 use Rattle.rinex_read.specs.Lines.{columns, stands_at}
 use Rattle.rinex_read.specs.Fields.{◌>>=◌, read_rows}
 use Rattle.rinex_read.specs.Forms.{begins, rinex4}
-use Rattle.rinex_read.specs.Judging.{need, first_of, is_kind, sat_of, same_sat, satellite_of, moment_at, is_named_week, Said, ephemeris_said, ionosphere_said, natural, toc_of, gps_of, gps_clock_of, gps_orbit_a_of, galileo_of, galileo_word1_of, galileo_word4_of, gps_ionosphere_of, galileo_ionosphere_of, gps_item, galileo_item, gps_ionosphere_item, galileo_ionosphere_item, gps_read, galileo_read, gps_ionosphere_read, galileo_ionosphere_read, outcome, judged}
+use Rattle.rinex_read.specs.Judging.{need, first_of, is_kind, sat_of, same_sat, satellite_of, moment_at, is_named_week, Stated, ephemeris_stated, ionosphere_stated, natural, toc_of, gps_of, gps_clock_of, gps_orbit_a_of, galileo_of, galileo_word1_of, galileo_word4_of, gps_ionosphere_of, galileo_ionosphere_of, gps_item, galileo_item, gps_ionosphere_item, galileo_ionosphere_item, gps_read, galileo_read, gps_ionosphere_read, galileo_ionosphere_read, outcome, judged}
 use Rattle.rinex_read.proofs.Surface.{judged_whole}
 use Rattle.job_laws.specs.RinexRecords.{IsSatellite, IsEpoch, HasFields, gps_numbers, galileo_numbers, IsGpsBody, IsGalileoBody, HasIonosphere, message_of, IsRecord}
 use Rattle.job_laws.proofs.RinexTexts.{bound, go_on, needed, stands-columns, columns-stands, IsOf, satellite-stands, satellite-read, epoch-stands, epoch-read}
@@ -71,34 +71,34 @@ not_kind k title not = go (is_kind k title) refl
     go false e = refl
 
 -- what is read of a record is what stands in its lines
-pub record IsSaid (k : Kind) (lines : List (List ℕ)) (said : Said) : Type 0 where
+pub record IsStated (k : Kind) (lines : List (List ℕ)) (said : Stated) : Type 0 where
   pub sat : IsOf k.system said.sat
   pub epoch : IsEpoch (get_or lines 0 []) said.moment
   pub rows : RowsSay k.rows 23 lines (split k.rows said.fields)
   pub size : length said.fields ≡ length (joined_rows k.rows)
 
-abbrev made : Satellite → ℕ → List ℤ → Result Said Reason
+abbrev made : Satellite → ℕ → List ℤ → Result Stated RecordFault
 made sat m fields = Ok (record { sat = sat; moment = m; fields = fields })
 
-abbrev numbers : Kind → List (List ℕ) → Satellite → ℕ → Result Said Reason
+abbrev numbers : Kind → List (List ℕ) → Satellite → ℕ → Result Stated RecordFault
 numbers k lines sat m = read_rows k.rows 23 lines >>= made sat m
 
-abbrev dated : Kind → List (List ℕ) → Satellite → Bool → Result Said Reason
+abbrev dated : Kind → List (List ℕ) → Satellite → Bool → Result Stated RecordFault
 dated k lines sat same = moment_at (first_of lines) >>= numbers k lines sat
 
-abbrev matched : Kind → List ℕ → List (List ℕ) → Satellite → Bool → Result Said Reason
+abbrev matched : Kind → List ℕ → List (List ℕ) → Satellite → Bool → Result Stated RecordFault
 matched k title lines sat all = need (same_sat title (first_of lines)) reasons.BadSat >>= dated k lines sat
 
-abbrev counted : Kind → List ℕ → List (List ℕ) → Satellite → Result Said Reason
+abbrev counted : Kind → List ℕ → List (List ℕ) → Satellite → Result Stated RecordFault
 counted k title lines sat = need (nat_le (length k.rows) (length lines)) reasons.Short >>= matched k title lines sat
 
-abbrev weekly : Kind → List (List ℕ) → Satellite → ℕ → Result Said Reason
+abbrev weekly : Kind → List (List ℕ) → Satellite → ℕ → Result Stated RecordFault
 weekly k lines sat m = need (is_named_week m) reasons.Week >>= λ x. numbers k lines sat m
 
-abbrev sent_on : Kind → List (List ℕ) → Satellite → Bool → Result Said Reason
+abbrev sent_on : Kind → List (List ℕ) → Satellite → Bool → Result Stated RecordFault
 sent_on k lines sat all = moment_at (first_of lines) >>= weekly k lines sat
 
-abbrev all_lines : Kind → List (List ℕ) → Satellite → Result Said Reason
+abbrev all_lines : Kind → List (List ℕ) → Satellite → Result Stated RecordFault
 all_lines k lines sat = need (nat_le (length k.rows) (length lines)) reasons.Short >>= sent_on k lines sat
 
 -- the satellite of a title
@@ -122,22 +122,22 @@ same-read : (title line : List ℕ) → columns 0 3 line ≡ columns 6 3 title �
 unfolding columns
 same-read title line h = columns-stands (columns 6 3 title) 0 line h
 
-said-by : Seen → (k : Kind) (lines : List (List ℕ)) (sat : Satellite) (m : ℕ) (fields : List ℤ) (said : Said) → AllUsual k.rows → IsOf k.system sat → moment_at (first_of lines) ≡ Ok m → read_rows k.rows 23 lines ≡ Ok fields
-    → made sat m fields ≡ Ok said → IsSaid k lines said × AreFields (joined_rows k.rows) said.fields
+said-by : Seen → (k : Kind) (lines : List (List ℕ)) (sat : Satellite) (m : ℕ) (fields : List ℤ) (said : Stated) → AllUsual k.rows → IsOf k.system sat → moment_at (first_of lines) ≡ Ok m → read_rows k.rows 23 lines ≡ Ok fields
+    → made sat m fields ≡ Ok said → IsStated k lines said × AreFields (joined_rows k.rows) said.fields
 said-by laws k lines sat m fields said usual of_sat of_moment of_fields e =
-    let is : ◌≡◌ {A = Said} (record { sat = sat; moment = m; fields = fields }) said = cc in
+    let is : ◌≡◌ {A = Stated} (record { sat = sat; moment = m; fields = fields }) said = cc in
     let rows = rows-say laws k.rows 23 lines fields usual of_fields in
-    let stands : IsSaid k lines (record { sat = sat; moment = m; fields = fields }) = record {
+    let stands : IsStated k lines (record { sat = sat; moment = m; fields = fields }) = record {
       sat = of_sat;
       epoch = epoch-stands (get_or lines 0 []) m (ap moment_at (sym (first_line lines)) ∙ of_moment);
       rows = rows.0;
       size = fields_length (joined_rows k.rows) fields rows.1;
     } in
-    subst (λ (s : Said). IsSaid k lines s × AreFields (joined_rows k.rows) s.fields) is (stands, rows.1)
+    subst (λ (s : Stated). IsStated k lines s × AreFields (joined_rows k.rows) s.fields) is (stands, rows.1)
 
-ephemeris-says : Seen → (k : Kind) (title : List ℕ) (lines : List (List ℕ)) (said : Said) → AllUsual k.rows → get_or title 6 32 ≡ letter_of k.system → ephemeris_said k title lines ≡ Ok said
-    → (IsSaid k lines said × AreFields (joined_rows k.rows) said.fields) × (columns 6 3 title ≡ columns 0 3 (get_or lines 0 [])) × IsSatellite said.sat (columns 0 3 (get_or lines 0 []))
-unfolding ephemeris_said
+ephemeris-says : Seen → (k : Kind) (title : List ℕ) (lines : List (List ℕ)) (said : Stated) → AllUsual k.rows → get_or title 6 32 ≡ letter_of k.system → ephemeris_stated k title lines ≡ Ok said
+    → (IsStated k lines said × AreFields (joined_rows k.rows) said.fields) × (columns 6 3 title ≡ columns 0 3 (get_or lines 0 [])) × IsSatellite said.sat (columns 0 3 (get_or lines 0 []))
+unfolding ephemeris_stated
 ephemeris-says laws k title lines said usual letter h =
     let a = bound (sat_of k.system title) (counted k title lines) said h in
     let b = bound (need (nat_le (length k.rows) (length lines)) reasons.Short) (matched k title lines a.value) said a.rest in
@@ -152,10 +152,10 @@ ephemeris-says laws k title lines said usual letter h =
       subst (λ s. IsSatellite s (columns 0 3 (get_or lines 0 []))) is (subst (IsSatellite a.value) same sat.1),
     )
   where
-    sat_is : (sat : Satellite) (m : ℕ) (fields : List ℤ) (said : Said) → made sat m fields ≡ Ok said → sat ≡ said.sat
+    sat_is : (sat : Satellite) (m : ℕ) (fields : List ℤ) (said : Stated) → made sat m fields ≡ Ok said → sat ≡ said.sat
     sat_is sat m fields said e =
-        let is : ◌≡◌ {A = Said} (record { sat = sat; moment = m; fields = fields }) said = cc in
-        ap (λ (s : Said). s.sat) is
+        let is : ◌≡◌ {A = Stated} (record { sat = sat; moment = m; fields = fields }) said = cc in
+        ap (λ (s : Stated). s.sat) is
 
 week-says : (m : ℕ) → is_named_week m ≡ true → IsWeek (week_of m)
 week-says m h = let both = and_parts (nat_le 1 (m / 604800)) (nat_le (m / 604800) 16382) h in (leb-true 1 (m / 604800) both.0, leb-true (m / 604800) 16382 both.1)
@@ -163,9 +163,9 @@ week-says m h = let both = and_parts (nat_le 1 (m / 604800)) (nat_le (m / 604800
 week-read : (m : ℕ) → IsWeek (week_of m) → is_named_week m ≡ true
 week-read m h = ap (λ b. b && nat_le (m / 604800) 16382) (le-leb 1 (m / 604800) h.0) ∙ le-leb (m / 604800) 16382 h.1
 
-ionosphere-says : Seen → (k : Kind) (title : List ℕ) (lines : List (List ℕ)) (said : Said) → AllUsual k.rows → get_or title 6 32 ≡ letter_of k.system → ionosphere_said k title lines ≡ Ok said
-    → (IsSaid k lines said × AreFields (joined_rows k.rows) said.fields) × IsSatellite said.sat (columns 6 3 title)
-unfolding ionosphere_said
+ionosphere-says : Seen → (k : Kind) (title : List ℕ) (lines : List (List ℕ)) (said : Stated) → AllUsual k.rows → get_or title 6 32 ≡ letter_of k.system → ionosphere_stated k title lines ≡ Ok said
+    → (IsStated k lines said × AreFields (joined_rows k.rows) said.fields) × IsSatellite said.sat (columns 6 3 title)
+unfolding ionosphere_stated
 ionosphere-says laws k title lines said usual letter h =
     let a = bound (sat_of k.system title) (all_lines k lines) said h in
     let b = bound (need (nat_le (length k.rows) (length lines)) reasons.Short) (sent_on k lines a.value) said a.rest in
@@ -178,17 +178,17 @@ ionosphere-says laws k title lines said usual letter h =
       subst (λ s. IsSatellite s (columns 6 3 title)) is sat.1,
     )
   where
-    sat_is : (sat : Satellite) (m : ℕ) (fields : List ℤ) (said : Said) → made sat m fields ≡ Ok said → sat ≡ said.sat
+    sat_is : (sat : Satellite) (m : ℕ) (fields : List ℤ) (said : Stated) → made sat m fields ≡ Ok said → sat ≡ said.sat
     sat_is sat m fields said e =
-        let is : ◌≡◌ {A = Said} (record { sat = sat; moment = m; fields = fields }) said = cc in
-        ap (λ (s : Said). s.sat) is
+        let is : ◌≡◌ {A = Stated} (record { sat = sat; moment = m; fields = fields }) said = cc in
+        ap (λ (s : Stated). s.sat) is
 
 enough : Seen → (k : Kind) (lines : List (List ℕ)) (fields : List (List ℤ)) → HasFields k.rows lines fields → nat_le (length k.rows) (length lines) ≡ true
 enough laws k lines fields h = le-leb (length k.rows) (length lines) h.enough
 
-ephemeris-read : Seen → (k : Kind) (title : List ℕ) (lines : List (List ℕ)) (said : Said) → AllUsual k.rows → IsSaid k lines said → columns 6 3 title ≡ columns 0 3 (get_or lines 0 [])
-    → IsSatellite said.sat (columns 0 3 (get_or lines 0 [])) → (ephemeris_said k title lines ≡ Ok said) × (get_or title 6 32 ≡ letter_of k.system)
-unfolding ephemeris_said
+ephemeris-read : Seen → (k : Kind) (title : List ℕ) (lines : List (List ℕ)) (said : Stated) → AllUsual k.rows → IsStated k lines said → columns 6 3 title ≡ columns 0 3 (get_or lines 0 [])
+    → IsSatellite said.sat (columns 0 3 (get_or lines 0 [])) → (ephemeris_stated k title lines ≡ Ok said) × (get_or title 6 32 ≡ letter_of k.system)
+unfolding ephemeris_stated
 ephemeris-read laws k title lines said usual is same text =
     let sat = title-read k title said.sat is.sat (subst (IsSatellite said.sat) (sym same) text) in
     let many = enough laws k lines (split k.rows said.fields) (say-by k.rows lines (split k.rows said.fields) is.rows) in
@@ -203,9 +203,9 @@ ephemeris-read laws k title lines said usual is same text =
       sat.1,
     )
 
-ionosphere-read : Seen → (k : Kind) (title : List ℕ) (lines : List (List ℕ)) (said : Said) → AllUsual k.rows → IsSaid k lines said → IsWeek (week_of said.moment) → IsSatellite said.sat (columns 6 3 title)
-    → (ionosphere_said k title lines ≡ Ok said) × (get_or title 6 32 ≡ letter_of k.system)
-unfolding ionosphere_said
+ionosphere-read : Seen → (k : Kind) (title : List ℕ) (lines : List (List ℕ)) (said : Stated) → AllUsual k.rows → IsStated k lines said → IsWeek (week_of said.moment) → IsSatellite said.sat (columns 6 3 title)
+    → (ionosphere_stated k title lines ≡ Ok said) × (get_or title 6 32 ≡ letter_of k.system)
+unfolding ionosphere_stated
 ionosphere-read laws k title lines said usual is week text =
     let sat = title-read k title said.sat is.sat text in
     let many = enough laws k lines (split k.rows said.fields) (say-by k.rows lines (split k.rows said.fields) is.rows) in
@@ -272,7 +272,7 @@ gps-says : Seen → (title : List ℕ) (lines : List (List ℕ)) (item : NavItem
     → IsRecord title lines item
 unfolding gps_kind
 gps-says laws title lines item starts parts given h =
-    let a = bound (ephemeris_said gps_kind title lines) gps_item item h in
+    let a = bound (ephemeris_stated gps_kind title lines) gps_item item h in
     let says = ephemeris-says laws gps_kind title lines a.value gps_usual parts.letter a.is in
     let zs = a.value.fields in
     let toc = bound (toc_of 16 a.value.moment (natural zs 21) (natural zs 11)) (λ t. Ok (Gps (gps_of a.value.sat t zs))) item a.rest in
@@ -292,14 +292,14 @@ unfolding gps_kind gps_rows
 gps-read laws title lines e h =
     let item = h.1.0 in
     let body = h.1.1 in
-    let said : Said = record { sat = e.sat; moment = body.epoch; fields = gps_fields e } in
+    let said : Stated = record { sat = e.sat; moment = body.epoch; fields = gps_fields e } in
     let rows : RowsSay gps_rows 23 lines (split gps_rows (gps_fields e)) = by-say gps_rows lines (gps_numbers e) (refl, (refl, (refl, (refl, (refl, (refl, (refl, (refl, tt)))))))) body.fields_are in
-    let stands : IsSaid gps_kind lines said = record { sat = (item.whole.system, item.ranges.sat); epoch = body.date; rows = rows; size = refl } in
+    let stands : IsStated gps_kind lines said = record { sat = (item.whole.system, item.ranges.sat); epoch = body.date; rows = rows; size = refl } in
     let read = ephemeris-read laws gps_kind title lines said gps_usual stands h.0.sat_is body.sat_is in
     let kind = kind-read gps_kind title (record { class = h.0.class_is; letter = read.1; message = h.0.message_is }) in
     let toc = toc-read 16 body.epoch e.toe_week e.a.toe e.clock.toc step_16 body.near in
     judged-gps title lines kind
-    ∙ ap outcome (go_on (ephemeris_said gps_kind title lines) said gps_item read.0
+    ∙ ap outcome (go_on (ephemeris_stated gps_kind title lines) said gps_item read.0
     ∙ go_on (toc_of 16 body.epoch e.toe_week e.a.toe) e.clock.toc (λ t. Ok (Gps (gps_of e.sat t (gps_fields e)))) toc
     ∙ ap (λ x. Ok (Gps x)) (gps_again e item))
 
@@ -327,7 +327,7 @@ galileo-says : Seen → (title : List ℕ) (lines : List (List ℕ)) (item : Nav
     → IsRecord title lines item
 unfolding galileo_kind
 galileo-says laws title lines item starts parts given h =
-    let a = bound (ephemeris_said galileo_kind title lines) galileo_item item h in
+    let a = bound (ephemeris_stated galileo_kind title lines) galileo_item item h in
     let says = ephemeris-says laws galileo_kind title lines a.value galileo_usual parts.letter a.is in
     let zs = a.value.fields in
     let toc = bound (toc_of 60 a.value.moment (natural zs 21) (natural zs 11)) (λ t. Ok (Gal (galileo_of a.value.sat t zs))) item a.rest in
@@ -359,19 +359,19 @@ galileo-read laws title lines e h =
     let item = h.1.2 in
     let body = h.1.3 in
     let flat = galileo_flat e spare in
-    let said : Said = record { sat = e.sat; moment = body.epoch; fields = flat } in
+    let said : Stated = record { sat = e.sat; moment = body.epoch; fields = flat } in
     let rows : RowsSay galileo_rows 23 lines (split galileo_rows flat) =
     by-say galileo_rows lines (galileo_numbers e spare) (refl, (refl, (refl, (refl, (refl, (refl, (refl, (refl, tt)))))))) body.fields_are in
-    let stands : IsSaid galileo_kind lines said = record { sat = (item.whole.system, item.ranges.sat); epoch = body.date; rows = rows; size = refl } in
+    let stands : IsStated galileo_kind lines said = record { sat = (item.whole.system, item.ranges.sat); epoch = body.date; rows = rows; size = refl } in
     let read = ephemeris-read laws galileo_kind title lines said galileo_usual stands h.0.sat_is body.sat_is in
     let kind = kind-read galileo_kind title (record { class = h.0.class_is; letter = read.1; message = h.0.message_is }) in
     let toc = toc-read 60 body.epoch e.toe_week e.w1.toe e.w4.toc step_60 body.near in
     judged-galileo title lines (letters_differ gps_kind title refl read.1) kind
-    ∙ ap outcome (go_on (ephemeris_said galileo_kind title lines) said galileo_item read.0
+    ∙ ap outcome (go_on (ephemeris_stated galileo_kind title lines) said galileo_item read.0
     ∙ go_on (toc_of 60 body.epoch e.toe_week e.w1.toe) e.w4.toc (λ t. Ok (Gal (galileo_of e.sat t flat))) toc
     ∙ ap (λ x. Ok (Gal x)) (galileo_again e spare item h.1.1))
 
-ok_same : (x y : NavItem) → ◌≡◌ {A = Result NavItem Reason} (Ok x) (Ok y) → x ≡ y
+ok_same : (x y : NavItem) → ◌≡◌ {A = Result NavItem RecordFault} (Ok x) (Ok y) → x ≡ y
 ok_same x y h = cc
 
 judged-none : (title : List ℕ) (lines : List (List ℕ)) → is_kind gps_kind title ≡ false → is_kind galileo_kind title ≡ false → is_kind gps_ionosphere_kind title ≡ false
@@ -384,7 +384,7 @@ gps-ionosphere-says : Seen → (title : List ℕ) (lines : List (List ℕ)) (ite
     → gps_ionosphere_read title lines ≡ Ok item → IsRecord title lines item
 unfolding gps_ionosphere_kind gps_ionosphere_rows
 gps-ionosphere-says laws title lines item starts parts given h =
-    let a = bound (ionosphere_said gps_ionosphere_kind title lines) gps_ionosphere_item item h in
+    let a = bound (ionosphere_stated gps_ionosphere_kind title lines) gps_ionosphere_item item h in
     let says = ionosphere-says laws gps_ionosphere_kind title lines a.value gps_ionosphere_usual parts.letter a.is in
     let zs = a.value.fields in
     let e : IonEph = record { sat = a.value.sat; moment = a.value.moment; content = OfGps (gps_ionosphere_of zs) } in
@@ -402,7 +402,7 @@ galileo-ionosphere-says : Seen → (title : List ℕ) (lines : List (List ℕ)) 
     → galileo_ionosphere_read title lines ≡ Ok item → IsRecord title lines item
 unfolding galileo_ionosphere_kind galileo_ionosphere_rows
 galileo-ionosphere-says laws title lines item starts parts given h =
-    let a = bound (ionosphere_said galileo_ionosphere_kind title lines) galileo_ionosphere_item item h in
+    let a = bound (ionosphere_stated galileo_ionosphere_kind title lines) galileo_ionosphere_item item h in
     let says = ionosphere-says laws galileo_ionosphere_kind title lines a.value galileo_ionosphere_usual parts.letter a.is in
     let zs = a.value.fields in
     let e : IonEph = record { sat = a.value.sat; moment = a.value.moment; content = OfGal (galileo_ionosphere_of zs) } in
@@ -431,38 +431,38 @@ ionosphere_judged : Seen → (title : List ℕ) (lines : List (List ℕ)) (e : I
 unfolding gps_kind galileo_kind gps_ionosphere_kind gps_ionosphere_rows galileo_ionosphere_kind galileo_ionosphere_rows
 ionosphere_judged laws title lines e (OfGps i) is h =
     let body = h.3 in
-    let said : Said = record { sat = e.sat; moment = e.moment; fields = gps_ionosphere_fields i } in
+    let said : Stated = record { sat = e.sat; moment = e.moment; fields = gps_ionosphere_fields i } in
     let says : HasIonosphere lines (OfGps i) = subst (HasIonosphere lines) (sym is) body.fields in
     let rows : RowsSay gps_ionosphere_rows 23 lines (split gps_ionosphere_rows (gps_ionosphere_fields i)) = by-say gps_ionosphere_rows lines (split gps_ionosphere_rows (gps_ionosphere_fields i)) (refl, (refl, (refl, tt))) says in
     let system : e.sat.system ≡ systems.Gps = body.item.whole.system ∙ ap content_system (sym is) in
-    let stands : IsSaid gps_ionosphere_kind lines said = record { sat = (system, body.item.ranges.sat); epoch = body.date; rows = rows; size = refl } in
+    let stands : IsStated gps_ionosphere_kind lines said = record { sat = (system, body.item.ranges.sat); epoch = body.date; rows = rows; size = refl } in
     let text = subst (IsSatellite e.sat) (sym h.2.sat_is) h.1 in
     let read = ionosphere-read laws gps_ionosphere_kind title lines said gps_ionosphere_usual stands body.item.whole.week text in
     let message : columns 10 4 title ≡ codes "LNAV" = h.2.message_is ∙ ap message_of (sym is) in
     let kind = kind-read gps_ionosphere_kind title (record { class = h.2.class_is; letter = read.1; message = message }) in
     judged-gps-ionosphere title lines (classes_differ gps_kind title refl h.2.class_is) (classes_differ galileo_kind title refl h.2.class_is) kind
-    ∙ ap outcome (go_on (ionosphere_said gps_ionosphere_kind title lines) said gps_ionosphere_item read.0
+    ∙ ap outcome (go_on (ionosphere_stated gps_ionosphere_kind title lines) said gps_ionosphere_item read.0
     ∙ ap (λ (c : GpsIon). Ok (Ion (record { sat = e.sat; moment = e.moment; content = OfGps c }))) (gps_ionosphere_whole i)
     ∙ ap (λ (c : IonContent). Ok (Ion (record { sat = e.sat; moment = e.moment; content = c }))) is)
 ionosphere_judged laws title lines e (OfGal i) is h =
     let body = h.3 in
-    let said : Said = record { sat = e.sat; moment = e.moment; fields = galileo_ionosphere_fields i } in
+    let said : Stated = record { sat = e.sat; moment = e.moment; fields = galileo_ionosphere_fields i } in
     let says : HasIonosphere lines (OfGal i) = subst (HasIonosphere lines) (sym is) body.fields in
     let rows : RowsSay galileo_ionosphere_rows 23 lines (split galileo_ionosphere_rows (galileo_ionosphere_fields i)) =
     by-say galileo_ionosphere_rows lines (split galileo_ionosphere_rows (galileo_ionosphere_fields i)) (refl, (refl, tt)) says in
     let system : e.sat.system ≡ systems.Gal = body.item.whole.system ∙ ap content_system (sym is) in
-    let stands : IsSaid galileo_ionosphere_kind lines said = record { sat = (system, body.item.ranges.sat); epoch = body.date; rows = rows; size = refl } in
+    let stands : IsStated galileo_ionosphere_kind lines said = record { sat = (system, body.item.ranges.sat); epoch = body.date; rows = rows; size = refl } in
     let text = subst (IsSatellite e.sat) (sym h.2.sat_is) h.1 in
     let read = ionosphere-read laws galileo_ionosphere_kind title lines said galileo_ionosphere_usual stands body.item.whole.week text in
     let message : columns 10 4 title ≡ codes "IFNV" = h.2.message_is ∙ ap message_of (sym is) in
     let kind = kind-read galileo_ionosphere_kind title (record { class = h.2.class_is; letter = read.1; message = message }) in
     judged-galileo-ionosphere title lines (classes_differ gps_kind title refl h.2.class_is) (classes_differ galileo_kind title refl h.2.class_is) (letters_differ gps_ionosphere_kind title refl read.1) kind
-    ∙ ap outcome (go_on (ionosphere_said galileo_ionosphere_kind title lines) said galileo_ionosphere_item read.0
+    ∙ ap outcome (go_on (ionosphere_stated galileo_ionosphere_kind title lines) said galileo_ionosphere_item read.0
     ∙ ap (λ (c : GalIon). Ok (Ion (record { sat = e.sat; moment = e.moment; content = OfGal c }))) (galileo_ionosphere_whole i)
     ∙ ap (λ (c : IonContent). Ok (Ion (record { sat = e.sat; moment = e.moment; content = c }))) is)
 
 -- an item that was given
-outcome_ok : (r : Result NavItem Reason) (item : NavItem) → outcome r ≡ judgments.Item item → r ≡ Ok item
+outcome_ok : (r : Result NavItem RecordFault) (item : NavItem) → outcome r ≡ judgments.Item item → r ≡ Ok item
 outcome_ok (Ok i) item h = let is : i ≡ item = cc in ap Ok is
 outcome_ok (Err e) item h = absurd (cc)
 

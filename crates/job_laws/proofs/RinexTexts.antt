@@ -4,43 +4,43 @@ use Rattle.std.proofs.lemmas.Bool.{and_parts, leb-true}
 use Rattle.scaled_decimal.specs.Grammar.{AreDecimals, number_behind}
 use Rattle.scaled_decimal.specs.NumberText.{digits}
 use Rattle.scaled_decimal.specs.NumberReading.{Span, span, is_decimal, is_nothing}
-use Rattle.gnss_week.specs.Weeks.{IsMoment}
-use Rattle.gnss_week.specs.Dates.{GivesMoment, IsCivilOf}
-use Rattle.gnss_week.specs.Functions.{moment_to}
-use Rattle.gnss_week.specs.declared.calendar.Civil.{Civil}
-use Rattle.gnss_week.specs.declared.calendar.WeekFault.{WeekFault}
-use Rattle.gnss_week.specs.declared.calendar.WeekFault.TheVariants as weeks
-use Rattle.gnss_week.proofs.Surface.{moment_to-answer, moment_to-again}
+use Rattle.nav_eph.specs.Weeks.{IsMoment}
+use Rattle.nav_eph.specs.Dates.{GivesMoment, IsCivilOf}
+use Rattle.nav_eph.specs.Functions.{moment_to}
+use Rattle.nav_eph.specs.declared.calendar.Civil.{Civil}
+use Rattle.nav_eph.specs.declared.calendar.WeekFault.{WeekFault}
+use Rattle.nav_eph.specs.declared.calendar.WeekFault.TheVariants as weeks
+use Rattle.nav_eph.proofs.Surface.{moment_to-answer, moment_to-again}
 use Rattle.nav_eph.specs.Satellite.{Satellite, IsSat, most}
 use Rattle.nav_eph.specs.declared.sat.System.{System}
 use Rattle.nav_eph.specs.declared.sat.System.TheVariants.{Gps, Gal}
 use Rattle.rinex_write.specs.Texts.{letter_of}
-use Rattle.rinex_read.specs.declared.reason.Reason.{Reason}
-use Rattle.rinex_read.specs.declared.reason.Reason.TheVariants as reasons
+use Rattle.rinex_read.specs.declared.reason.RecordFault.{RecordFault}
+use Rattle.rinex_read.specs.declared.reason.RecordFault.TheVariants as reasons
 use Rattle.rinex_read.specs.Lines.{columns, stands_at}
 use Rattle.rinex_read.specs.Fields.{◌>>=◌}
-use Rattle.rinex_read.specs.Judging.{need, named, satellite_of, digits_alone, whole_number, date_of, moment_said, moment_at}
+use Rattle.rinex_read.specs.Judging.{need, named, satellite_of, digits_alone, whole_number, date_of, moment_stated, moment_at}
 use Rattle.job_laws.specs.RinexRecords.{trimmed, IsNumber, IsSatellite, IsEpoch}
 
 -- a result that came of a value with which it was continued
-pub record Bound {A B : Type 0} (r : Result A Reason) (f : A → Result B Reason) (y : B) : Type 0 where
+pub record Bound {A B : Type 0} (r : Result A RecordFault) (f : A → Result B RecordFault) (y : B) : Type 0 where
   pub value : A
   pub is : r ≡ Ok value
   pub rest : f value ≡ Ok y
 
-pub bound : {A B : Type 0} (r : Result A Reason) (f : A → Result B Reason) (y : B) → (r >>= f) ≡ Ok y → Bound r f y
+pub bound : {A B : Type 0} (r : Result A RecordFault) (f : A → Result B RecordFault) (y : B) → (r >>= f) ≡ Ok y → Bound r f y
 bound (Ok x) f y h = record { value = x; is = refl; rest = h }
 bound (Err e) f y h = absurd (cc)
 
-pub go_on : {A B : Type 0} (r : Result A Reason) (x : A) (f : A → Result B Reason) → r ≡ Ok x → (r >>= f) ≡ f x
+pub go_on : {A B : Type 0} (r : Result A RecordFault) (x : A) (f : A → Result B RecordFault) → r ≡ Ok x → (r >>= f) ≡ f x
 go_on r x f e = ap (λ s. s >>= f) e
 
-pub needed : (b : Bool) (e : Reason) (x : Bool) → need b e ≡ Ok x → b ≡ true
+pub needed : (b : Bool) (e : RecordFault) (x : Bool) → need b e ≡ Ok x → b ≡ true
 needed true e x h = refl
 needed false e x h = absurd (cc)
 
 -- the value if the condition holds
-pub if_ok : {A : Type 0} (b : Bool) (x y : A) (e : Reason) → (if b then Ok x else Err e) ≡ Ok y → (b ≡ true) × (x ≡ y)
+pub if_ok : {A : Type 0} (b : Bool) (x y : A) (e : RecordFault) → (if b then Ok x else Err e) ≡ Ok y → (b ≡ true) × (x ≡ y)
 if_ok true x y e h = (refl, cc)
 if_ok false x y e h = absurd (cc)
 
@@ -193,16 +193,16 @@ satellite-read sat letter tens ones is (inr e) =
     let number : 0 + (ones - 48) ≡ n = omega arith in
     (rw (one, some, number, low, high) refl, first)
 
-moment-stands : (c : Civil) (answer : Result ℕ WeekFault) (m : ℕ) → GivesMoment c answer → moment_said answer ≡ Ok m → IsCivilOf c m × IsMoment m
+moment-stands : (c : Civil) (answer : Result ℕ WeekFault) (m : ℕ) → GivesMoment c answer → moment_stated answer ≡ Ok m → IsCivilOf c m × IsMoment m
 moment-stands c (Ok n) m g h = let is : n ≡ m = cc in subst (λ k. IsCivilOf c k × IsMoment k) is g
 moment-stands c (Err weeks.NoSuchDate) m g h = absurd (cc)
 moment-stands c (Err weeks.BeforeEpoch) m g h = absurd (cc)
 moment-stands c (Err weeks.TooFar) m g h = absurd (cc)
 
-abbrev date_with : List ℕ → ℕ → ℕ → ℕ → ℕ → ℕ → Result Civil Reason
+abbrev date_with : List ℕ → ℕ → ℕ → ℕ → ℕ → ℕ → Result Civil RecordFault
 date_with line year month day hour minute = whole_number (columns 21 2 line) >>= λ second. Ok (record { year = year; month = month; day = day; hour = hour; minute = minute; second = second })
 
-date-made : (line : List ℕ) (m year month day hour minute second : ℕ) (date : Civil) → ◌≡◌ {A = Result Civil Reason} (Ok (record { year = year; month = month; day = day; hour = hour; minute = minute; second = second })) (Ok date)
+date-made : (line : List ℕ) (m year month day hour minute second : ℕ) (date : Civil) → ◌≡◌ {A = Result Civil RecordFault} (Ok (record { year = year; month = month; day = day; hour = hour; minute = minute; second = second })) (Ok date)
     → IsNumber (columns 4 4 line) year → IsNumber (columns 9 2 line) month → IsNumber (columns 12 2 line) day → IsNumber (columns 15 2 line) hour → IsNumber (columns 18 2 line) minute
     → IsNumber (columns 21 2 line) second → IsCivilOf date m × IsMoment m → IsEpoch line m
 date-made line m year month day hour minute second date e y mo d ho mi s time =
@@ -224,7 +224,7 @@ date-made line m year month day hour minute second date e y mo d ho mi s time =
 pub epoch-stands : (line : List ℕ) (m : ℕ) → moment_at line ≡ Ok m → IsEpoch line m
 unfolding date_of
 epoch-stands line m h =
-    let all = bound (date_of line) (λ date. moment_said (moment_to date)) m h in
+    let all = bound (date_of line) (λ date. moment_stated (moment_to date)) m h in
     let year = bound (whole_number (columns 4 4 line)) (λ y. whole_number (columns 9 2 line) >>= λ mo. whole_number (columns 12 2 line) >>= λ d. whole_number (columns 15 2 line) >>= λ ho. whole_number (columns 18 2 line) >>= λ mi. date_with line y mo d ho mi) all.value all.is in
     let month = bound (whole_number (columns 9 2 line)) (λ mo. whole_number (columns 12 2 line) >>= λ d. whole_number (columns 15 2 line) >>= λ ho. whole_number (columns 18 2 line) >>= λ mi. date_with line year.value mo d ho mi) all.value year.rest in
     let day = bound (whole_number (columns 12 2 line)) (λ d. whole_number (columns 15 2 line) >>= λ ho. whole_number (columns 18 2 line) >>= λ mi. date_with line year.value month.value d ho mi) all.value month.rest in
@@ -246,4 +246,4 @@ epoch-read line m h =
     let minute = number-read (columns 18 2 line) h.date.minute h.minute in
     let second = number-read (columns 21 2 line) h.date.second h.second in
     let date : date_of line ≡ Ok h.date = rw (year, month, day, hour, minute, second) refl in
-    go_on (date_of line) h.date (λ c. moment_said (moment_to c)) date ∙ ap moment_said (moment_to-again h.date m h.time h.within)
+    go_on (date_of line) h.date (λ c. moment_stated (moment_to c)) date ∙ ap moment_stated (moment_to-again h.date m h.time h.within)

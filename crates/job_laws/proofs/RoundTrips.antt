@@ -12,11 +12,11 @@ use Rattle.capture_lines.specs.declared.head.CaptureHead.{CaptureHead}
 use Rattle.nav_eph.specs.declared.part.Part.{Part}
 use Rattle.periods.specs.PeriodLists.{items_in}
 use Rattle.periods.specs.PeriodsOf.{periods_of}
-use Rattle.capture_log.specs.Heard.{NoneLate, SameItems}
+use Rattle.capture_log.specs.Received.{NoneLate, SameItems}
 use Rattle.capture_log.specs.Log.{line_items_of, parts_of}
 use Rattle.rinex_write.specs.Texts.{text_of}
 use Rattle.rinex_write.specs.Texts3.{header3_lines, item3_lines}
-use Rattle.outlets.specs.ItemTexts.{rtcm_item}
+use Rattle.streams.specs.ItemTexts.{rtcm_item}
 use Rattle.rinex_read.specs.Files.{file_reads, items_read, list_by, rinex_list}
 use Rattle.rinex_read.specs.Form3.{rinex3, rinex3_list}
 use Rattle.rinex_read.specs.Forms.{rinex4}
@@ -25,8 +25,8 @@ use Rattle.rinex_read.specs.declared.judged.HeaderFault.{HeaderFault}
 use Rattle.rinex_read.specs.declared.judged.ItemRead.{ItemRead}
 use Rattle.nav_files.specs.Files.{text_in}
 use Rattle.nav_files.specs.Sends.{sends_text}
-use Rattle.page_send.specs.Sendable.{is_ephemeris, sent_text}
-use Rattle.page_send.specs.SentItems.{sent_items}
+use Rattle.sent_captures.specs.Sendable.{is_ephemeris, sent_text}
+use Rattle.sent_captures.specs.SentItems.{sent_items}
 use Rattle.captures.specs.Captures.{Capture, accepted_head, accepted_line, capture_in, capture_of, capture_with, items, output_of, target_of}
 use Rattle.captures.specs.declared.target.CaptureTo.{CaptureTo}
 use Rattle.captures.specs.declared.target.CaptureTo.TheVariants.{Rinex, Rinex3, Rtcm, ToList, Count}
@@ -34,8 +34,8 @@ use Rattle.bridge_engine.specs.Job.{IsJob}
 use Rattle.bridge_engine.specs.Meanings.{meaning_of}
 use Rattle.bridge_engine.specs.declared.job.Job.{Job}
 use Rattle.bridge_engine.specs.declared.job.Job.TheVariants.{SendRinex, SendRinex3}
-use Rattle.nav_laws.specs.SentAgain.{AreRepeats, AreSentAgain, AreTurned, IsHeardAgain, IsSentAgain, SameByType}
-use Rattle.nav_laws.specs.SentCapture.{IsOfLines, IsStillHeard, sent_capture}
+use Rattle.nav_laws.specs.SentAgain.{AreRepeats, AreSentAgain, AreTurned, IsReceivedAgain, IsSentAgain, SameByType}
+use Rattle.nav_laws.specs.SentCapture.{IsOfLines, IsStillReceived, sent_capture}
 use Rattle.job_laws.specs.RoundTrip.{AreReceived, AreTwoRuns, IsOfEphemerides, IsOfItems, Sends, items_text}
 use Rattle.job_laws.specs.Written.{IsWritten}
 use Rattle.job_laws.proofs.CaptureTexts.{rinex_written, rinex3_written, rtcm_written}
@@ -48,11 +48,11 @@ pub record Laws : Type 0 where
   pub whole3 : (bytes : List ℕ) → AreItems (list_by rinex3 bytes)
   pub head : (r : ℕ) (is : List NavItem) → lines_by false (sent_text r is) ≡ record { text = plain_head; long = false } ∷ sent_capture r is
   pub window : head_of plain_head ≡ Some (record { window = 7200; week = None })
-  pub lost : (r : ℕ) (is : List NavItem) (lines : List Line) → All IsItem is → IsOfLines lines (sent_capture r is) → IsStillHeard (sent_capture r is) lines
+  pub lost : (r : ℕ) (is : List NavItem) (lines : List Line) → All IsItem is → IsOfLines lines (sent_capture r is) → IsStillReceived (sent_capture r is) lines
       → items_in (periods_of r 7200 (parts_of 7200 lines)) ≡ sent_items r is
   pub reordered : (r : ℕ) (is : List NavItem) (lines : List Line) → All IsItem is → SameItems (line_items_of lines) (line_items_of (sent_capture r is))
       → NoneLate 7200 (line_items_of lines) → items_in (periods_of r 7200 (parts_of 7200 lines)) ≡ sent_items r is
-  pub repeated : (r : ℕ) (is : List NavItem) (lines : List Line) → All IsItem is → AreRepeats lines (sent_capture r is) → IsHeardAgain (sent_capture r is) lines
+  pub repeated : (r : ℕ) (is : List NavItem) (lines : List Line) → All IsItem is → AreRepeats lines (sent_capture r is) → IsReceivedAgain (sent_capture r is) lines
       → SameByType (items_in (periods_of r 7200 (parts_of 7200 lines))) (sent_items r is)
   pub repeats : (r : ℕ) (is : List NavItem) (lines : List Line) (part : Part) → All IsItem is → AreRepeats lines (sent_capture r is) → Contains (parts_of 7200 lines) part
       → (sent : Part) × Contains (parts_of 7200 (sent_capture r is)) sent × IsSentAgain part sent
@@ -168,11 +168,11 @@ module _ (laws : Laws) where
         ] in
         text_of_back of ∙ ap (items_text to) same
 
-    module _ (repeats : AreRepeats received.lines sent.lines) (heard : IsHeardAgain sent.lines received.lines) where
+    module _ (repeats : AreRepeats received.lines sent.lines) (heard : IsReceivedAgain sent.lines received.lines) where
       same_back : SameByType back (sent_items r is)
       same_back =
           laws.repeated r is received.lines all (subst (λ (l : List Line). AreRepeats received.lines l) sent_lines repeats)
-          (subst (λ (l : List Line). IsHeardAgain l received.lines) sent_lines heard)
+          (subst (λ (l : List Line). IsReceivedAgain l received.lines) sent_lines heard)
 
       pub as_repeated : IsOfItems to → (some : List NavItem) × SameByType some (sent_items r is) × (text ≡ items_text to some)
       as_repeated of = (back, same_back, text_of_back of)
@@ -185,6 +185,6 @@ module _ (laws : Laws) where
           let repeats_it : AreRepeats received.lines (sent_capture r is) = subst (λ (l : List Line). AreRepeats received.lines l) sent_lines repeats in
           let again : AreSentAgain (parts_of 7200 received.lines) (parts_of 7200 (sent_capture r is)) = record {
             each = λ p i. laws.repeats r is received.lines p all repeats_it i;
-            every = subst (λ (l : List Line). IsHeardAgain l received.lines) sent_lines heard;
+            every = subst (λ (l : List Line). IsReceivedAgain l received.lines) sent_lines heard;
           } in
           text_of_back of ∙ ap (items_text to) (laws.in_order r is received.lines all again never)

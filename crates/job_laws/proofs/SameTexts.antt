@@ -6,10 +6,10 @@ use Rattle.capture_lines.specs.declared.item.LineItem.{LineItem}
 use Rattle.periods.specs.PeriodsOf.{periods_of}
 use Rattle.periods.specs.declared.closed.Closed.{Closed}
 use Rattle.capture_log.specs.Events.{item_line}
-use Rattle.capture_log.specs.Heard.{NoneLate, SameItems}
+use Rattle.capture_log.specs.Received.{NoneLate, SameItems}
 use Rattle.capture_log.specs.Log.{line_items_of, parts_of}
 use Rattle.capture_log.proofs.Surface.{contains_from_in, in_from_contains, in_map, map_in}
-use Rattle.outlets.specs.Targets.{prefix_text}
+use Rattle.streams.specs.Targets.{prefix_text}
 use Rattle.captures.specs.Captures.{Capture, capture_of, output_of, periods, target_of, texts_of}
 use Rattle.captures.specs.Captures.{whole_text}
 use Rattle.captures.specs.declared.target.CaptureTo.{CaptureTo}

@@ -5,32 +5,32 @@ use Rattle.std.specs.Prelude.{Bool, nat_lt}
 use Rattle.std.proofs.lemmas.Bool.{both_ways}
 use Rattle.nav_eph.specs.Satellite.{Satellite}
 use Rattle.nav_eph.specs.declared.signal.Signal.{Signal}
-use Rattle.inav_page.specs.Heard.{StampedHalf, has_half, words_of, word_with}
+use Rattle.inav.specs.Received.{StampedHalf, has_half, words_of, word_with}
 use Rattle.capture_lines.specs.Late.{IsLate, greatest_stamp}
 use Rattle.capture_lines.specs.declared.item.LineItem.{LineItem}
 use Rattle.capture_lines.specs.declared.item.LineItem.TheVariants.{Pass, Lnav, Half, Frame, Malformed as MalformedItem}
 use Rattle.lnav_subframe.specs.Reading.{subframe_of}
 use Rattle.capture_log.specs.Events.{Known, events_of, half_of, is_alert, is_late, of_frame, of_subframe, of_words}
-use Rattle.capture_log.specs.Heard.{IsHalfHeard}
+use Rattle.capture_log.specs.Received.{IsHalfReceived}
 use Rattle.capture_log.specs.declared.event.Event.{Event}
 use Rattle.capture_log.specs.declared.event.Event.TheVariants.{Late, Unused}
 use Rattle.capture_log.proofs.Surface.{In, in_from_contains, contains_from_in}
 use Rattle.capture_log.proofs.Surface.{IsNewHalf, of_half_item}
 use Rattle.capture_log.proofs.Surface.{HalfLaws, Knows, half_heard, late_to}
-use Rattle.job_laws.specs.Counted.{ArePairsHeard, Pair, own_events, pairs_weight, weight_of}
+use Rattle.job_laws.specs.Counted.{ArePairsReceived, Pair, own_events, pairs_weight, weight_of}
 use Rattle.job_laws.proofs.Partners.{taken_weight}
 use Rattle.job_laws.proofs.PairLists.{new_pairs, pairs_more, pairs_stay}
 
 -- the pairs received with the item, and what it yields
 pub record IsStep (w : ℕ) (items : List LineItem) (known : Known) (item : LineItem) (pairs : List Pair) : Type 0 where
   pub more : List Pair
-  pub are : ArePairsHeard w (items ++ item ∷ []) (more ++ pairs)
+  pub are : ArePairsReceived w (items ++ item ∷ []) (more ++ pairs)
   pub weighs : (kind : Event → ℕ) → weight_of kind (events_of w known item)
       ≡ weight_of kind (own_events w items item) + pairs_weight kind more
 
 -- it yields what it yields by itself, and no pair is new
-quiet : (w : ℕ) (items : List LineItem) (known : Known) (item : LineItem) (pairs : List Pair) → ArePairsHeard w items pairs
-    → ((half : StampedHalf) → IsNewHalf w items item half → IsHalfHeard w items half)
+quiet : (w : ℕ) (items : List LineItem) (known : Known) (item : LineItem) (pairs : List Pair) → ArePairsReceived w items pairs
+    → ((half : StampedHalf) → IsNewHalf w items item half → IsHalfReceived w items half)
     → events_of w known item ≡ own_events w items item → IsStep w items known item pairs
 quiet w items known item pairs are none same = record {
   more = [];
@@ -64,7 +64,7 @@ nothing_there late alert true own = refl
 nothing_there late alert false own = refl
 
 module _ (laws : HalfLaws) (w : ℕ) (items : List LineItem) (known : Known) (knows : Knows w items known) (pairs : List Pair)
-    (are : ArePairsHeard w items pairs) where
+    (are : ArePairsReceived w items pairs) where
   -- whether a stamp is late, by what is known or by the items
   by_items : (stamp : ℕ) (events : List Event)
       → (if is_late w known stamp then Late ∷ [] else events)
@@ -109,7 +109,7 @@ module _ (laws : HalfLaws) (w : ℕ) (items : List LineItem) (known : Known) (kn
         (half_events false true there l a t ∙ sym (half_itself false true l a))
     half_by false false true l a t =
         quiet w items known item pairs are
-        (λ half new. subst (IsHalfHeard w items) (of_half_item half_of _ _ _ _ _ _ _ _ new.is ∙ sym new.half_is)
+        (λ half new. subst (IsHalfReceived w items) (of_half_item half_of _ _ _ _ _ _ _ _ new.is ∙ sym new.half_is)
         (knows.halves_to own ((laws.among known.halves own).0 t)))
         (half_events false false true l a t ∙ sym (half_itself false false l a))
     half_by false false false l a t =
@@ -130,7 +130,7 @@ module _ (laws : HalfLaws) (w : ℕ) (items : List LineItem) (known : Known) (kn
 
   no_half : (line : LineItem) → ((stamp : ℕ) (sat : Satellite) (signal : Signal) (bits : List ℕ)
       → line ≡ Half stamp sat signal bits → ⊥)
-      → (half : StampedHalf) → IsNewHalf w items line half → IsHalfHeard w items half
+      → (half : StampedHalf) → IsNewHalf w items line half → IsHalfReceived w items half
   no_half line other half new = absurd (other new.stamp new.sat new.signal new.bits new.is)
 
   pub step : (item : LineItem) → IsStep w items known item pairs

@@ -5,16 +5,16 @@ use Rattle.std.specs.Prelude.{Option, Some, None}
 use Rattle.nav_eph.specs.declared.part.Part.{Part}
 use Rattle.periods.specs.PeriodsOf.{periods_of}
 use Rattle.periods.specs.declared.closed.Closed.{Closed}
-use Rattle.outlets.specs.declared.target.Target.{Target}
-use Rattle.outlets.specs.Targets.{back_text, prefix_text}
+use Rattle.streams.specs.declared.target.Target.{Target}
+use Rattle.streams.specs.Targets.{back_text, prefix_text}
 use Rattle.captures.specs.Captures.{Capture, accepted_line, capture_of, counts_of, counts_text}
 use Rattle.captures.specs.Captures.{output_of, periods, texts_of, whole_text}
-use Rattle.job_laws.specs.LogHeard.{IsHeardAs, IsHeardBy, parts_heard}
+use Rattle.job_laws.specs.LogReceived.{IsReceivedAs, IsReceivedBy, parts_received}
 use Rattle.receiver_log.specs.declared.reception.Reception.{Reception}
 use Rattle.job_laws.specs.LogItems.{items_of_log}
 use Rattle.job_laws.specs.LogTaken.{IsTaken, IsTakenBy, log_output}
 
-pub taken : (week : ℕ) (log : List Reception) (text : List ℕ) → IsHeardAs week log text
+pub taken : (week : ℕ) (log : List Reception) (text : List ℕ) → IsReceivedAs week log text
     → IsTaken week log text
 unfolding accepted_line output_of
 taken week log text heard =
@@ -22,7 +22,7 @@ taken week log text heard =
     let is : capture_of None text ≡ Some capture = rw (heard.lines_are, heard.head_is) refl in
     let named : capture_of (Some week) text ≡ Some capture =
     rw (heard.lines_are, heard.head_is, eq-eqb week week refl) refl in
-    let same : periods capture ≡ periods_of week 7200 (parts_heard 7200 (items_of_log week log)) =
+    let same : periods capture ≡ periods_of week 7200 (parts_received 7200 (items_of_log week log)) =
     ap (λ (parts : List Part). periods_of week 7200 parts) heard.parts_are in
     let written : (to : Target) → whole_text to (Some capture)
     ≡ log_output to week log (counts_of capture) =
@@ -41,7 +41,7 @@ taken week log text heard =
       named_output_is = λ to. ap (λ (c : Option Capture). whole_text to c) named ∙ written to;
     }
 
-pub taken_by : (week : Option ℕ) (log : List Reception) (text : List ℕ) → IsHeardBy week log text
+pub taken_by : (week : Option ℕ) (log : List Reception) (text : List ℕ) → IsReceivedBy week log text
     → IsTakenBy week log text
 taken_by (Some week) log text heard = taken week log text heard
 taken_by None log text none = λ named. ap (λ t. capture_of named t) none

@@ -9,13 +9,13 @@ use Rattle.nav_eph.specs.declared.signal.Signal.{Signal}
 use Rattle.lnav_subframe.specs.Reading.{subframe_of}
 use Rattle.lnav_subframe.specs.declared.fault.LnavFault.{LnavFault}
 use Rattle.lnav_subframe.specs.declared.fault.LnavFault.TheVariants as subframes
-use Rattle.inav_page.specs.Heard.{StampedHalf, stamp_by}
-use Rattle.inav_page.specs.Pages.{kind_of}
-use Rattle.inav_word.specs.Reading.{reading_of}
-use Rattle.inav_word.specs.declared.parts.WordParts.{WordParts}
-use Rattle.inav_word.specs.declared.fault.WordFault.{WordFault}
-use Rattle.inav_word.specs.declared.fault.WordFault.TheVariants as words
-use Rattle.rtcm_frame.specs.State.{payload_of}
+use Rattle.inav.specs.Received.{StampedHalf, stamp_by}
+use Rattle.inav.specs.Pages.{kind_of}
+use Rattle.inav.specs.Reading.{reading_of}
+use Rattle.inav.specs.declared.parts.WordParts.{WordParts}
+use Rattle.inav.specs.declared.word_fault.WordFault.{WordFault}
+use Rattle.inav.specs.declared.word_fault.WordFault.TheVariants as words
+use Rattle.framing.specs.State.{payload_of}
 use Rattle.rtcm_eph.specs.Reading.{content_of, parts_of}
 use Rattle.rtcm_eph.specs.declared.fault.MessageFault.{MessageFault}
 use Rattle.rtcm_eph.specs.declared.fault.MessageFault.TheVariants as messages
@@ -28,9 +28,9 @@ use Rattle.capture_log.specs.Events.{Known, nothing_known, events_of, is_late, i
 use Rattle.capture_log.specs.Events.{of_subframe, of_second, of_word, of_message, of_frame}
 use Rattle.capture_log.specs.Events.{of_words, of_half}
 use Rattle.capture_log.specs.Log.{known_from, log_from}
-use Rattle.capture_log.specs.declared.event.Refusal.TheVariants as refusals
+use Rattle.capture_log.specs.declared.event.EventFault.TheVariants as refusals
 use Rattle.capture_log.specs.declared.event.Event.{Event}
-use Rattle.capture_log.specs.declared.event.Event.TheVariants.{Heard, Malformed, Late, Refused, Unused}
+use Rattle.capture_log.specs.declared.event.Event.TheVariants.{Received, Malformed, Late, Refused, Unused}
 use Rattle.capture_log.proofs.Surface.{In, in_from_contains, contains_from_in, in_flat_map}
 use Rattle.job_laws.specs.Places.{IsAt, IsLateLine, IsMalformedLine}
 use Rattle.job_laws.proofs.Yielded.{IsYielded, note, log_to, log_from_yielded, greatest_from}
@@ -39,7 +39,7 @@ use Rattle.job_laws.proofs.Yielded.{IsYielded, note, log_to, log_from_yielded, g
 
 -- the event is one that the content of a line yields
 abbrev IsReading : Event → Type 0
-IsReading (Heard part) = Unit {0}
+IsReading (Received part) = Unit {0}
 IsReading Malformed = ⊥
 IsReading Late = ⊥
 IsReading (Refused reason) = Unit {0}

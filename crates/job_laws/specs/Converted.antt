@@ -1,7 +1,7 @@
 -- What is written of a capture: the items of the periods of the parts received, which can be read back.
 use Rattle.std.specs.Prelude.{◌≡◌, ℕ, List, map, Contains, Ok}
 use Rattle.std.specs.List.{flat_map}
-use Rattle.gnss_week.specs.Weeks.{IsNearGalileo, IsNearGps, IsReference}
+use Rattle.nav_eph.specs.Weeks.{IsNearGalileo, IsNearGps, IsReference}
 use Rattle.nav_eph.specs.Items.{unsent}
 use Rattle.nav_eph.specs.declared.items.NavItem.{NavItem}
 use Rattle.nav_eph.specs.declared.items.NavItem.TheVariants.{Gps, Gal, Ion}
@@ -12,17 +12,17 @@ use Rattle.rinex_write.specs.Texts3.{ephemerides, rinex3_text}
 use Rattle.rinex_write.specs.declared.words.HeaderWords.{HeaderWords}
 use Rattle.rinex_read.specs.Files.{rinex_list}
 use Rattle.rinex_read.specs.Form3.{rinex3_list}
-use Rattle.rtcm_frame.specs.Frames.{frames}
-use Rattle.rtcm_frame.specs.State.{payload_of}
+use Rattle.framing.specs.Frames.{frames}
+use Rattle.framing.specs.State.{payload_of}
 use Rattle.rtcm_eph.specs.Reading.{item_in}
-use Rattle.outlets.specs.ItemTexts.{rtcm_item}
-use Rattle.capture_log.specs.Heard.{IsPartHeard}
+use Rattle.streams.specs.ItemTexts.{rtcm_item}
+use Rattle.capture_log.specs.Received.{IsPartReceived}
 use Rattle.capture_log.specs.Log.{line_items_of}
 use Rattle.captures.specs.Captures.{Capture}
 
 -- the list of the periods of the parts that are received in the capture
-abbrev pub ArePeriodsHeard : Capture → List Closed → Type 0
-ArePeriodsHeard c periods = ArePeriods c.week c.window (IsPartHeard c.window (line_items_of c.lines)) periods
+abbrev pub ArePeriodsReceived : Capture → List Closed → Type 0
+ArePeriodsReceived c periods = ArePeriods c.week c.window (IsPartReceived c.window (line_items_of c.lines)) periods
 
 -- the toe week of an ephemeris is the one that its truncated week number resolves to near the reference week r
 abbrev pub IsNear : ℕ → NavItem → Type 0
@@ -39,7 +39,7 @@ AreSent items =
 -- the text is that of the items of the periods received; it reads back as these, and the RTCM message of each ephemeris as it
 pub record IsConverted (c : Capture) (header : HeaderWords) (text : List ℕ) : Type 0 where
   pub periods : List Closed
-  pub are : ArePeriodsHeard c periods
+  pub are : ArePeriodsReceived c periods
   pub text_is : text ≡ rinex_text header (items_in periods)
   pub back : rinex_list text ≡ items_in periods
   pub messages : AreSent (items_in periods)
@@ -47,7 +47,7 @@ pub record IsConverted (c : Capture) (header : HeaderWords) (text : List ℕ) : 
 -- the same in RINEX 3, which has no ionosphere records
 pub record IsConverted3 (c : Capture) (header : HeaderWords) (text : List ℕ) : Type 0 where
   pub periods : List Closed
-  pub are : ArePeriodsHeard c periods
+  pub are : ArePeriodsReceived c periods
   pub text_is : text ≡ rinex3_text header (items_in periods)
   pub back : rinex3_list text ≡ ephemerides (items_in periods)
 
@@ -55,7 +55,7 @@ pub record IsConverted3 (c : Capture) (header : HeaderWords) (text : List ℕ) :
 -- ephemeris
 pub record IsFramed (c : Capture) (text : List ℕ) : Type 0 where
   pub periods : List Closed
-  pub are : ArePeriodsHeard c periods
+  pub are : ArePeriodsReceived c periods
   pub text_is : text ≡ flat_map rtcm_item (items_in periods)
   pub frames_are : frames text ≡ map rtcm_item (ephemerides (items_in periods))
   pub messages : AreSent (items_in periods)

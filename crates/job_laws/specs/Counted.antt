@@ -1,12 +1,12 @@
 -- What is counted of a log: the events of each item alone, and those of each I/NAV word that is received.
 use Rattle.std.specs.Prelude.{◌↔◌, ℕ, ◌+◌, List, [], ◌∷◌, ◌++◌, map, sum, Contains}
-use Rattle.inav_page.specs.Pages.{word_of}
-use Rattle.inav_page.specs.Heard.{StampedHalf, IsHeard}
-use Rattle.inav_word.specs.Reading.{reading_of}
+use Rattle.inav.specs.Pages.{word_of}
+use Rattle.inav.specs.Received.{StampedHalf, IsReceived}
+use Rattle.inav.specs.Reading.{reading_of}
 use Rattle.capture_lines.specs.Late.{greatest_stamp}
 use Rattle.capture_lines.specs.declared.item.LineItem.{LineItem}
 use Rattle.capture_log.specs.Events.{events_of, of_word}
-use Rattle.capture_log.specs.Heard.{IsHalfHeard}
+use Rattle.capture_log.specs.Received.{IsHalfReceived}
 use Rattle.capture_log.specs.Log.{Noted}
 use Rattle.capture_log.specs.declared.event.Event.{Event}
 
@@ -25,9 +25,9 @@ IsOnce [] = Unit {0}
 IsOnce (x ∷ xs) = (Contains xs x → ⊥) × IsOnce xs
 
 -- the pairs of page parts that are received in the items, each once
-pub record ArePairsHeard (window : ℕ) (items : List LineItem) (pairs : List Pair) : Type 0 where
+pub record ArePairsReceived (window : ℕ) (items : List LineItem) (pairs : List Pair) : Type 0 where
   pub once : IsOnce pairs
-  pub each : (p : Pair) → Contains pairs p ↔ IsHeard (IsHalfHeard window items) p.even p.odd
+  pub each : (p : Pair) → Contains pairs p ↔ IsReceived (IsHalfReceived window items) p.even p.odd
 
 -- the events of an item alone, after those before it: all but the words that a page part completes
 abbrev pub own_events : ℕ → List LineItem → LineItem → List Event

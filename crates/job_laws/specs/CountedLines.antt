@@ -2,7 +2,7 @@
 use Rattle.std.specs.Prelude.{◌≡◌, ℕ, ◌+◌, List, [], length}
 use Rattle.periods.specs.PeriodLists.{items_in}
 use Rattle.periods.specs.declared.closed.Closed.{Closed}
-use Rattle.outlets.specs.Times.{times_of}
+use Rattle.streams.specs.Times.{times_of}
 use Rattle.capture_log.specs.Log.{line_items_of}
 use Rattle.capture_log.specs.declared.event.Event.{Event}
 use Rattle.job_laws.specs.Counted.{Pair, own_weight, pairs_weight}

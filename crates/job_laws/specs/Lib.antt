@@ -6,7 +6,7 @@ pub mod CountedLines
 pub mod Written
 pub mod RoundTrip
 pub mod LogItems
-pub mod LogHeard
+pub mod LogReceived
 pub mod LogTaken
 pub mod Told
 pub mod RinexRecords

@@ -2,15 +2,15 @@
 use Rattle.std.specs.Prelude.{ℕ, ◌-◌, ◌*◌, ◌/◌, List, [], ◌∷◌, ◌++◌, Option, Some, None}
 use Rattle.capture_lines.specs.declared.item.LineItem.{LineItem}
 use Rattle.capture_lines.specs.declared.item.LineItem.TheVariants.{Lnav, Half}
-use Rattle.receiver_messages.specs.Words.{read_words, subframe_bytes}
-use Rattle.receiver_messages.specs.declared.said.Content.{Content}
-use Rattle.receiver_messages.specs.declared.said.Content.TheVariants.{Refused, Subframe, Page}
-use Rattle.receiver_messages.specs.declared.said.Reason.{Reason}
+use Rattle.receiver_log.specs.Words.{read_words, subframe_bytes}
+use Rattle.receiver_log.specs.declared.content.LogContent.{LogContent}
+use Rattle.receiver_log.specs.declared.content.LogContent.TheVariants.{Refused, Subframe, Page}
+use Rattle.receiver_log.specs.declared.content.LogReason.{LogReason}
 use Rattle.receiver_log.specs.declared.reception.Reception.{Reception}
 use Rattle.receiver_log.specs.Log.{reason_in}
 
 -- the second of its first line: the even part of a page was transmitted a second before its time
-abbrev pub first_second : Option ℕ → Content → Option ℕ
+abbrev pub first_second : Option ℕ → LogContent → Option ℕ
 first_second None content = None
 first_second (Some time) (Refused reason) = None
 first_second (Some time) (Subframe sat words) = Some time
@@ -27,12 +27,12 @@ week_of_log [] = None
 week_of_log (x ∷ xs) = week_before (first_second x.time x.content) (week_of_log xs)
 
 -- the items, or none if there is a reason against them
-abbrev pub unless : Option Reason → List LineItem → List LineItem
+abbrev pub unless : Option LogReason → List LineItem → List LineItem
 unless None items = items
 unless (Some reason) items = []
 
 -- the items of a subframe or of a page in a capture of this week
-abbrev pub items_at : ℕ → Option ℕ → Content → List LineItem
+abbrev pub items_at : ℕ → Option ℕ → LogContent → List LineItem
 items_at week None content = []
 items_at week (Some time) (Refused reason) = []
 items_at week (Some time) (Subframe sat words) =

@@ -2,12 +2,12 @@
 use Rattle.std.specs.Prelude.{◌≡◌, ◌++◌, ℕ, List, Option, Some, None}
 use Rattle.capture_log.specs.Log.{line_items_of, parts_of}
 use Rattle.periods.specs.PeriodsOf.{periods_of}
-use Rattle.outlets.specs.declared.target.Target.{Target}
-use Rattle.outlets.specs.Targets.{back_text, prefix_text}
+use Rattle.streams.specs.declared.target.Target.{Target}
+use Rattle.streams.specs.Targets.{back_text, prefix_text}
 use Rattle.captures.specs.declared.counts.CaptureCounts.{CaptureCounts}
 use Rattle.captures.specs.Captures.{Capture, capture_of, counts_of, counts_text, output_of, periods}
 use Rattle.captures.specs.Captures.{texts_of}
-use Rattle.job_laws.specs.LogHeard.{parts_heard}
+use Rattle.job_laws.specs.LogReceived.{parts_received}
 use Rattle.receiver_log.specs.declared.reception.Reception.{Reception}
 use Rattle.job_laws.specs.LogItems.{items_of_log, week_of_log}
 
@@ -16,7 +16,7 @@ use Rattle.job_laws.specs.LogItems.{items_of_log, week_of_log}
 abbrev pub log_output : Target → ℕ → List Reception → CaptureCounts → List ℕ
 log_output to week log counts =
     prefix_text to
-    ++ (texts_of to (periods_of week 7200 (parts_heard 7200 (items_of_log week log)))
+    ++ (texts_of to (periods_of week 7200 (parts_received 7200 (items_of_log week log)))
     ++ back_text to (counts_text counts))
 
 -- The text is a capture, whether or not the arguments name its week: it has the log's week, a
@@ -29,9 +29,9 @@ pub record IsTaken (week : ℕ) (log : List Reception) (text : List ℕ) : Type 
   pub week_is : capture.week ≡ week
   pub window_is : capture.window ≡ 7200
   pub items_are : line_items_of capture.lines ≡ items_of_log week log
-  pub parts_are : parts_of 7200 capture.lines ≡ parts_heard 7200 (items_of_log week log)
+  pub parts_are : parts_of 7200 capture.lines ≡ parts_received 7200 (items_of_log week log)
   pub periods_are :
-      periods capture ≡ periods_of week 7200 (parts_heard 7200 (items_of_log week log))
+      periods capture ≡ periods_of week 7200 (parts_received 7200 (items_of_log week log))
   pub output_is : (to : Target)
       → output_of to None text ≡ log_output to week log (counts_of capture)
   pub named_output_is : (to : Target)

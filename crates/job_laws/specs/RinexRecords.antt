@@ -7,9 +7,9 @@ use Rattle.scaled_decimal.specs.ScaleValue.{size_of}
 use Rattle.scaled_decimal.specs.Grammar.{AreDecimals, number_behind}
 use Rattle.scaled_decimal.specs.NumberText.{digits}
 use Rattle.scaled_decimal.specs.NumberReading.{AreBlanks, StandsFor, trim_start, trim_end}
-use Rattle.gnss_week.specs.Weeks.{IsMoment, IsNearestMoment}
-use Rattle.gnss_week.specs.Dates.{IsCivilOf}
-use Rattle.gnss_week.specs.declared.calendar.Civil.{Civil}
+use Rattle.nav_eph.specs.Weeks.{IsMoment, IsNearestMoment}
+use Rattle.nav_eph.specs.Dates.{IsCivilOf}
+use Rattle.nav_eph.specs.declared.calendar.Civil.{Civil}
 use Rattle.nav_eph.specs.Satellite.{Satellite}
 use Rattle.nav_eph.specs.Items.{gps_toe_moment, galileo_toe_moment}
 use Rattle.nav_eph.specs.Ranges.{IsGpsItem, IsGalItem, IsIonItem}

@@ -8,15 +8,15 @@ use Rattle.rinex_write.specs.Texts3.{rinex3_text}
 use Rattle.rinex_read.specs.Files.{file_reads, rinex_list}
 use Rattle.rinex_read.specs.Form3.{rinex3, rinex3_list}
 use Rattle.rinex_read.specs.Forms.{rinex4}
-use Rattle.outlets.specs.ItemTexts.{rtcm_item}
-use Rattle.capture_log.specs.Heard.{NoneLate, SameItems}
+use Rattle.streams.specs.ItemTexts.{rtcm_item}
+use Rattle.capture_log.specs.Received.{NoneLate, SameItems}
 use Rattle.capture_log.specs.Log.{line_items_of}
 use Rattle.captures.specs.Captures.{Capture, capture_of}
 use Rattle.captures.specs.declared.target.CaptureTo.{CaptureTo}
 use Rattle.captures.specs.declared.target.CaptureTo.TheVariants.{Rinex, Rinex3, Rtcm, ToList, Count}
 use Rattle.bridge_engine.specs.Job.{IsJob}
 use Rattle.bridge_engine.specs.declared.job.Job.TheVariants.{SendRinex, SendRinex3}
-use Rattle.nav_laws.specs.SentCapture.{IsOfLines, IsStillHeard}
+use Rattle.nav_laws.specs.SentCapture.{IsOfLines, IsStillReceived}
 use Rattle.job_laws.specs.Written.{ConvertCapture, IsWritten}
 
 -- the arguments name a navigation file to be written as a capture near the week r; the file is
@@ -30,7 +30,7 @@ Sends words r file items =
 -- repeated or not, none late.
 abbrev pub AreReceived : List Line → List Line → Type 0
 AreReceived sent received =
-    (IsOfLines received sent × IsStillHeard sent received)
+    (IsOfLines received sent × IsStillReceived sent received)
     ⊎ (SameItems (line_items_of received) (line_items_of sent) × NoneLate 7200 (line_items_of received))
 
 -- the text of items in this format

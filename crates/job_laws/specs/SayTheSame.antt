@@ -1,6 +1,6 @@
 -- Captures with the same output.
 use Rattle.std.specs.Prelude.{◌≡◌}
-use Rattle.capture_log.specs.Heard.{NoneLate, SameItems}
+use Rattle.capture_log.specs.Received.{NoneLate, SameItems}
 use Rattle.capture_log.specs.Log.{line_items_of}
 use Rattle.captures.specs.Captures.{Capture}
 use Rattle.captures.specs.declared.target.CaptureTo.{CaptureTo}

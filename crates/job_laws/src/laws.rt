@@ -5,19 +5,19 @@ ghost use Rattle.nav_io.specs.Lines.{Line};
 ghost use Rattle.capture_lines.specs.declared.item.LineItem.{LineItem};
 ghost use Rattle.periods.specs.PeriodLists.{ArePeriods, items_in};
 ghost use Rattle.periods.specs.declared.closed.Closed.{Closed};
-ghost use Rattle.gnss_week.specs.Weeks.{IsReference};
+ghost use Rattle.nav_eph.specs.Weeks.{IsReference};
 ghost use Rattle.rinex_write.specs.Texts.{IsHeader};
 ghost use Rattle.rinex_write.specs.declared.words.HeaderWords.{HeaderWords};
-ghost use Rattle.outlets.specs.declared.target.Target.TheVariants as targets;
-ghost use Rattle.capture_log.specs.Heard.{IsPartHeard, SameItems};
+ghost use Rattle.streams.specs.declared.target.Target.TheVariants as targets;
+ghost use Rattle.capture_log.specs.Received.{IsPartReceived, SameItems};
 ghost use Rattle.capture_log.specs.Log.{line_items_of};
-ghost use Rattle.job_laws.specs.Counted.{ArePairsHeard, Pair};
+ghost use Rattle.job_laws.specs.Counted.{ArePairsReceived, Pair};
 ghost use Rattle.captures.specs.Captures.{Capture, capture_meaning, capture_of, counts_of};
 ghost use Rattle.captures.specs.Captures.{output_of};
 ghost use Rattle.captures.specs.declared.target.CaptureTo.{CaptureTo};
 ghost use Rattle.captures.specs.declared.target.CaptureTo.TheVariants.{Rinex, Rinex3, Rtcm};
 ghost use Rattle.bridge_engine.specs.CaptureBytes.{IsCapture, StandFor};
-ghost use Rattle.job_laws.specs.Converted.{ArePeriodsHeard, ComeBack, IsConverted, IsConverted3};
+ghost use Rattle.job_laws.specs.Converted.{ArePeriodsReceived, ComeBack, IsConverted, IsConverted3};
 ghost use Rattle.job_laws.specs.Converted.{IsFramed};
 ghost use Rattle.job_laws.specs.CountedLines.{CountLines, CountPeriods};
 ghost use Rattle.job_laws.specs.SayTheSame.{IsOfPeriods, SayTheSame};
@@ -48,7 +48,8 @@ pub fn order_of_lines_changes_no_text()
 /// Each count of a capture's report is a number of events: those of each line alone, and those of
 /// each word received, once, in whatever order the pairs of page parts are listed.
 pub fn counts_are_of_lines_and_words()
-    ensures { (c : Capture) (pairs : List Pair) → ArePairsHeard c.window (line_items_of c.lines) pairs
+    ensures { (c : Capture) (pairs : List Pair)
+        → ArePairsReceived c.window (line_items_of c.lines) pairs
         → CountLines c pairs (counts_of c) }
 {
     crate::counted::events_are_counted();
@@ -57,10 +58,10 @@ pub fn counts_are_of_lines_and_words()
 /// Each other count is the number of periods with its verdict, in the list of exactly the periods
 /// of the parts received.
 pub fn counts_are_of_periods()
-    ensures { (c : Capture) (periods : List Closed) → ArePeriodsHeard c periods
+    ensures { (c : Capture) (periods : List Closed) → ArePeriodsReceived c periods
         → CountPeriods periods (counts_of c) }
 {
-    capture_log::lines_yield_what_is_heard();
+    capture_log::lines_yield_what_is_received();
 }
 
 /// The output for a capture is the text of the items of the periods of the parts received, and
@@ -77,10 +78,10 @@ pub fn converted_captures_come_back()
         → IfSome week IsReference → capture_of week bytes ≡ Some c
         → IsFramed c (output_of targets.Rtcm week bytes) }
 {
-    capture_log::periods_heard();
+    capture_log::periods_received();
     capture_lines::each_first_line_is_one_head();
-    rtcm_frame::written_frames_are_whole();
-    rtcm_frame::frames_behind_a_written_frame();
+    framing::written_frames_are_whole();
+    framing::frames_behind_a_written_frame();
     rtcm_eph::item_function();
     rtcm_eph::message_bytes();
     rtcm_eph::sent_1019_is_read();
@@ -115,10 +116,10 @@ pub fn what_the_main_theorem_states_comes_back()
         (capture : Capture) (items : List LineItem) (periods : List Closed)
         → ConvertCapture words (Rinex header) week
         → IsCapture week bytes capture → StandFor capture.lines items
-        → ArePeriods capture.week capture.window (IsPartHeard capture.window items) periods
+        → ArePeriods capture.week capture.window (IsPartReceived capture.window items) periods
         → ComeBack header (items_in periods) }
 {
-    bridge_engine::captures_are_told();
-    capture_log::lines_yield_what_is_heard();
+    bridge_engine::captures_are_selected();
+    capture_log::lines_yield_what_is_received();
     converted_captures_come_back();
 }

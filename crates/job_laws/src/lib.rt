@@ -7,17 +7,20 @@
 //!
 //! Of the format of a file (`whole_file`):
 //!
-//! - [`accepted_bytes_tell_their_form`]: what a conversion accepts is recognised as its format by
+//! - [`accepted_bytes_decide_their_format`]: what a conversion accepts is recognised as its format
+//! by
 //!   its first line.
 //!
 //! Of the log of a capture (`capture_log`):
 //!
-//! - [`late_lines_are_told`]: a line is late exactly if one before it has a time tag that is later
+//! - [`late_lines_are_reported`]: a line is late exactly if one before it has a time tag that is
+//! later
 //!   by more than the window;
 //! - [`events_are_counted`]: a count is the sum over each line alone and over each word received,
 //!   once;
 //! - [`pairs_are_counted_once`]: the order in which the words received are listed does not matter;
-//! - [`refused_lines_are_told`]: a line is rejected for a reason exactly if its subframe or frame
+//! - [`rejected_lines_are_reported`]: a line is rejected for a reason exactly if its subframe or
+//! frame
 //!   is, or a word that it completes; and the log is in the order of the lines.
 //!
 //! Of a conversion of a capture:
@@ -44,9 +47,10 @@
 //!
 //! Of the log of a receiver (`receiver_log`) and its capture:
 //!
-//! - [`a_log_is_heard_through_its_capture`]: the parts received from the capture are those that the
+//! - [`a_log_is_received_through_its_capture`]: the parts received from the capture are those that
+//! the
 //!   messages of the log carry;
-//! - [`a_heard_log_is_a_capture`], from the lines of a capture to its week, window and periods;
+//! - [`a_received_log_is_a_capture`], from the lines of a capture to its week, window and periods;
 //! - [`a_log_is_converted_through_its_capture`], the same from the bytes of a log.
 #![tactic(auto)]
 
@@ -58,17 +62,18 @@ mod records;
 mod round_trip;
 
 pub use crate::counted::{
-    events_are_counted, late_lines_are_told, pairs_are_counted_once, refused_lines_are_told,
+    events_are_counted, late_lines_are_reported, pairs_are_counted_once,
+    rejected_lines_are_reported,
 };
-pub use crate::forms::accepted_bytes_tell_their_form;
+pub use crate::forms::accepted_bytes_decide_their_format;
 pub use crate::laws::{
     converted_captures_come_back, counts_are_of_lines_and_words, counts_are_of_periods,
     order_of_lines_changes_no_text, what_is_converted_comes_back,
     what_the_main_theorem_states_comes_back,
 };
 pub use crate::logs::{
-    a_heard_log_is_a_capture, a_log_is_converted_through_its_capture,
-    a_log_is_heard_through_its_capture,
+    a_log_is_converted_through_its_capture, a_log_is_received_through_its_capture,
+    a_received_log_is_a_capture,
 };
 pub use crate::records::{
     files_give_their_items, headers_have_their_columns, records_give_their_items,

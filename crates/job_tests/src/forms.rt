@@ -150,7 +150,7 @@ static PREFIXES: [Prefix; 26] = [
 ];
 
 #[test]
-fn prefixes_tell_forms(rt: HostRuntime) {
+fn prefixes_decide_formats(rt: HostRuntime) {
     for prefix in &PREFIXES {
         let read = kind_text(kind_of(prefix.bytes));
         assert_eq!(rt; read, kind_text(prefix.kind), "{}", prefix.name);
@@ -183,7 +183,8 @@ static LOGS: [Log; 3] = [
         last: 23,
         kind: Kind::Sbf,
     },
-    // the message 1005 of the standard's example (RTCM 10403.3, 4.2), whose sixth byte is a preamble
+    // the message 1005 of the standard's example (RTCM 10403.3, 4.2), whose sixth byte is a
+    // preamble
     Log {
         name: "rtcm",
         bytes: b"\xd3\x00\x13\x3e\xd7\xd3\x02\x02\x98\x0e\xde\xef\x34\xb4\xbd\x62\xac\x09\x41\x98\
@@ -211,7 +212,7 @@ fn is_told(alloc: Global, bytes: &[u8], kind: Kind) -> Result<bool, AllocError> 
 }
 
 #[test]
-fn logs_that_are_cut_tell_forms(rt: HostRuntime) -> Result<(), Fail> {
+fn logs_that_are_cut_decide_formats(rt: HostRuntime) -> Result<(), Fail> {
     for log in &LOGS {
         for cut in 0..40 {
             if cut <= log.last {

@@ -75,7 +75,7 @@ fn bytes_that_were_looked_at_come_again(rt: HostRuntime) -> Result<(), Fail> {
 }
 
 #[test]
-fn read_that_fails_is_told(rt: HostRuntime) -> Result<(), Fail> {
+fn read_that_fails_is_reported(rt: HostRuntime) -> Result<(), Fail> {
     let mut peeked = Peeked::new(rt.alloc(), source_of(rt.alloc(), TEXT, 1)?);
     let is_first = look_on(&mut peeked).is_ok();
     assert!(rt; is_first && matches!(look_on(&mut peeked), Err(PeekFault::ReadFault)));

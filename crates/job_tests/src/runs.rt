@@ -4,16 +4,16 @@ ghost use Rattle.std.specs.Prelude.{◌≡◌};
 
 use bridge_engine::BridgeFault;
 use file_conversion::{
-    Kinds, Made, Observers, Outcome, Plan, Refusal, Sourced, Stop, Target, Teller, convert_one,
+    Kinds, Made, Observers, Outcome, Plan, Refusal, Reporter, Sourced, Stop, Target, convert_one,
     convert_source, finish, kind_text,
 };
-use gnss_week::RefWeek;
+use nav_eph::RefWeek;
 use nav_io::{Failed, MemSink, MemSource};
 use receiver_log::Nobody;
 use rinex_write::HeaderWords;
 use std::alloc::{AllocError, Global};
 use std::test::Fail;
-use whole_file::{Given, MemFolder, Untold};
+use whole_file::{Given, MemFolder, NoProgress};
 
 // How a conversion ended, with what is said of the form under which the file was read.
 #[derive(Clone, Copy, PartialEq, Eq)]
@@ -182,11 +182,11 @@ fn header_words() -> HeaderWords {
 }
 
 // Nobody but a report is told.
-fn observers(alloc: Global) -> Result<Observers<MemSink, Nobody, Untold>, AllocError> {
+fn observers(alloc: Global) -> Result<Observers<MemSink, Nobody, NoProgress>, AllocError> {
     Ok(Observers {
         report: MemSink::new(alloc, 1000, Vec::new(alloc))?,
         refusals: Nobody,
-        progress: Untold,
+        progress: NoProgress,
     })
 }
 
@@ -197,7 +197,7 @@ struct Hearer {
     faults: u64,
 }
 
-impl Teller<MemSink> for Hearer {
+impl Reporter<MemSink> for Hearer {
     ghost faults = { λ s. s.faults };
 
     ghost told = { λ _ _. Unit {0} };

@@ -1,7 +1,7 @@
 //! Names of outputs, and sentences.
 
 use file_conversion::{Refusal, is_site, long_name, output_name};
-use gnss_week::Moment;
+use nav_eph::Moment;
 use std::alloc::{AllocError, Global};
 use std::test::Fail;
 use whole_file::{FileFault, Kind};

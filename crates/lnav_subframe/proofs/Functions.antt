@@ -186,14 +186,14 @@ given_is p q e = cc
 no_ok : {X E : Type 0} {x : E} {y : X} → Err x ≡ Ok y → ⊥
 no_ok e = cc
 
-heard_is : (sat : Satellite) (stamp : ℕ) (r : Result Body LnavFault) (part : Part) → heard sat stamp r ≡ Ok part → (part.stamp ≡ stamp) × (part.sat ≡ sat) × (r ≡ Ok part.body)
-heard_is sat stamp (Ok body) part e = let f = given_is (record { stamp = stamp; sat = sat; body = body }) part e in (sym (ap (λ (p : Part). p.stamp) f), sym (ap (λ (p : Part). p.sat) f), ap (λ (p : Part). Ok p.body) f)
-heard_is sat stamp (Err fault) part e = absurd (no_ok e)
+received_is : (sat : Satellite) (stamp : ℕ) (r : Result Body LnavFault) (part : Part) → heard sat stamp r ≡ Ok part → (part.stamp ≡ stamp) × (part.sat ≡ sat) × (r ≡ Ok part.body)
+received_is sat stamp (Ok body) part e = let f = given_is (record { stamp = stamp; sat = sat; body = body }) part e in (sym (ap (λ (p : Part). p.stamp) f), sym (ap (λ (p : Part). p.sat) f), ap (λ (p : Part). Ok p.body) f)
+received_is sat stamp (Err fault) part e = absurd (no_ok e)
 
 stands_by : (bits : List ℕ) (sat : Satellite) (stamp : ℕ) (w : Option ℕ) (part : Part) → HasPreamble bits → Judged (upright bits) 0 10 w
     → by_words (upright bits) sat stamp w ≡ Ok part → StandsFor bits sat stamp part
 stands_by bits sat stamp None part begins good e =
-    let h = heard_is sat stamp (content (data_bits_of (upright bits))) part e in (h.0, h.1, (data_bits_of (upright bits), whole bits begins good, h.2))
+    let h = received_is sat stamp (content (data_bits_of (upright bits))) part e in (h.0, h.1, (data_bits_of (upright bits), whole bits begins good, h.2))
 stands_by bits sat stamp (Some word) part begins bad e = absurd (no_ok e)
 
 pub stands : (bits : List ℕ) (sat : Satellite) (stamp : ℕ) (part : Part) → subframe_of bits sat stamp ≡ Ok part → StandsFor bits sat stamp part

@@ -1,5 +1,5 @@
 ghost use Rattle.std.specs.Prelude.{◌≡◌, ◌<◌};
-ghost use Rattle.gnss_week.specs.Weeks.{IsSecond};
+ghost use Rattle.nav_eph.specs.Weeks.{IsSecond};
 ghost use Rattle.lnav_subframe.specs.Reading.{content, page_of, start_second};
 ghost use Rattle.lnav_subframe.specs.Reading.{read_1, read_2, read_3, read_18};
 
@@ -8,9 +8,8 @@ use crate::fault::LnavFault;
 use crate::head::Head;
 use crate::orbit::{Subframe2, Subframe3};
 use crate::page18::Page18;
-use gnss_week::Second;
 use nav_bits::{BitForm, Bits, U};
-use nav_eph::{Body, GpsClock, GpsIon, GpsOrbitA, GpsOrbitB, GpsSide, SentTag, Step16};
+use nav_eph::{Body, GpsClock, GpsIon, GpsOrbitA, GpsOrbitB, GpsSide, Second, SentTag, Step16};
 
 // The subframes of a week, one every 6 s.
 const SUBFRAMES_OF_WEEK: u64 = 100_800;

@@ -50,7 +50,8 @@ pub fn subframe_parts()
 
 /// `subframe_bytes` gives the only 38 bytes in which a subframe is written with a TOW count.
 pub fn subframes_are_the_function()
-    ensures { (body : SubframeOut) (tow_count : ℕ) (bits : List ℕ) → HasBits body → tow_count < 100800 →
+    ensures { (body : SubframeOut) (tow_count : ℕ) (bits : List ℕ) → HasBits body
+        → tow_count < 100800 →
         AreBytes 38 bits → IsWritten body tow_count bits → bits ≡ subframe_bytes body tow_count }
 {}
 
@@ -59,7 +60,8 @@ pub fn subframes_are_the_function()
 pub fn subframe_bytes_are_written()
     ensures written { (body : SubframeOut) (tow_count : ℕ) → HasBits body → tow_count < 100800 →
         IsWritten body tow_count (subframe_bytes body tow_count) }
-    ensures size { (body : SubframeOut) (tow_count : ℕ) → AreBytes 38 (subframe_bytes body tow_count) }
+    ensures size { (body : SubframeOut) (tow_count : ℕ)
+        → AreBytes 38 (subframe_bytes body tow_count) }
     ensures read { (body : SubframeOut) (tow_count : ℕ) (sat : Satellite) (stamp : ℕ) →
         HasBits body → tow_count < 100800 → IsWritable body →
         subframe_of (subframe_bytes body tow_count) sat stamp ≡

@@ -8,4 +8,16 @@ pub mod TwosComplement
 pub mod WholeNumbers
 pub mod PackedFields
 mod OnePut
+pub mod NavBitsSurface
+pub mod SumLaws
+pub mod RegisterLaws
+pub mod TableLemmas
+pub mod EntryLemmas
+pub mod DivisionLemmas
+pub mod LookupLemmas
+pub mod StepLemmas
+pub mod MoverLemmas
+pub mod MessageLemmas
+pub mod BitLemmas
+pub mod CrcSurface
 pub mod Surface

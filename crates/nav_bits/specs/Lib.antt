@@ -4,3 +4,7 @@ pub mod Signed
 pub mod Laws
 pub mod Packed
 pub mod Mirrors
+pub mod Division
+pub mod Register
+pub mod BitLists
+pub mod Movers

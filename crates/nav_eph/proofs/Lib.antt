@@ -1,5 +1,12 @@
+pub mod ComputedDates
+pub mod DateFunctions
+pub mod Days
+pub mod WeekFunctions
+pub mod NearWeeks
+pub mod GnssWeekSurface
 pub mod BitPatternLemmas
 pub mod NumberLemmas
 pub mod SameFields
 pub mod RankLemmas
+pub mod EphSurface
 pub mod Surface

@@ -1,7 +1,7 @@
 -- The ranges of the fields that are compared as numbers.
 use Rattle.std.specs.Prelude.{◌^◌, ◌<◌}
 use Rattle.nav_bits.specs.Signed.{IsSigned}
-use Rattle.gnss_week.specs.Weeks.{IsSecond}
+use Rattle.nav_eph.specs.Weeks.{IsSecond}
 use Rattle.nav_eph.specs.declared.gps.GpsSide.{GpsSide}
 use Rattle.nav_eph.specs.declared.galileo.GalHealth.{GalHealth}
 use Rattle.nav_eph.specs.declared.ion.GpsIon.{GpsIon}

@@ -1,6 +1,6 @@
 -- Conditions on ephemerides and ionospheric parameters, and equality but for the transmission time.
 use Rattle.std.specs.Prelude.{◌≡◌, ℕ, ◌+◌, ◌*◌, pos, neg_ℤ, ◌≤ℤ◌, Bool}
-use Rattle.gnss_week.specs.Weeks.{IsWeek, week_of}
+use Rattle.nav_eph.specs.Weeks.{IsWeek, week_of}
 use Rattle.nav_eph.specs.Ranks.{rank, same_numbers, whole_rank}
 use Rattle.nav_eph.specs.Satellite.{Satellite}
 use Rattle.nav_eph.specs.declared.sat.System.{System}

@@ -1,3 +1,6 @@
+pub mod Dates
+pub mod Functions
+pub mod Weeks
 pub mod Bodies
 pub mod Conditions
 pub mod BitPatterns

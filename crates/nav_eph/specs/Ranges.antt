@@ -1,7 +1,7 @@
 -- The ranges of the fields of items and parts, and the items whose fields are consistent.
 use Rattle.std.specs.Prelude.{◌^◌, ◌<◌}
 use Rattle.nav_bits.specs.Signed.{IsSigned}
-use Rattle.gnss_week.specs.Weeks.{IsMoment, IsWeek}
+use Rattle.nav_eph.specs.Weeks.{IsMoment, IsWeek}
 use Rattle.nav_eph.specs.Bodies.{IsGalHealth, IsGpsSide, IsIonContent}
 use Rattle.nav_eph.specs.Items.{IsGalEph, IsGpsEph, IsIonEph}
 use Rattle.nav_eph.specs.Satellite.{IsSat}

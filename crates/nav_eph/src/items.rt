@@ -8,7 +8,7 @@ use crate::gps::{GpsClock, GpsOrbitA, GpsOrbitB, GpsSide};
 use crate::ion::IonContent;
 use crate::same::{same_gal, same_gps, same_ion};
 use crate::sat::{Sat, System};
-use gnss_week::{Moment, Week};
+use crate::{Moment, Week};
 use nav_bits::U;
 
 /// The transmission time of an ephemeris, relative to the week of toe.

@@ -1,13 +1,13 @@
 ghost use Rattle.std.specs.Prelude.{◌≡◌, ℕ, ◌<◌, ◌↔◌, IsSome, IfSome, IsTrue};
 ghost use Rattle.nav_eph.specs.Conditions.{HasGpsWeek, IsPart, same_part, system_of};
 
+use crate::Second;
 use crate::galileo::{GalHealth, GalWord1, GalWord2, GalWord3, GalWord4};
 use crate::gps::{GpsClock, GpsOrbitA, GpsOrbitB, GpsSide};
 use crate::ion::{GalIon, GpsIon};
 use crate::same::{same_body, same_sat};
 use crate::sat::{Sat, System};
 use crate::tag::SentTag;
-use gnss_week::Second;
 use nav_bits::U;
 
 /// The content of one subframe, word or message.

@@ -1,9 +1,9 @@
 ghost use Rattle.std.specs.Prelude.{◌≡◌, ℕ, ◌^◌, ◌<◌};
-ghost use Rattle.gnss_week.specs.Weeks.{IsSecond};
+ghost use Rattle.nav_eph.specs.Weeks.{IsSecond};
 ghost use Rattle.nav_eph.specs.Bodies.{IsSentTag};
 ghost use Rattle.nav_eph.specs.Numbers.{gal_transmission, gps_transmission, tag_number};
 
-use gnss_week::Second;
+use crate::Second;
 use nav_bits::U;
 
 /// The time that dates an ephemeris: a week number of at most twelve bits and a time of week.

@@ -10,7 +10,7 @@ use Rattle.nav_io.specs.Causes.{Rose}
 use Rattle.nav_io.specs.Prefix.{AppendsPrefix, IsPrefix}
 use Rattle.rinex_read.specs.Forms.{Form}
 use Rattle.rinex_read.specs.Files.{BeginWith, but_last, early_reads, file_reads, whole_reads}
-use Rattle.rinex_read.specs.Lines.{told_lines}
+use Rattle.rinex_read.specs.Lines.{lines_stated}
 use Rattle.rinex_read.specs.States.{AreEarly, NearSteps, RecordsState, Steps, HeaderSteps, PassesHeader, IsNew, IsPaused, MayCome, file_by, file_to_come, is_waiting, records_to_come}
 use Rattle.rinex_read.specs.declared.judged.HeaderState.{HeaderState}
 use Rattle.rinex_read.specs.declared.judged.HeaderState.TheVariants.{NotRinexNav, OtherVersion, Passed}
@@ -18,7 +18,7 @@ use Rattle.rinex_read.specs.declared.judged.HeaderFault.{HeaderFault}
 use Rattle.one_run.specs.declared.fault.BridgeFault.{BridgeFault}
 use Rattle.one_run.specs.declared.fault.BridgeFault.TheVariants.{ReadFault, WriteFault, ReportFault, NotThisForm, TooLong, NoMemory}
 use Rattle.one_run.specs.Causes.{Faults, HasItsCause, faults_of}
-use Rattle.one_run.specs.Runs.{AppendsBetween, Broke, CountsAreLast, Done, IsAheadOf, Leaves, Meaning, Says, StopAtOnePlace, World, faults_in}
+use Rattle.one_run.specs.Runs.{AppendsBetween, IsBroken, CountsAreLast, IsDone, IsAheadOf, Leaves, Meaning, Says, StopAtOnePlace, World, faults_in}
 use Rattle.one_run.proofs.Surface.{ahead_at_end, ahead_by, all_of, between, between_within, no_prefix, none_failed, nothing_ahead, nothing_stopped, nothing_told, prefix_nil, prefix_of, prefix_within, read_failed, report_failed, taken_all, with_rest, write_failed}
 use Rattle.nav_files.specs.Files.{counted_in, file_meaning, text_before, text_in}
 use Rattle.nav_files.specs.Mirrors.{HeaderFaultOf, NoHeader}
@@ -111,13 +111,13 @@ accepted : {C R : Type 0} (f : Form R) (count : List R → C) (left left_new : O
     → PassesHeader f left left_new s0 s1 → IfSome left (λ bytes. IsSome (counted_in count (file_reads f bytes)))
 accepted f count left left_new s0 s1 begins new header =
     all_reads f left left_new s0 s1 (λ r. IsSome (counted_in count r)) begins new header.steps
-    (λ following. subst (λ (h : HeaderState). IsSome (counted_in count (file_by f h s1 (told_lines (s1.lines.rest ++ following))))) (sym header.header) refl)
+    (λ following. subst (λ (h : HeaderState). IsSome (counted_in count (file_by f h s1 (lines_stated (s1.lines.rest ++ following))))) (sym header.header) refl)
 
 -- it is refused
 refused : {C R : Type 0} (f : Form R) (count : List R → C) (s : RecordsState) → (s.header ≡ NotRinexNav) ⊎ (s.header ≡ OtherVersion)
     → (following : List ℕ) → counted_in count (file_to_come f s following) ≡ None
-refused f count s (inl is) following = subst (λ (h : HeaderState). counted_in count (file_by f h s (told_lines (s.lines.rest ++ following))) ≡ None) (sym is) refl
-refused f count s (inr is) following = subst (λ (h : HeaderState). counted_in count (file_by f h s (told_lines (s.lines.rest ++ following))) ≡ None) (sym is) refl
+refused f count s (inl is) following = subst (λ (h : HeaderState). counted_in count (file_by f h s (lines_stated (s.lines.rest ++ following))) ≡ None) (sym is) refl
+refused f count s (inr is) following = subst (λ (h : HeaderState). counted_in count (file_by f h s (lines_stated (s.lines.rest ++ following))) ≡ None) (sym is) refl
 
 -- ---- the ends
 
@@ -205,7 +205,7 @@ pub broke_header : {C R S T U : Type 0} (f : Form R) (memory : Bool) (wrote tell
     → Cause (faults_of b.reads_failed 0 0) (faults_of a.reads_failed 0 0) fault → a.writes_failed ≡ b.writes_failed → a.reports_failed ≡ b.reports_failed
     → (IsTrue b.never_fails → fault ≡ ReadFault → ⊥)
     → a.output ≡ b.output → a.report ≡ b.report → a.written ≡ b.written → a.reported ≡ b.reported
-    → Broke (file_meaning f memory wrote tells output report count) b a fault
+    → IsBroken (file_meaning f memory wrote tells output report count) b a fault
 broke_header f memory wrote tells output report count b a s0 s1 fault begins opens none new broken cause writes reports never out told written reported =
     let rose = header_rose fault b.reads_failed a.reads_failed cause in
     let taken = broken.steps.reads.taken in
@@ -249,7 +249,7 @@ pub broke_file : {C R S T U : Type 0} (f : Form R) (memory : Bool) (wrote tells 
     → IsAheadOf (file_meaning f memory wrote tells output report count).whole b.left b.written a.written b.reported a.reported
     → Fails b a fault → (fault ≡ TooLong → s2.lines.taken ≡ 2 ^ 32) → (fault ≡ NoMemory → (memory ≡ true) × (s2.lines.taken < 2 ^ 32))
     → Flushed f wrote tells (header.steps.reads.taken ++ steps.reads.taken) b a fault
-    → Broke (file_meaning f memory wrote tells output report count) b a fault
+    → IsBroken (file_meaning f memory wrote tells output report count) b a fault
 broke_file f memory wrote tells output report count b a l1 s0 s1 s2 given some text few told fault begins new header steps least least_told written text_is reported told_is stopped last ahead fails long wants flushed =
     let m = file_meaning f memory wrote tells output report count in
     let is = file_prefix f b.left l1 a.left s0 s1 s2 given begins new header steps in
@@ -321,7 +321,7 @@ pub broke_taken : {C R S T U : Type 0} (f : Form R) (memory : Bool) (wrote tells
     → AppendsBetween b.reported a.reported (tells (but_last given)) (tells given) → ((more : List R) → IsPrefix (tells given) (report (given ++ more)))
     → Fails b a fault → (fault ≡ TooLong → s2.lines.taken ≡ 2 ^ 32) → (fault ≡ NoMemory → (memory ≡ true) × (s2.lines.taken < 2 ^ 32))
     → (fault ≡ ReadFault → IsPaused s2 × Appends b.written a.written (wrote given) × Appends b.reported a.reported (tells given))
-    → Broke (file_meaning f memory wrote tells output report count) b a fault
+    → IsBroken (file_meaning f memory wrote tells output report count) b a fault
 broke_taken f memory wrote tells output report count b a l1 s0 s1 s2 given fault begins wholes earlies firsts grows more_told new header steps early written text_is reported told_is fails long wants exact =
     let few = earlies b.left l1 a.left s0 s1 s2 given new header steps early in
     let some_told = prefix_of b.reported a.reported _ (tells given) reported in
@@ -345,7 +345,7 @@ begin_stopped f wrote tells left l1 l2 w w1 u u1 s0 s1 s2 given begins firsts gr
 pub broke_begin : {C R S T U : Type 0} (f : Form R) (memory : Bool) (wrote tells output report : List R → List ℕ) (count : List R → C) (b a : World S T U) (s0 s1 : RecordsState)
     → Begins f → Earlies f → Firsts f → AreNear f → Grows wrote → Grows tells → IsNew s0 → PassesHeader f b.left a.left s0 s1 → NearSteps f a.left a.left s1 s1 []
     → AppendsPrefix b.written a.written (wrote []) → ((more : List R) → IsPrefix (wrote []) (output more)) → tells [] ≡ [] → a.reported ≡ b.reported → Fails b a WriteFault
-    → Broke (file_meaning f memory wrote tells output report count) b a WriteFault
+    → IsBroken (file_meaning f memory wrote tells output report count) b a WriteFault
 broke_begin f memory wrote tells output report count b a s0 s1 begins earlies firsts nears grows more_told new header none written prefix_is untold same fails =
     let all = nears a.left a.left s1 s1 [] none in
     let early = none_begin _ (earlies b.left a.left a.left s0 s1 s1 [] new header all.steps all.early) in
@@ -368,7 +368,7 @@ pub broke_end : {C R S T U : Type 0} (f : Form R) (memory : Bool) (wrote tells o
     → Begins f → Earlies f → Firsts f → AreNear f → Grows wrote → Grows tells → IsNew s0 → PassesHeader f b.left l1 s0 s1 → NearSteps f l1 a.left s1 s2 given → AtEnd s2
     → AppendsBetween b.written a.written (wrote given) text → IsPrefix text (output given) → AppendsBetween b.reported a.reported (tells given) told → IsPrefix told (report given)
     → IsPrefix told (tells given) ⊎ ((fault ≡ ReportFault) × Appends b.written a.written (output given)) → Fails b a fault → (fault ≡ TooLong → ⊥) → (fault ≡ NoMemory → ⊥) → (fault ≡ ReadFault → ⊥)
-    → Broke (file_meaning f memory wrote tells output report count) b a fault
+    → IsBroken (file_meaning f memory wrote tells output report count) b a fault
 broke_end f memory wrote tells output report count b a l1 s0 s1 s2 given text told fault begins earlies firsts nears grows more_told new header near end written text_is reported told_is last fails short wants over =
     let steps = nears l1 a.left s1 s2 given near in
     let taken = header.steps.reads.taken ++ steps.steps.reads.taken in
@@ -410,7 +410,7 @@ pub done_file : {C R S T U : Type 0} (f : Form R) (memory : Bool) (wrote tells o
     → Begins f → IsNew s0 → PassesHeader f b.left l1 s0 s1 → Steps f l1 a.left s1 s2 given → AtEnd s2
     → Appends b.written a.written (output given) → Appends b.reported a.reported (report given) → counts ≡ count given
     → a.reads_failed ≡ b.reads_failed → a.writes_failed ≡ b.writes_failed → a.reports_failed ≡ b.reports_failed
-    → Done (file_meaning f memory wrote tells output report count) b a counts
+    → IsDone (file_meaning f memory wrote tells output report count) b a counts
 done_file f memory wrote tells output report count b a l1 s0 s1 s2 given counts begins new header steps end written reported counted reads writes reports =
     let m = file_meaning f memory wrote tells output report count in
     let is = file_whole f b.left l1 a.left s0 s1 s2 given begins new header steps end.kept end.rest in

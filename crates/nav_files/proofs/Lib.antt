@@ -9,3 +9,8 @@ pub mod ConvertLemmas
 mod TakenLemmas
 pub mod Surface
 mod ListTexts
+mod ReadLemmas
+mod WriteLemmas
+mod SetLemmas
+mod WalkLemmas
+mod NumberLemmas

@@ -13,9 +13,9 @@ use Rattle.rinex_write.specs.Texts.{header_lines, item_lines, rinex_text, text_o
 use Rattle.rinex_write.specs.Texts3.{header3_lines, item3_lines, rinex3_text}
 use Rattle.rinex_write.specs.declared.words.HeaderWords.{HeaderWords}
 use Rattle.rinex_write.proofs.Surface.{text_more}
-use Rattle.outlets.specs.ItemTexts.{rinex_item, rtcm_item}
-use Rattle.outlets.specs.Targets.{item_text}
-use Rattle.outlets.specs.declared.target.Target.TheVariants as targets
+use Rattle.streams.specs.ItemTexts.{rinex_item, rtcm_item}
+use Rattle.streams.specs.Targets.{item_text}
+use Rattle.streams.specs.declared.target.Target.TheVariants as targets
 use Rattle.nav_files.specs.Archives.{cover_text, merge_text}
 use Rattle.nav_files.specs.Files.{convert_text, read_text, text_in}
 

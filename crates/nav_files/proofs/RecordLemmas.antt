@@ -11,8 +11,8 @@ use Rattle.rinex_read.specs.declared.judged.ItemRead.TheVariants.{Item, Refused,
 use Rattle.nav_files.specs.declared.counts.RinexCounts.{RinexCounts}
 use Rattle.nav_files.specs.Files.{counts_of_reads, is_refused_read, is_passed, is_item}
 use Rattle.nav_files.specs.Mirrors.{counted, read_times}
-use Rattle.outlets.specs.Times.{times_with, with_item}
-use Rattle.outlets.specs.declared.times.Times.{Times}
+use Rattle.streams.specs.Times.{times_with, with_item}
+use Rattle.streams.specs.declared.times.Times.{Times}
 
 -- steps of a reader, one after another, and those in which all was given that has ended early
 abbrev pub Follow : {R : Type 0} → Form R → Type 0

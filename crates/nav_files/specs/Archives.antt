@@ -11,8 +11,8 @@ use Rattle.rinex_read.specs.declared.judged.ItemRead.{ItemRead}
 use Rattle.rinex_read.specs.declared.judged.ItemRead.TheVariants.{Item, Refused, PassedOver}
 use Rattle.rinex_write.specs.Texts.{header_lines, text_of}
 use Rattle.rinex_write.specs.declared.words.HeaderWords.{HeaderWords}
-use Rattle.outlets.specs.ItemTexts.{rinex_item, satellite_text}
-use Rattle.outlets.specs.Times.{times_of}
+use Rattle.streams.specs.ItemTexts.{rinex_item, satellite_text}
+use Rattle.streams.specs.Times.{times_of}
 use Rattle.one_run.specs.Reports.{count_line}
 use Rattle.nav_files.specs.declared.counts.RinexCounts.{RinexCounts}
 use Rattle.one_run.specs.Runs.{Meaning}

@@ -7,17 +7,17 @@ use Rattle.rinex_read.specs.Forms.{Form}
 use Rattle.rinex_read.specs.declared.judged.HeaderFault.{HeaderFault}
 use Rattle.rinex_read.specs.declared.judged.ItemRead.{ItemRead}
 use Rattle.rinex_read.specs.declared.judged.ItemRead.TheVariants.{Item, Refused, PassedOver}
-use Rattle.rinex_read.specs.declared.reason.Reason.{Reason}
-use Rattle.rinex_read.specs.declared.reason.Reason.TheVariants.{BadSat, Short, NotANumber, Blank, OutOfRange, NoSuchDate, Week, Fit, EpochStep, EpochFar}
-use Rattle.outlets.specs.Targets.{prefix_text, item_text}
-use Rattle.outlets.specs.Times.{times_of}
-use Rattle.outlets.specs.declared.target.Target.{Target}
+use Rattle.rinex_read.specs.declared.reason.RecordFault.{RecordFault}
+use Rattle.rinex_read.specs.declared.reason.RecordFault.TheVariants.{BadSat, Short, NotANumber, Blank, OutOfRange, NoSuchDate, Week, Fit, EpochStep, EpochFar}
+use Rattle.streams.specs.Targets.{prefix_text, item_text}
+use Rattle.streams.specs.Times.{times_of}
+use Rattle.streams.specs.declared.target.Target.{Target}
 use Rattle.one_run.specs.Reports.{report_line, count_line}
 use Rattle.one_run.specs.Runs.{Meaning}
 use Rattle.nav_files.specs.declared.counts.RinexCounts.{RinexCounts}
 
 -- the report's word for why a record is rejected
-abbrev pub reason_text : Reason → List ℕ
+abbrev pub reason_text : RecordFault → List ℕ
 reason_text BadSat = codes "satellite"
 reason_text Short = codes "short"
 reason_text NotANumber = codes "number"

@@ -6,3 +6,7 @@ pub mod Targets
 pub mod Files
 pub mod Mirrors
 pub mod Taken
+pub mod Numbers
+pub mod Differences
+pub mod Reading
+pub mod DiffMirrors

@@ -8,8 +8,8 @@ use Rattle.rinex_read.specs.declared.judged.ItemRead.{ItemRead}
 use Rattle.rinex_read.specs.declared.judged.ItemRead.TheVariants.{Item, Refused, PassedOver}
 use Rattle.one_run.specs.declared.fault.BridgeFault.{BridgeFault}
 use Rattle.one_run.specs.declared.fault.BridgeFault.TheVariants.{ReadFault, NotThisForm, TooLong}
-use Rattle.outlets.specs.Times.{with_item}
-use Rattle.outlets.specs.declared.times.Times.{Times}
+use Rattle.streams.specs.Times.{with_item}
+use Rattle.streams.specs.declared.times.Times.{Times}
 use Rattle.nav_files.specs.declared.counts.RinexCounts.{RinexCounts}
 use Rattle.nav_files.specs.Files.{is_refused_read, is_passed, is_item}
 

@@ -1,6 +1,6 @@
 -- What a file is converted to.
-use Rattle.outlets.specs.declared.target.Target.{Target}
-use Rattle.outlets.specs.declared.target.Target.TheVariants as targets
+use Rattle.streams.specs.declared.target.Target.{Target}
+use Rattle.streams.specs.declared.target.Target.TheVariants as targets
 use Rattle.nav_files.specs.declared.target.RinexTo.{RinexTo}
 use Rattle.nav_files.specs.declared.target.RinexTo.TheVariants as files
 

@@ -4,7 +4,7 @@ ghost use Rattle.std.specs.Prelude.{◌≡◌, ◌⊎◌, ◌++◌, IfErr, OnErr
 ghost use Rattle.std.specs.List.{flat_map};
 ghost use Rattle.std.specs.Io.KnownBytes.{Appends};
 ghost use Rattle.nav_io.specs.Prefix.{AppendsPrefix};
-ghost use Rattle.outlets.specs.Targets.{item_text};
+ghost use Rattle.streams.specs.Targets.{item_text};
 ghost use Rattle.one_run.specs.Causes.{HasItsCause, faults_of};
 ghost use Rattle.rinex_read.specs.RoundTrip.{IsWholeRead};
 ghost use Rattle.nav_files.specs.Files.{convert_report, convert_text};
@@ -16,11 +16,11 @@ use crate::records::{count_read, reason_word};
 use crate::taker::Taker;
 use nav_io::{Failed, Sink};
 use one_run::{BridgeFault, Text, report_text};
-use outlets::Target;
 use rinex_read::ItemRead;
+use streams::Target;
 
 // Writes the item of a record, or reports why the record is refused.
-fn tell_read<T: Sink, U: Sink>(
+fn report_item<T: Sink, U: Sink>(
     to: &Target,
     read: &ItemRead,
     output: &mut T,
@@ -90,7 +90,7 @@ impl Taker<ItemRead> for Target {
         output: &mut T,
         report: &mut U,
     ) -> Result<(), BridgeFault> {
-        tell_read(self, read, output, report)?;
+        report_item(self, read, output, report)?;
         count_read(read, state);
         Ok(())
     }

@@ -4,7 +4,7 @@ ghost use Rattle.std.specs.Prelude.{◌≡◌, []};
 ghost use Rattle.nav_files.specs.Files.{counts_of_reads, file_counts_text};
 
 use one_run::{Text, append_count};
-use outlets::Times;
+use streams::Times;
 
 /// What a run over a navigation file counts.
 #[derive(Clone, Copy, PartialEq, Eq)]

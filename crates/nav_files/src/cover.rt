@@ -20,9 +20,9 @@ use nav_eph::NavItem;
 use nav_io::{Failed, Sink};
 use nav_lists::{Cover, CoverRange, covering};
 use one_run::{BridgeFault, Text, append, append_decimal};
-use outlets::append_satellite;
 use rinex_read::ItemRead;
 use std::alloc::AllocError;
+use streams::append_satellite;
 
 // The state over files: the times that their items cover, and the counts of their records.
 #[derive(Drop)]
@@ -62,7 +62,8 @@ fn write_ranges<T: Sink>(cover: &mut Cover, out: &mut T) -> Result<(), Failed>
 
 // Adds what an item covers.
 fn cover_item(item: &NavItem, cover: &mut Cover) -> Result<(), AllocError>
-    ensures { OnOk result ((items : List NavItem) → AreCovers (AreCovering (Contains items)) cover.old
+    ensures { OnOk result ((items : List NavItem)
+        → AreCovers (AreCovering (Contains items)) cover.old
         → AreCovers (AreCovering (Contains (items ++ item.now ∷ []))) cover.new) }
 {
     cover.add(item)?;

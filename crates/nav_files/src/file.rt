@@ -22,7 +22,8 @@ pub fn pass_header<R, F: FileForm<R>, S: Source>(
     input: &mut S,
 ) -> Result<(), BridgeFault>
     requires first { IsNew records.old }
-    ensures header { OnOk result (PassesHeader (F.form form.now) (S.left input.old) (S.left input.new)
+    ensures header { OnOk result (PassesHeader (F.form form.now) (S.left input.old)
+        (S.left input.new)
         records.old records.new) }
     ensures broken { IfErr result (NoHeader (F.form form.now) (S.left input.old) (S.left input.new)
         records.old records.new) }

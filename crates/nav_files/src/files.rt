@@ -11,8 +11,8 @@ use crate::taker::run_file;
 use crate::target::RinexTo;
 use nav_io::{Sink, Source};
 use one_run::BridgeFault;
-use outlets::Target;
 use rinex_read::{ItemRead, Rinex3, Rinex4};
+use streams::Target;
 
 /// Reads a navigation file of RINEX 4 to its end, and writes what it is converted to while it
 /// reads.

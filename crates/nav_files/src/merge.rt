@@ -6,8 +6,8 @@ ghost use Rattle.nav_io.specs.Writes.{Writes};
 ghost use Rattle.nav_eph.specs.declared.items.NavItem.{NavItem};
 ghost use Rattle.nav_lists.specs.Merging.{merged_of};
 ghost use Rattle.rinex_write.specs.Texts.{header_lines, text_of};
-ghost use Rattle.outlets.specs.ItemTexts.{rinex_item};
-ghost use Rattle.outlets.specs.Times.{times_of};
+ghost use Rattle.streams.specs.ItemTexts.{rinex_item};
+ghost use Rattle.streams.specs.Times.{times_of};
 ghost use Rattle.rinex_read.specs.RoundTrip.{IsWholeRead};
 ghost use Rattle.nav_files.specs.Files.{counts_of_reads, read_report};
 ghost use Rattle.nav_files.specs.Mirrors.{AreCounted};
@@ -24,10 +24,10 @@ use nav_eph::NavItem;
 use nav_io::{Failed, Sink};
 use nav_lists::{Merge, merging};
 use one_run::{BridgeFault, Text, append_count};
-use outlets::{Times, with_items};
 use rinex_read::ItemRead;
 use rinex_write::{HeaderWords, write_header, write_item};
 use std::alloc::AllocError;
+use streams::{Times, with_items};
 
 // The state of a merge: the merged list of the items so far, and the counts of the records.
 #[derive(Drop)]

@@ -1,6 +1,6 @@
 //! What a merge counts.
 
-use outlets::Times;
+use streams::Times;
 
 /// What a run that merges navigation files counts.
 #[derive(Clone, Copy, PartialEq, Eq)]

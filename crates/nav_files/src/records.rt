@@ -11,8 +11,8 @@ ghost use Rattle.nav_files.specs.Mirrors.{AreCounted, BreaksRead, counted};
 use crate::counts::RinexCounts;
 use nav_io::{LineFault, Source};
 use one_run::BridgeFault;
-use outlets::with_item;
-use rinex_read::{FileForm, ItemRead, Reason, RecordReader};
+use rinex_read::{FileForm, ItemRead, RecordFault, RecordReader};
+use streams::with_item;
 
 /// The error of a run whose reading of lines failed so.
 pub fn fault_of(fault: LineFault) -> BridgeFault
@@ -25,21 +25,21 @@ pub fn fault_of(fault: LineFault) -> BridgeFault
 }
 
 /// Why a record is rejected, in one word.
-pub fn reason_word(reason: Reason) -> &'static [u8]
+pub fn reason_word(reason: RecordFault) -> &'static [u8]
     ensures word { result.now ≡ reason_text reason }
     ensures short { length result.now ≤ 32 }
 {
     match reason {
-        Reason::BadSat => b"satellite",
-        Reason::Short => b"short",
-        Reason::NotANumber => b"number",
-        Reason::Blank => b"blank",
-        Reason::OutOfRange => b"range",
-        Reason::NoSuchDate => b"date",
-        Reason::Week => b"week",
-        Reason::Fit => b"fit",
-        Reason::EpochStep => b"step",
-        Reason::EpochFar => b"far",
+        RecordFault::BadSat => b"satellite",
+        RecordFault::Short => b"short",
+        RecordFault::NotANumber => b"number",
+        RecordFault::Blank => b"blank",
+        RecordFault::OutOfRange => b"range",
+        RecordFault::NoSuchDate => b"date",
+        RecordFault::Week => b"week",
+        RecordFault::Fit => b"fit",
+        RecordFault::EpochStep => b"step",
+        RecordFault::EpochFar => b"far",
     }
 }
 
@@ -74,10 +74,12 @@ pub fn next_read<R, F: FileForm<R>, S: Source>(
 ) -> Result<Option<R>, BridgeFault>
     requires header { records.old.header ≡ Passed }
     ensures read { IfOk result (λ given.
-        GivesRead (F.form form.now) given (S.left input.old) (S.left input.new) records.old records.new) }
+        GivesRead (F.form form.now) given (S.left input.old)
+        (S.left input.new) records.old records.new) }
     ensures whole { IfOk result (λ given. IfSome given F.whole) }
     ensures header { records.new.header ≡ Passed }
-    ensures broken { IfErr result (λ fault. BreaksRead (F.form form.now) (S.left input.old) (S.left input.new)
+    ensures broken { IfErr result
+        (λ fault. BreaksRead (F.form form.now) (S.left input.old) (S.left input.new)
         records.old records.new fault) }
     ensures cause { HasItsCause (faults_of (S.faults input.old) 0 0)
         (faults_of (S.faults input.new) 0 0) result }

@@ -9,7 +9,7 @@ use crate::counts::RinexCounts;
 use crate::sending::{Sending, SoFar};
 use crate::sent_counts::no_counts;
 use crate::taker::run_file;
-use gnss_week::RefWeek;
+use nav_eph::RefWeek;
 use nav_io::{Sink, Source};
 use one_run::BridgeFault;
 use rinex_read::{ItemRead, Rinex3, Rinex4};

@@ -3,18 +3,18 @@
 ghost use Rattle.std.specs.Prelude.{◌≡◌, ◌++◌, false};
 ghost use Rattle.std.specs.List.{flat_map};
 ghost use Rattle.nav_io.specs.Writes.{Writes};
-ghost use Rattle.page_send.specs.Sendable.{sent_head};
+ghost use Rattle.sent_captures.specs.Sendable.{sent_head};
 ghost use Rattle.rinex_read.specs.RoundTrip.{IsWholeRead};
 ghost use Rattle.nav_files.specs.Following.{AreCounted};
-ghost use Rattle.nav_files.specs.Sends.{counts_of_tolds, sends_report, sends_text, slots_behind};
-ghost use Rattle.nav_files.specs.Sends.{told_report, told_text, tolds};
+ghost use Rattle.nav_files.specs.Sends.{counts_of_outcomes, sends_report, sends_text, slots_behind};
+ghost use Rattle.nav_files.specs.Sends.{outcome_report, outcome_text, send_outcomes};
 
 use crate::counts::{RinexCounts, file_counts_text};
-use crate::sent_counts::count_told;
+use crate::outcome::{next_slot, outcome_of};
+use crate::sent_counts::count_outcome;
 use crate::sent_records::tell;
 use crate::taker::Taker;
-use crate::told::{next_slot, told_of};
-use gnss_week::RefWeek;
+use nav_eph::RefWeek;
 use nav_io::{Failed, Sink};
 use one_run::{BridgeFault, Text};
 use rinex_read::ItemRead;
@@ -48,19 +48,19 @@ impl Taker<ItemRead> for Sending {
 
     ghost known = { IsWholeRead };
 
-    ghost text = { λ s reads. sent_head ++ flat_map told_text (tolds s.r 0 reads) };
+    ghost text = { λ s reads. sent_head ++ flat_map outcome_text (send_outcomes s.r 0 reads) };
 
-    ghost told = { λ s reads. flat_map told_report (tolds s.r 0 reads) };
+    ghost told = { λ s reads. flat_map outcome_report (send_outcomes s.r 0 reads) };
 
     ghost whole = { λ s reads. sends_text s.r reads };
 
     ghost reported = { λ s reads. sends_report s.r reads };
 
-    ghost count = { λ s reads. counts_of_tolds (tolds s.r 0 reads) };
+    ghost count = { λ s reads. counts_of_outcomes (send_outcomes s.r 0 reads) };
 
     ghost memory = { false };
 
-    ghost holds = { λ s state reads. (state.counts ≡ counts_of_tolds (tolds s.r 0 reads))
+    ghost holds = { λ s state reads. (state.counts ≡ counts_of_outcomes (send_outcomes s.r 0 reads))
         × (state.slot ≡ slots_behind s.r 0 reads) × AreCounted state.counts };
 
     fn begins(&self) {}
@@ -76,9 +76,9 @@ impl Taker<ItemRead> for Sending {
         output: &mut T,
         report: &mut U,
     ) -> Result<(), BridgeFault> {
-        let told = told_of(self.r, state.slot, read);
+        let told = outcome_of(self.r, state.slot, read);
         tell(self.r, &told, output, report)?;
-        count_told(&told, &mut state.counts);
+        count_outcome(&told, &mut state.counts);
         let slot = next_slot(state.slot, &told);
         state.slot = slot;
         Ok(())

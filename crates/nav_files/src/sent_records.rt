@@ -6,15 +6,15 @@ ghost use Rattle.std.specs.Io.KnownBytes.{Appends};
 ghost use Rattle.nav_io.specs.Prefix.{AppendsPrefix};
 ghost use Rattle.one_run.specs.Causes.{HasItsCause, faults_of};
 ghost use Rattle.one_run.specs.Reports.{report_line};
-ghost use Rattle.nav_files.specs.Following.{IsTold};
-ghost use Rattle.nav_files.specs.Sends.{told_report, told_text};
+ghost use Rattle.nav_files.specs.Following.{IsSendReported};
+ghost use Rattle.nav_files.specs.Sends.{outcome_report, outcome_text};
 
+use crate::outcome::{SendOutcome, fault_word};
 use crate::records::reason_word;
-use crate::told::{Told, fault_word};
-use gnss_week::RefWeek;
+use nav_eph::RefWeek;
 use nav_io::{Failed, Sink};
 use one_run::{BridgeFault, report_text};
-use page_send::send_item;
+use sent_captures::send_item;
 
 // Reports a record by its first line and a word.
 fn report_word<U: Sink>(line: u32, word: &[u8], report: &mut U) -> Result<(), BridgeFault>
@@ -37,32 +37,32 @@ fn report_word<U: Sink>(line: u32, word: &[u8], report: &mut U) -> Result<(), Br
 // Writes an ephemeris that is transmitted, or reports a record that is refused or may not be.
 pub(crate) fn tell<T: Sink, U: Sink>(
     r: RefWeek,
-    told: &Told,
+    told: &SendOutcome,
     output: &mut T,
     report: &mut U,
 ) -> Result<(), BridgeFault>
-    requires may { IsTold r told.now }
+    requires may { IsSendReported r told.now }
     ensures output { OnOk result (Appends (T.written output.old) (T.written output.new)
-        (told_text told.now)) }
+        (outcome_text told.now)) }
     ensures report { OnOk result (Appends (U.written report.old) (U.written report.new)
-        (told_report told.now)) }
+        (outcome_report told.now)) }
     ensures part { OnErr result (AppendsPrefix (T.written output.old) (T.written output.new)
-        (told_text told.now)) }
+        (outcome_text told.now)) }
     ensures report_part { OnErr result (AppendsPrefix (U.written report.old) (U.written report.new)
-        (told_report told.now)) }
+        (outcome_report told.now)) }
     ensures cause { HasItsCause (faults_of 0 (T.faults output.old) (U.faults report.old))
         (faults_of 0 (T.faults output.new) (U.faults report.new)) result }
     ensures kinds { IfErr result (λ fault. (fault ≡ BridgeFault.WriteFault)
         ⊎ (fault ≡ BridgeFault.ReportFault)) }
 {
     match told {
-        Told::Sent { slot, item } => match send_item(item, r, *slot, output) {
+        SendOutcome::Sent { slot, item } => match send_item(item, r, *slot, output) {
             Ok(()) => Ok(()),
             Err(Failed) => Err(BridgeFault::WriteFault),
         },
-        Told::NotSent => Ok(()),
-        Told::Withheld { line, fault } => report_word(*line, fault_word(*fault), report),
-        Told::Refused { line, reason } => report_word(*line, reason_word(*reason), report),
-        Told::PassedOver => Ok(()),
+        SendOutcome::NotSent => Ok(()),
+        SendOutcome::Withheld { line, fault } => report_word(*line, fault_word(*fault), report),
+        SendOutcome::Refused { line, reason } => report_word(*line, reason_word(*reason), report),
+        SendOutcome::PassedOver => Ok(()),
     }
 }

@@ -3,8 +3,8 @@
 ghost use Rattle.std.specs.Prelude.{◌≡◌};
 ghost use Rattle.nav_files.specs.Targets.{target_of_file};
 
-use outlets::Target;
 use rinex_write::HeaderWords;
+use streams::Target;
 
 /// What a navigation file is converted to.
 #[derive(Clone, Copy)]

@@ -9,19 +9,19 @@ use Rattle.nav_eph.specs.declared.part.Body.TheVariants.{GpsA as OfOrbitA, GpsB 
 use Rattle.nav_eph.specs.declared.tag.SentTag.TheVariants.{Sent}
 use Rattle.nav_eph.specs.declared.items.NavItem.{NavItem}
 use Rattle.nav_eph.specs.declared.items.NavItem.TheVariants.{Gps as GpsItem, Gal as GalItem, Ion as IonItem}
-use Rattle.periods.specs.declared.key.Key.{Key}
-use Rattle.periods.specs.declared.key.Place.{Place}
+use Rattle.periods.specs.declared.key.PeriodKey.{PeriodKey}
+use Rattle.periods.specs.declared.key.PeriodId.{PeriodId}
 use Rattle.periods.specs.declared.closed.Finding.TheVariants.{Complete}
 use Rattle.periods.specs.declared.closed.Closed.{Closed}
-use Rattle.periods.specs.Periods.{IsBefore, IsHeardAt, IsPeriod}
+use Rattle.periods.specs.Periods.{IsBefore, IsReceivedAt, IsPeriod}
 use Rattle.periods.specs.PeriodLists.{ArePeriods, IsAscending, item_in, items_in}
 use Rattle.periods.specs.PeriodsOf.{end_place, periods_of}
 use Rattle.periods.specs.DigestsOf.{verdict_of}
 use Rattle.periods.specs.Verdicts.{IsClosed, IsComplete, IsFound, IsOfEphemeris, Repeats, closed_place}
 use Rattle.periods.proofs.Surface.{All-in, In, In-from_contains, Splits, all_of, before_trans, compares_known, contains_from_In, covered, found_left, found_right, items_append, judged_by, known_parts, left_low, left_period, period_cases, periods_of-only, right_high, right_period, some_is}
-use Rattle.page_send.specs.Slots.{galileo_second, galileo_week_number, slot_stamp}
-use Rattle.page_send.specs.Sendable.{is_ephemeris}
-use Rattle.page_send.specs.SentItems.{as_sent, ionosphere_with, items_back, repeats_latest}
+use Rattle.sent_captures.specs.Slots.{galileo_second, galileo_week_number, slot_stamp}
+use Rattle.sent_captures.specs.Sendable.{is_ephemeris}
+use Rattle.sent_captures.specs.SentItems.{as_sent, ionosphere_with, items_back, repeats_latest}
 use Rattle.nav_laws.specs.SentAgain.{AreSentAgain, AreTurned, IsInSlot, IsIonosphere, IsSentAgain, IsWord, SameByType}
 use Rattle.nav_laws.specs.SlotParts.{part, parts_at, slots_parts}
 use Rattle.nav_laws.proofs.AppendLemmas.{In-append_left, In-append_right, In-append_cases}
@@ -34,7 +34,7 @@ pub record AreFrom (r : ℕ) (parts : Part → Type 0) (b : ℕ) (cs : List Clos
   pub ascending : IsAscending cs
   pub each : (c : Closed) → In cs c → IsClosed r 7200 parts c
   pub high : (c : Closed) → In cs c → b ≤ c.end
-  pub every : (q : Place) → IsPeriod 7200 parts q → b ≤ q.end → (c : Closed) × In cs c × (closed_place c ≡ q)
+  pub every : (q : PeriodId) → IsPeriod 7200 parts q → b ≤ q.end → (c : Closed) × In cs c × (closed_place c ≡ q)
 
 -- each may be sent
 abbrev pub AreSent : ℕ → List NavItem → Type 0
@@ -150,7 +150,7 @@ outer_splits slot parts all =
         | inl l ↦ inl (contains_from_In some p (in_before slot parts p (In-from_contains parts p i) l))
         | inr g ↦ inr (contains_from_In more p (in_from slot parts p (In-from_contains parts p i) g))
       ];
-      ends = λ key t h. covered 7200 (IsHeardAt (Contains some) key) (known_parts 7200 some key) t h;
+      ends = λ key t h. covered 7200 (IsReceivedAt (Contains some) key) (known_parts 7200 some key) t h;
     }
 
 inner_splits : (slot : ℕ) (parts : List Part) → AllInSlots parts
@@ -170,7 +170,7 @@ inner_splits slot parts all =
             | inl l ↦ inl (contains_from_In own p (in_own slot parts p b.0 b.1 l))
             | inr g ↦ inr (contains_from_In more p (in_from (slot + 1) parts p b.0 g))
           ];
-      ends = λ key t h. covered 7200 (IsHeardAt (Contains own) key) (known_parts 7200 own key) t h;
+      ends = λ key t h. covered 7200 (IsReceivedAt (Contains own) key) (known_parts 7200 own key) t h;
     }
 
 -- ---- what is received from a slot on
@@ -246,13 +246,13 @@ record Around (r slot : ℕ) (parts : List Part) (x : NavItem) : Type 0 where
   inner : Splits 7200 (slot_stamp (slot + 1)) (Contains (own_parts slot parts)) (Contains (parts_from (slot + 1) parts)) (Contains (parts_from slot parts))
 
 -- the periods of the slot are periods, with the same findings
-around_period : (r slot : ℕ) (parts : List Part) (x : NavItem) (q : Place) → Around r slot parts x → IsPeriod 7200 (Contains (own_parts slot parts)) q
+around_period : (r slot : ℕ) (parts : List Part) (x : NavItem) (q : PeriodId) → Around r slot parts x → IsPeriod 7200 (Contains (own_parts slot parts)) q
     → IsPeriod 7200 (Contains parts) q
 around_period r slot parts x q b h =
     right_period 7200 (slot_stamp slot) (Contains (parts_before slot parts)) (Contains (parts_from slot parts)) (Contains parts) q b.outer
     (left_period 7200 (slot_stamp (slot + 1)) (Contains (own_parts slot parts)) (Contains (parts_from (slot + 1) parts)) (Contains (parts_from slot parts)) q b.inner h)
 
-around_found : (r slot : ℕ) (parts : List Part) (x : NavItem) (q : Place) (item : NavItem) → Around r slot parts x → IsPeriod 7200 (Contains (own_parts slot parts)) q
+around_found : (r slot : ℕ) (parts : List Part) (x : NavItem) (q : PeriodId) (item : NavItem) → Around r slot parts x → IsPeriod 7200 (Contains (own_parts slot parts)) q
     → IsFound r 7200 (Contains (own_parts slot parts)) q (Complete item) → IsFound r 7200 (Contains parts) q (Complete item)
 around_found r slot parts x q item b h f =
     let inner = left_period 7200 (slot_stamp (slot + 1)) (Contains (own_parts slot parts)) (Contains (parts_from (slot + 1) parts)) (Contains (parts_from slot parts)) q b.inner h in
@@ -260,7 +260,7 @@ around_found r slot parts x q item b h f =
     ((found_left r 7200 (slot_stamp (slot + 1)) (Contains (own_parts slot parts)) (Contains (parts_from (slot + 1) parts)) (Contains (parts_from slot parts)) q b.inner h).to (Complete item) f)
 
 -- a period from the slot on is one of the slot, or of a later one
-around_cases : (r slot : ℕ) (parts : List Part) (x : NavItem) (q : Place) → Around r slot parts x → IsPeriod 7200 (Contains parts) q → slot_stamp slot ≤ q.end
+around_cases : (r slot : ℕ) (parts : List Part) (x : NavItem) (q : PeriodId) → Around r slot parts x → IsPeriod 7200 (Contains parts) q → slot_stamp slot ≤ q.end
     → IsPeriod 7200 (Contains (own_parts slot parts)) q ⊎ (slot_stamp (slot + 1) ≤ q.end)
 around_cases r slot parts x q b h from =
     elim (period_cases 7200 (slot_stamp slot) (Contains (parts_before slot parts)) (Contains (parts_from slot parts)) (Contains parts) q b.outer h) [
@@ -280,16 +280,16 @@ around_sent r slot parts x b = record {
   below = let to = b.own.to in omega (arith, to);
   complete = λ key of_x.
       let same : b.own.key ≡ key = some_is b.own.key key (sym b.own.of_item ∙ of_x) in
-      subst (λ (k : Key). IsComplete r 7200 (Contains parts) k b.own.end (as_sent x)) same (record {
+      subst (λ (k : PeriodKey). IsComplete r 7200 (Contains parts) k b.own.end (as_sent x)) same (record {
         period = around_period r slot parts x (end_place b.own.key b.own.end) b b.own.complete.period;
         found = around_found r slot parts x (end_place b.own.key b.own.end) (as_sent x) b b.own.complete.period b.own.complete.found;
       });
   only = λ key f item eph c from below. elim (around_cases r slot parts x (end_place key f) b c.period from) [
     | inl p ↦ elim (b.own.cases (end_place key f) p) [
-      | inl is ↦ (b.own.of_item ∙ ap (λ (q : Place). Some q.key) (sym is), ap (λ (q : Place). q.end) is)
+      | inl is ↦ (b.own.of_item ∙ ap (λ (q : PeriodId). Some q.key) (sym is), ap (λ (q : PeriodId). q.end) is)
       | inr o ↦ elim o [
-        | inl ion ↦ absurd ((b.own.first_each ion.0 ion.1).0.other (subst IsOfEphemeris (sym (ap (λ (q : Place). q.key) ion.2)) eph))
-        | inr ion ↦ absurd ((b.own.last_each ion.0 ion.1).0.other (subst IsOfEphemeris (sym (ap (λ (q : Place). q.key) ion.2)) eph))
+        | inl ion ↦ absurd ((b.own.first_each ion.0 ion.1).0.other (subst IsOfEphemeris (sym (ap (λ (q : PeriodId). q.key) ion.2)) eph))
+        | inr ion ↦ absurd ((b.own.last_each ion.0 ion.1).0.other (subst IsOfEphemeris (sym (ap (λ (q : PeriodId). q.key) ion.2)) eph))
       ]
     ]
     | inr late ↦ absurd (omega (arith, late, below))

@@ -7,7 +7,7 @@ use Rattle.nav_eph.specs.declared.items.GpsEph.{GpsEph}
 use Rattle.nav_eph.specs.declared.items.GalEph.{GalEph}
 use Rattle.nav_eph.specs.declared.items.NavItem.{NavItem}
 use Rattle.nav_eph.specs.declared.items.NavItem.TheVariants.{Gps as GpsItem, Gal as GalItem, Ion as IonItem}
-use Rattle.periods.specs.declared.key.Key.{Key}
+use Rattle.periods.specs.declared.key.PeriodKey.{PeriodKey}
 use Rattle.periods.specs.declared.closed.Finding.TheVariants.{Complete}
 use Rattle.periods.specs.declared.closed.Verdict.TheVariants.{Whole, Again}
 use Rattle.periods.specs.KeyTests.{same_key}
@@ -15,7 +15,7 @@ use Rattle.periods.specs.DigestsOf.{verdict_of}
 use Rattle.periods.specs.PeriodLists.{item_in}
 use Rattle.periods.specs.Verdicts.{IsComplete, IsOfEphemeris}
 use Rattle.periods.proofs.Surface.{IsKnownBefore, is-same_key, none_some, same_key-is, some_is}
-use Rattle.page_send.specs.SentItems.{as_sent, have_one_key, repeats_latest}
+use Rattle.sent_captures.specs.SentItems.{as_sent, have_one_key, repeats_latest}
 use Rattle.nav_laws.proofs.Slots.{gal_key, gps_key}
 use Rattle.nav_laws.proofs.Slots.{key_of_item}
 
@@ -24,13 +24,13 @@ pub record IsSentIn (r w : ℕ) (parts : Part → Type 0) (a b : ℕ) (x : NavIt
   pub end : ℕ
   pub from : a ≤ end
   pub below : end < b
-  pub complete : (key : Key) → key_of_item x ≡ Some key → IsComplete r w parts key end (as_sent x)
-  pub only : (key : Key) (f : ℕ) (item : NavItem) → IsOfEphemeris key → IsComplete r w parts key f item → a ≤ f → f < b
+  pub complete : (key : PeriodKey) → key_of_item x ≡ Some key → IsComplete r w parts key end (as_sent x)
+  pub only : (key : PeriodKey) (f : ℕ) (item : NavItem) → IsOfEphemeris key → IsComplete r w parts key f item → a ≤ f → f < b
       → (key_of_item x ≡ Some key) × (f ≡ end)
 
 -- before the stamp b lie the complete periods of these items, the latest one first, and no others of ephemerides
 abbrev pub History : ℕ → ℕ → (Part → Type 0) → ℕ → List NavItem → Type 0
-History r w parts b [] = (key : Key) (f : ℕ) (item : NavItem) → IsOfEphemeris key → IsComplete r w parts key f item → f < b → ⊥
+History r w parts b [] = (key : PeriodKey) (f : ℕ) (item : NavItem) → IsOfEphemeris key → IsComplete r w parts key f item → f < b → ⊥
 History r w parts b (x ∷ xs) = (a : ℕ) × IsSentIn r w parts a b x × History r w parts a xs
 
 -- the latest of the items that has the key of another
@@ -54,23 +54,23 @@ one_key (IonItem a) (IonItem b) e = absurd (both_ways false refl e)
 kinds_differ : (a : GpsEph) (b : GalEph) → gps_key a ≡ gal_key b → ⊥
 kinds_differ a b e = cc
 
-same_keys : (y x : NavItem) (key : Key) → key_of_item y ≡ Some key → key_of_item x ≡ Some key → have_one_key y x ≡ true
+same_keys : (y x : NavItem) (key : PeriodKey) → key_of_item y ≡ Some key → key_of_item x ≡ Some key → have_one_key y x ≡ true
 same_keys (GpsItem a) (GpsItem b) key e f =
-    subst (λ (k : Key). same_key (gps_key a) k ≡ true) (some_is (gps_key a) key e ∙ sym (some_is (gps_key b) key f)) (is-same_key (gps_key a))
+    subst (λ (k : PeriodKey). same_key (gps_key a) k ≡ true) (some_is (gps_key a) key e ∙ sym (some_is (gps_key b) key f)) (is-same_key (gps_key a))
 same_keys (GpsItem a) (GalItem b) key e f = absurd (kinds_differ a b (some_is (gps_key a) key e ∙ sym (some_is (gal_key b) key f)))
 same_keys (GpsItem a) (IonItem b) key e f = absurd (none_some key f)
 same_keys (GalItem a) (GpsItem b) key e f = absurd (kinds_differ b a (some_is (gps_key b) key f ∙ sym (some_is (gal_key a) key e)))
 same_keys (GalItem a) (GalItem b) key e f =
-    subst (λ (k : Key). same_key (gal_key a) k ≡ true) (some_is (gal_key a) key e ∙ sym (some_is (gal_key b) key f)) (is-same_key (gal_key a))
+    subst (λ (k : PeriodKey). same_key (gal_key a) k ≡ true) (some_is (gal_key a) key e ∙ sym (some_is (gal_key b) key f)) (is-same_key (gal_key a))
 same_keys (GalItem a) (IonItem b) key e f = absurd (none_some key f)
 same_keys (IonItem a) x key e f = absurd (none_some key e)
 
 -- ---- the last complete period of a key before an end
 
-abbrev pub NoneFrom : ℕ → ℕ → (Part → Type 0) → Key → ℕ → ℕ → Type 0
+abbrev pub NoneFrom : ℕ → ℕ → (Part → Type 0) → PeriodKey → ℕ → ℕ → Type 0
 NoneFrom r w parts key b e = (f : ℕ) (item : NavItem) → IsComplete r w parts key f item → b ≤ f → f < e → ⊥
 
-pub known : (r w : ℕ) (parts : Part → Type 0) (b e : ℕ) (x : NavItem) (key : Key) (before : List NavItem) → IsOfEphemeris key → key_of_item x ≡ Some key
+pub known : (r w : ℕ) (parts : Part → Type 0) (b e : ℕ) (x : NavItem) (key : PeriodKey) (before : List NavItem) → IsOfEphemeris key → key_of_item x ≡ Some key
     → History r w parts b before → b ≤ e → NoneFrom r w parts key b e → IsKnownBefore r w parts key e (latest before x)
 known r w parts b e x key [] eph of_x h l quiet = λ f item c below. elim (cases_lt f b) [
   | inl m ↦ h key f item eph c m

@@ -4,7 +4,7 @@ pub mod SlotPeriods
 pub mod History
 pub mod Circle
 pub mod SentTexts
-pub mod Heard
+pub mod Received
 pub mod SentSlots
 pub mod Sendable
 pub mod Fewer

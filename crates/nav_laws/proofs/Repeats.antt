@@ -9,13 +9,13 @@ use Rattle.nav_eph.specs.declared.items.NavItem.TheVariants.{Gps, Gal, Ion}
 use Rattle.lnav_subframe.specs.declared.out.SubframeOut.{SubframeOut}
 use Rattle.lnav_subframe.specs.declared.out.SubframeOut.TheVariants.{Clock, OrbitA, OrbitB}
 use Rattle.lnav_subframe.specs.Bytes.{subframe_bytes}
-use Rattle.inav_word.specs.Writing.{word1_bytes, word2_bytes, word3_bytes, word4_bytes, word5_bytes}
-use Rattle.inav_page.specs.Pages.{bytes_of_half, even_of, odd_of}
+use Rattle.inav.specs.Writing.{word1_bytes, word2_bytes, word3_bytes, word4_bytes, word5_bytes}
+use Rattle.inav.specs.Pages.{bytes_of_half, even_of, odd_of}
 use Rattle.capture_lines.specs.declared.item.LineItem.{LineItem}
 use Rattle.capture_lines.specs.declared.item.LineItem.TheVariants.{Lnav, Half}
 use Rattle.periods.proofs.Surface.{In}
-use Rattle.page_send.specs.Slots.{count_of, galileo_items, galileo_second, galileo_week_number, gps_week_number, half_item, items_at, no_ionosphere, slot_stamp, subframe_item}
-use Rattle.page_send.specs.Sendable.{slots_items}
+use Rattle.sent_captures.specs.Slots.{count_of, galileo_items, galileo_second, galileo_week_number, gps_week_number, half_item, items_at, no_ionosphere, slot_stamp, subframe_item}
+use Rattle.sent_captures.specs.Sendable.{slots_items}
 use Rattle.nav_laws.specs.SentAgain.{IsSentAgain, delayed}
 use Rattle.nav_laws.specs.SlotParts.{parts_at, slots_parts}
 use Rattle.nav_laws.proofs.AppendLemmas.{In-append_cases, In-append_left, In-append_right}

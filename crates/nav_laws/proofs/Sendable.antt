@@ -3,8 +3,8 @@ use Rattle.std.proofs.Common.{◌≡◌, ℕ, ◌+◌, ◌%◌, ◌^◌, ◌<◌
 use Rattle.std.proofs.lemmas.Bool.{and_parts}
 use Rattle.std.proofs.lemmas.List.Elements.{All-head, All-tail}
 use Rattle.nav_bits.proofs.Surface.{are_bytes}
-use Rattle.gnss_week.specs.Functions.{near_galileo, near_gps}
-use Rattle.gnss_week.proofs.Surface.{near_galileo-decides, near_gps-decides}
+use Rattle.nav_eph.specs.Functions.{near_galileo, near_gps}
+use Rattle.nav_eph.proofs.Surface.{near_galileo-decides, near_gps-decides}
 use Rattle.nav_eph.specs.Satellite.{Satellite}
 use Rattle.nav_eph.specs.Ranges.{IsItem}
 use Rattle.nav_eph.specs.Values.{IsPartValue}
@@ -16,13 +16,13 @@ use Rattle.nav_eph.specs.Satellite.{IsSat}
 use Rattle.lnav_subframe.specs.declared.out.SubframeOut.{SubframeOut}
 use Rattle.lnav_subframe.specs.declared.out.SubframeOut.TheVariants.{Clock, OrbitA, OrbitB}
 use Rattle.lnav_subframe.specs.Bytes.{subframe_bytes}
-use Rattle.inav_word.specs.Writing.{word1_bytes, word2_bytes, word3_bytes, word4_bytes, word5_bytes}
-use Rattle.inav_page.specs.Pages.{bytes_of_half, even_of, odd_of}
+use Rattle.inav.specs.Writing.{word1_bytes, word2_bytes, word3_bytes, word4_bytes, word5_bytes}
+use Rattle.inav.specs.Pages.{bytes_of_half, even_of, odd_of}
 use Rattle.nav_eph.specs.declared.signal.Signal.TheVariants.{E1b}
 use Rattle.periods.proofs.Surface.{In}
 use Rattle.nav_laws.proofs.AppendLemmas.{In-append_cases}
-use Rattle.page_send.specs.Slots.{count_of, galileo_second, galileo_week_number, gps_week_number, half_item, items_at, no_ionosphere, slot_stamp, subframe_item}
-use Rattle.page_send.specs.Sendable.{first_fault, has_other_issue, is_far, is_full, is_sent, no_fault, sendable, slots_items}
+use Rattle.sent_captures.specs.Slots.{count_of, galileo_second, galileo_week_number, gps_week_number, half_item, items_at, no_ionosphere, slot_stamp, subframe_item}
+use Rattle.sent_captures.specs.Sendable.{first_fault, has_other_issue, is_far, is_full, is_sent, no_fault, sendable, slots_items}
 use Rattle.nav_laws.specs.SlotParts.{parts_at, slots_parts}
 use Rattle.nav_laws.proofs.Slots.{IsSent}
 use Rattle.nav_laws.proofs.SentTexts.{AreSpelt, IsSpelt, spelt_append}

@@ -5,7 +5,7 @@ use Rattle.nav_bits.specs.Packed.{AreBytes}
 use Rattle.nav_eph.specs.Satellite.{IsSat, Satellite}
 use Rattle.nav_eph.specs.Bodies.{IsGalHealth, IsGalIon}
 use Rattle.nav_eph.specs.Ranges.{IsGalWord1, IsGalWord2, IsGalWord3, IsGalWord4}
-use Rattle.gnss_week.specs.Weeks.{IsSecond}
+use Rattle.nav_eph.specs.Weeks.{IsSecond}
 use Rattle.nav_eph.specs.declared.sat.System.TheVariants.{Gal as OfGalileo, Gps as OfGps}
 use Rattle.nav_eph.specs.declared.galileo.GalHealth.{GalHealth}
 use Rattle.nav_eph.specs.declared.galileo.GalWord1.{GalWord1}
@@ -25,9 +25,9 @@ use Rattle.lnav_subframe.specs.declared.out.SubframeOut.TheVariants.{Clock, Orbi
 use Rattle.lnav_subframe.specs.Bytes.{HasBits, subframe_bytes}
 use Rattle.lnav_subframe.specs.Reading.{heard, start_second, subframe_of}
 use Rattle.lnav_subframe.specs.Writing.{IsWritable, read_again}
-use Rattle.inav_word.specs.Reading.{one_part, reading_of, two_parts}
-use Rattle.inav_word.specs.Writing.{word1_bytes, word2_bytes, word3_bytes, word4_bytes, word5_bytes}
-use Rattle.inav_page.specs.Pages.{even_of, odd_of}
+use Rattle.inav.specs.Reading.{one_part, reading_of, two_parts}
+use Rattle.inav.specs.Writing.{word1_bytes, word2_bytes, word3_bytes, word4_bytes, word5_bytes}
+use Rattle.inav.specs.Pages.{even_of, odd_of}
 use Rattle.nav_eph.specs.declared.signal.Signal.{Signal}
 use Rattle.hex.specs.Hex.{IsBytes}
 use Rattle.capture_lines.specs.Late.{stamp_of}
@@ -37,15 +37,15 @@ use Rattle.capture_lines.specs.declared.item.LineItem.{LineItem}
 use Rattle.periods.proofs.Surface.{In, In-from_contains, contains_from_In}
 use Rattle.nav_laws.proofs.AppendLemmas.{In-append_cases, In-append_left, In-append_right}
 use Rattle.capture_log.specs.Events.{of_subframe, of_word}
-use Rattle.capture_log.specs.Heard.{IsPartHeard}
+use Rattle.capture_log.specs.Received.{IsPartReceived}
 use Rattle.capture_log.specs.declared.event.Event.{Event}
-use Rattle.capture_log.specs.declared.event.Event.TheVariants.{Heard}
-use Rattle.page_send.specs.Slots.{count_of, galileo_items, galileo_second, galileo_week_number, gps_transmission, gps_week_number, half_item, items_at, no_ionosphere, slot_stamp, subframe_item}
-use Rattle.page_send.specs.Sendable.{slots_items}
+use Rattle.capture_log.specs.declared.event.Event.TheVariants.{Received}
+use Rattle.sent_captures.specs.Slots.{count_of, galileo_items, galileo_second, galileo_week_number, gps_transmission, gps_week_number, half_item, items_at, no_ionosphere, slot_stamp, subframe_item}
+use Rattle.sent_captures.specs.Sendable.{slots_items}
 use Rattle.nav_laws.specs.SlotParts.{part, parts_at, slots_parts}
 use Rattle.nav_laws.proofs.Slots.{IsSentGal, IsSentGps}
 use Rattle.nav_laws.proofs.Slots.{IsSent}
-use Rattle.nav_laws.proofs.Heard.{Yields, InOrder, Page, PageGives, PageLaws, PagesInOrder, Sends, Sub, SubGives, yielded_is_heard, even_item, heard_is_yielded, odd_item, sub_item}
+use Rattle.nav_laws.proofs.Received.{Yields, InOrder, Page, PageGives, PageLaws, PagesInOrder, Sends, Sub, SubGives, yielded_is_heard, even_item, heard_is_yielded, odd_item, sub_item}
 
 -- ---- what is sent in a slot
 
@@ -398,30 +398,30 @@ sendings_pages_order b (x ∷ xs) h =
 
 -- ---- what they yield
 
-heard_same : (a b : Part) → Heard a ≡ Heard b → a ≡ b
+heard_same : (a b : Part) → Received a ≡ Received b → a ≡ b
 heard_same a b e = cc
 
 -- a subframe or a page that yields one part yields no other
-sub_yields : (b : Sub) (q p : Part) → of_subframe (subframe_of (subframe_bytes b.body b.count) b.sat b.stamp) ≡ Heard q → (q ≡ p → SubGives b p) × (SubGives b p → q ≡ p)
-sub_yields b q p fact = (λ is. fact ∙ ap Heard is, λ gives. heard_same q p (sym fact ∙ gives))
+sub_yields : (b : Sub) (q p : Part) → of_subframe (subframe_of (subframe_bytes b.body b.count) b.sat b.stamp) ≡ Received q → (q ≡ p → SubGives b p) × (SubGives b p → q ≡ p)
+sub_yields b q p fact = (λ is. fact ∙ ap Received is, λ gives. heard_same q p (sym fact ∙ gives))
 
-page_yields : (g : Page) (q p : Part) → of_word (reading_of g.word g.sat (g.stamp + 1)) ≡ Heard q ∷ [] → (q ≡ p → PageGives g p) × (PageGives g p → q ≡ p)
+page_yields : (g : Page) (q p : Part) → of_word (reading_of g.word g.sat (g.stamp + 1)) ≡ Received q ∷ [] → (q ≡ p → PageGives g p) × (PageGives g p → q ≡ p)
 page_yields g q p fact = (
-  λ is. subst (λ (l : List Event). Contains l (Heard p)) (sym fact) (contains_from_In (Heard q ∷ []) (Heard p) (inl (ap Heard is))),
-  λ gives. elim (In-from_contains (Heard q ∷ []) (Heard p) (subst (λ (l : List Event). Contains l (Heard p)) fact gives)) [
+  λ is. subst (λ (l : List Event). Contains l (Received p)) (sym fact) (contains_from_In (Received q ∷ []) (Received p) (inl (ap Received is))),
+  λ gives. elim (In-from_contains (Received q ∷ []) (Received p) (subst (λ (l : List Event). Contains l (Received p)) fact gives)) [
     | inl e ↦ heard_same q p e
     | inr e ↦ absurd e
   ],
 )
 
-page_yields_two : (g : Page) (q t p : Part) → of_word (reading_of g.word g.sat (g.stamp + 1)) ≡ Heard q ∷ Heard t ∷ []
+page_yields_two : (g : Page) (q t p : Part) → of_word (reading_of g.word g.sat (g.stamp + 1)) ≡ Received q ∷ Received t ∷ []
     → ((q ≡ p) ⊎ (t ≡ p) → PageGives g p) × (PageGives g p → (q ≡ p) ⊎ (t ≡ p))
 page_yields_two g q t p fact = (
-  λ is. subst (λ (l : List Event). Contains l (Heard p)) (sym fact) (contains_from_In (Heard q ∷ Heard t ∷ []) (Heard p) (elim is [
-    | inl e ↦ inl (ap Heard e)
-    | inr e ↦ inr (inl (ap Heard e))
+  λ is. subst (λ (l : List Event). Contains l (Received p)) (sym fact) (contains_from_In (Received q ∷ Received t ∷ []) (Received p) (elim is [
+    | inl e ↦ inl (ap Received e)
+    | inr e ↦ inr (inl (ap Received e))
   ])),
-  λ gives. elim (In-from_contains (Heard q ∷ Heard t ∷ []) (Heard p) (subst (λ (l : List Event). Contains l (Heard p)) fact gives)) [
+  λ gives. elim (In-from_contains (Received q ∷ Received t ∷ []) (Received p) (subst (λ (l : List Event). Contains l (Received p)) fact gives)) [
     | inl e ↦ inl (heard_same q p e)
     | inr e ↦ elim e [ inl f ↦ inr (heard_same t p f) | inr f ↦ absurd f ]
   ],
@@ -440,17 +440,17 @@ count_low e k = omega arith
 
 clock_fact : (laws : ReadLaws) (r s : ℕ) (e : GpsEph) → IsSentGps r e
     → of_subframe (subframe_of (subframe_bytes (Clock e.clock e.side (gps_week_number e)) (count_of e 1)) e.sat s)
-    ≡ Heard (part s e.sat (OfClock e.clock e.side (Sent (gps_week_number e) (gps_transmission e))))
+    ≡ Received (part s e.sat (OfClock e.clock e.side (Sent (gps_week_number e) (gps_transmission e))))
 clock_fact laws r s e h =
     ap of_subframe (laws.sub (Clock e.clock e.side (gps_week_number e)) (count_of e 1) e.sat s (h.item.ranges.clock, h.item.ranges.side, omega arith) (count_low e 1) tt)
-    ∙ ap (λ u. Heard (part s e.sat (OfClock e.clock e.side (Sent (gps_week_number e) u)))) (start_is r e h)
+    ∙ ap (λ u. Received (part s e.sat (OfClock e.clock e.side (Sent (gps_week_number e) u)))) (start_is r e h)
 
 a_fact : (laws : ReadLaws) (r s : ℕ) (e : GpsEph) → IsSentGps r e
-    → of_subframe (subframe_of (subframe_bytes (OrbitA e.a e.fit) (count_of e 2)) e.sat (s + 6)) ≡ Heard (part (s + 6) e.sat (OfOrbitA e.a e.fit))
+    → of_subframe (subframe_of (subframe_bytes (OrbitA e.a e.fit) (count_of e 2)) e.sat (s + 6)) ≡ Received (part (s + 6) e.sat (OfOrbitA e.a e.fit))
 a_fact laws r s e h = ap of_subframe (laws.sub (OrbitA e.a e.fit) (count_of e 2) e.sat (s + 6) (h.item.ranges.a, h.item.ranges.fit) (count_low e 2) tt)
 
 b_fact : (laws : ReadLaws) (r s : ℕ) (e : GpsEph) → IsSentGps r e
-    → of_subframe (subframe_of (subframe_bytes (OrbitB e.b) (count_of e 3)) e.sat (s + 12)) ≡ Heard (part (s + 12) e.sat (OfOrbitB e.b))
+    → of_subframe (subframe_of (subframe_bytes (OrbitB e.b) (count_of e 3)) e.sat (s + 12)) ≡ Received (part (s + 12) e.sat (OfOrbitB e.b))
 b_fact laws r s e h = ap of_subframe (laws.sub (OrbitB e.b) (count_of e 3) e.sat (s + 12) h.item.ranges.b (count_low e 3) tt)
 
 pub no_ion : IsGalIon no_ionosphere
@@ -465,23 +465,23 @@ week_low e = omega arith
 pub second_low : (r : ℕ) (e : GalEph) → IsSentGal r e → IsSecond (galileo_second e)
 second_low r e h = omega (arith, h.item.ranges.w1.toe)
 
-fact1 : (laws : ReadLaws) (r s : ℕ) (e : GalEph) → IsSentGal r e → of_word (reading_of (word1_bytes e.w1) e.sat (s + 1)) ≡ Heard (part (s + 1) e.sat (OfWord1 e.w1)) ∷ []
+fact1 : (laws : ReadLaws) (r s : ℕ) (e : GalEph) → IsSentGal r e → of_word (reading_of (word1_bytes e.w1) e.sat (s + 1)) ≡ Received (part (s + 1) e.sat (OfWord1 e.w1)) ∷ []
 fact1 laws r s e h = ap of_word (laws.word1 e.w1 e.sat (s + 1) h.item.ranges.w1)
 
-fact2 : (laws : ReadLaws) (r s : ℕ) (e : GalEph) → IsSentGal r e → of_word (reading_of (word2_bytes e.w2) e.sat (s + 2 + 1)) ≡ Heard (part (s + 3) e.sat (OfWord2 e.w2)) ∷ []
+fact2 : (laws : ReadLaws) (r s : ℕ) (e : GalEph) → IsSentGal r e → of_word (reading_of (word2_bytes e.w2) e.sat (s + 2 + 1)) ≡ Received (part (s + 3) e.sat (OfWord2 e.w2)) ∷ []
 fact2 laws r s e h = let at : s + 2 + 1 ≡ s + 3 = omega arith in ap (λ t. of_word (reading_of (word2_bytes e.w2) e.sat t)) at ∙ ap of_word (laws.word2 e.w2 e.sat (s + 3) h.item.ranges.w2)
 
-fact3 : (laws : ReadLaws) (r s : ℕ) (e : GalEph) → IsSentGal r e → of_word (reading_of (word3_bytes e.w3) e.sat (s + 4 + 1)) ≡ Heard (part (s + 5) e.sat (OfWord3 e.w3)) ∷ []
+fact3 : (laws : ReadLaws) (r s : ℕ) (e : GalEph) → IsSentGal r e → of_word (reading_of (word3_bytes e.w3) e.sat (s + 4 + 1)) ≡ Received (part (s + 5) e.sat (OfWord3 e.w3)) ∷ []
 fact3 laws r s e h = let at : s + 4 + 1 ≡ s + 5 = omega arith in ap (λ t. of_word (reading_of (word3_bytes e.w3) e.sat t)) at ∙ ap of_word (laws.word3 e.w3 e.sat (s + 5) h.item.ranges.w3)
 
 fact4 : (laws : ReadLaws) (r s : ℕ) (e : GalEph) → IsSentGal r e
-    → of_word (reading_of (word4_bytes e.w4 e.sat.number) e.sat (s + 6 + 1)) ≡ Heard (part (s + 7) e.sat (OfWord4 e.w4)) ∷ []
+    → of_word (reading_of (word4_bytes e.w4 e.sat.number) e.sat (s + 6 + 1)) ≡ Received (part (s + 7) e.sat (OfWord4 e.w4)) ∷ []
 fact4 laws r s e h = let at : s + 6 + 1 ≡ s + 7 = omega arith in ap (λ t. of_word (reading_of (word4_bytes e.w4 e.sat.number) e.sat t)) at ∙ ap of_word (laws.word4 e.w4 e.sat (s + 7) h.item.ranges.w4 (sat_low e h.item.ranges.sat h.item.whole.system))
 
 fact5 : (laws : ReadLaws) (r s : ℕ) (e : GalEph) → IsSentGal r e
     → of_word (reading_of (word5_bytes e.health no_ionosphere (galileo_week_number e) (galileo_second e)) e.sat (s + 8 + 1))
-    ≡ Heard (part (s + 9) e.sat (OfHealth e.health (Sent (galileo_week_number e) (galileo_second e))))
-    ∷ Heard (part (s + 9) e.sat (OfGalIon no_ionosphere (galileo_week_number e) (galileo_second e))) ∷ []
+    ≡ Received (part (s + 9) e.sat (OfHealth e.health (Sent (galileo_week_number e) (galileo_second e))))
+    ∷ Received (part (s + 9) e.sat (OfGalIon no_ionosphere (galileo_week_number e) (galileo_second e))) ∷ []
 fact5 laws r s e h = let at : s + 8 + 1 ≡ s + 9 = omega arith in ap (λ t. of_word (reading_of (word5_bytes e.health no_ionosphere (galileo_week_number e) (galileo_second e)) e.sat t)) at ∙ ap of_word (laws.word5 e.health no_ionosphere (galileo_week_number e) (galileo_second e) e.sat (s + 9) h.item.ranges.health no_ion (week_low e) (second_low r e h))
 
 -- the parts of a slot are those that its subframes and pages yield
@@ -576,7 +576,7 @@ page_in_sendings laws r (x ∷ xs) g p h i gives =
 
 -- the parts received of what is sent are its parts
 pub sendings_are_heard : (laws : ReadLaws) (pages : PageLaws) (r w b : ℕ) (xs : List Sending) (p : Part) → MayBeSent r xs → AreApart b xs
-    → IsPartHeard w (sendings_items xs) p ↔ In (sendings_parts xs) p
+    → IsPartReceived w (sendings_items xs) p ↔ In (sendings_parts xs) p
 sendings_are_heard laws pages r w b xs p h apart = (
   λ heard. elim (heard_is_yielded w b (sendings_items xs) (sendings_subs xs) (sendings_pages xs) p pages (sendings_send laws xs) (sendings_pages_order b xs apart) heard) [
     | inl b ↦ sub_in_sendings laws r xs b.0 p h b.1 b.2
@@ -588,7 +588,7 @@ sendings_are_heard laws pages r w b xs p h apart = (
 
 -- the parts received from a transmission are those of the slots
 pub slots_are_heard : (laws : ReadLaws) (pages : PageLaws) (r w slot : ℕ) (xs : List NavItem) (p : Part) → InSlots r slot xs
-    → IsPartHeard w (slots_items slot xs) p ↔ In (slots_parts slot xs) p
+    → IsPartReceived w (slots_items slot xs) p ↔ In (slots_parts slot xs) p
 slots_are_heard laws pages r w slot xs p h =
-    subst₂ (λ (l : List LineItem) (m : List Part). IsPartHeard w l p ↔ In m p) (slots_items_are slot xs) (slots_parts_are slot xs)
+    subst₂ (λ (l : List LineItem) (m : List Part). IsPartReceived w l p ↔ In m p) (slots_items_are slot xs) (slots_parts_are slot xs)
     (sendings_are_heard laws pages r w (slot_stamp slot) (slots_sendings slot xs) p (slots_sent r slot xs h) (slots_apart slot xs))

@@ -8,8 +8,8 @@ use Rattle.capture_lines.specs.Spellings.{IsEnded, IsPrinted, IsSpelling, Stands
 use Rattle.capture_lines.specs.declared.item.LineItem.{LineItem}
 use Rattle.capture_lines.specs.declared.item.LineItem.TheVariants.{Pass, Lnav, Half, Frame, Malformed}
 use Rattle.capture_log.specs.Log.{line_items_of}
-use Rattle.page_send.specs.Slots.{text_of_item, text_of_items}
-use Rattle.page_send.specs.Sendable.{sent_lines, sent_text}
+use Rattle.sent_captures.specs.Slots.{text_of_item, text_of_items}
+use Rattle.sent_captures.specs.Sendable.{sent_lines, sent_text}
 use Rattle.nav_eph.specs.declared.items.NavItem.{NavItem}
 
 -- what the laws of lines say

@@ -1,9 +1,9 @@
 -- One slot whose parts are received at any seconds of its first two hours, each at least once: its periods and their items.
 use Rattle.std.proofs.Common.{◌≡◌, ℕ, ◌+◌, ◌*◌, ◌<◌, ◌≤◌, ◌⊎◌, inl, inr, pos, ◌-ℤ◌, Bool, if◌then◌else◌, List, [], ◌∷◌, ◌++◌, Option, None, Some, Contains, refl, sym, ap, subst, ◌∙◌, arith}
 use Rattle.std.proofs.lemmas.Bool.{cases_lt}
-use Rattle.gnss_week.specs.Weeks.{week_of}
-use Rattle.gnss_week.specs.Functions.{galileo_week_to, gps_week_to, moment_near}
-use Rattle.gnss_week.proofs.Surface.{galileo_number-means, gps_number-means}
+use Rattle.nav_eph.specs.Weeks.{week_of}
+use Rattle.nav_eph.specs.Functions.{galileo_week_to, gps_week_to, moment_near}
+use Rattle.nav_eph.proofs.Surface.{galileo_number-means, gps_number-means}
 use Rattle.nav_eph.specs.Satellite.{Satellite}
 use Rattle.nav_eph.specs.Items.{galileo_toe_moment}
 use Rattle.nav_eph.specs.declared.gps.GpsClock.{GpsClock}
@@ -25,9 +25,9 @@ use Rattle.nav_eph.specs.declared.items.GpsEph.{GpsEph}
 use Rattle.nav_eph.specs.declared.items.GalEph.{GalEph}
 use Rattle.nav_eph.specs.declared.items.NavItem.{NavItem}
 use Rattle.nav_eph.specs.declared.items.NavItem.TheVariants.{Gps as GpsItem, Gal as GalItem, Ion as IonItem}
-use Rattle.periods.specs.declared.key.Key.{Key}
-use Rattle.periods.specs.declared.key.Key.TheVariants.{Gps, Gal}
-use Rattle.periods.specs.declared.key.Place.{Place}
+use Rattle.periods.specs.declared.key.PeriodKey.{PeriodKey}
+use Rattle.periods.specs.declared.key.PeriodKey.TheVariants.{Gps, Gal}
+use Rattle.periods.specs.declared.key.PeriodId.{PeriodId}
 use Rattle.periods.specs.declared.key.Transmission.{Transmission}
 use Rattle.periods.specs.declared.closed.Finding.{Finding}
 use Rattle.periods.specs.declared.closed.Finding.TheVariants.{Differs, Misses, LacksHealth, Complete}
@@ -37,13 +37,13 @@ use Rattle.periods.specs.Ends.{IsEnd}
 use Rattle.periods.specs.Items.{gal_moment, gps_moment, sent_second, toe_week_of}
 use Rattle.periods.specs.Parts.{Kind, Clock, OrbitA, OrbitB, Word1, Word2, Word3, Word4, Side, FitFlag, TransmissionTag, IonTransmission, HealthOf, Value, HasValue, key_in, key_of}
 use Rattle.periods.specs.Readings.{reading_in, same_sat}
-use Rattle.periods.specs.Periods.{IsBefore, IsHeardAt, IsMember, IsPeriod}
+use Rattle.periods.specs.Periods.{IsBefore, IsReceivedAt, IsMember, IsPeriod}
 use Rattle.periods.specs.PeriodLists.{IsAscending, items_in}
 use Rattle.periods.specs.PeriodsOf.{end_place, finding_at}
 use Rattle.periods.specs.Verdicts.{IsComplete, IsFound, IsOfEphemeris, closed_place}
 use Rattle.periods.proofs.Surface.{In, In-from_contains, contains_from_In, covered, finding_at-is, is-same_sat, known_parts, none_some, reading_of, some_is}
-use Rattle.page_send.specs.Slots.{galileo_second, galileo_week_number, gps_second, gps_transmission, gps_week_number, no_ionosphere}
-use Rattle.page_send.specs.SentItems.{as_sent, ionosphere_with}
+use Rattle.sent_captures.specs.Slots.{galileo_second, galileo_week_number, gps_second, gps_transmission, gps_week_number, no_ionosphere}
+use Rattle.sent_captures.specs.SentItems.{as_sent, ionosphere_with}
 use Rattle.nav_laws.specs.SentAgain.{IsIonosphere, IsWord}
 use Rattle.nav_laws.specs.SlotParts.{parts_at}
 use Rattle.nav_laws.proofs.Slots.{IsSentGal, IsSentGps, gal_key, gps_key, ion_item, ion_key, sent_is, toe_week_is, IsSent, key_of_item}
@@ -134,7 +134,7 @@ none P t w e = absurd (none_some w e)
 
 -- ---- ends
 
-heard_in : (s : ℕ) (sat : Satellite) (bs : List Body) (parts : List Part) (key : Key) (t : ℕ) → AreOfSlot s sat bs parts → IsHeardAt (Contains parts) key t
+heard_in : (s : ℕ) (sat : Satellite) (bs : List Body) (parts : List Part) (key : PeriodKey) (t : ℕ) → AreOfSlot s sat bs parts → IsReceivedAt (Contains parts) key t
     → (s ≤ t) × (t ≤ s + 7200)
 heard_in s sat bs parts key t again x =
     let i = In-from_contains parts x.part x.here in
@@ -152,18 +152,18 @@ one_end s at e f bounds he hf = elim (cases_lt e f) [
 ]
 
 -- a key of which a part was received has one period
-record IsPeriodOf (s : ℕ) (parts : List Part) (key : Key) : Type 0 where
+record IsPeriodOf (s : ℕ) (parts : List Part) (key : PeriodKey) : Type 0 where
   end : ℕ
   from : s ≤ end
   to : end ≤ s + 7200
   period : IsPeriod 7200 (Contains parts) (end_place key end)
-  only : (q : Place) → IsPeriod 7200 (Contains parts) q → q.key ≡ key → q ≡ end_place key end
+  only : (q : PeriodId) → IsPeriod 7200 (Contains parts) q → q.key ≡ key → q ≡ end_place key end
   member : (p : Part) → In parts p → key_of p ≡ Some key → IsMember 7200 (Contains parts) (end_place key end) p
 
-period_of : (s : ℕ) (sat : Satellite) (bs : List Body) (parts : List Part) (key : Key) (p : Part) → AreOfSlot s sat bs parts → In parts p → key_of p ≡ Some key
+period_of : (s : ℕ) (sat : Satellite) (bs : List Body) (parts : List Part) (key : PeriodKey) (p : Part) → AreOfSlot s sat bs parts → In parts p → key_of p ≡ Some key
     → IsPeriodOf s parts key
 period_of s sat bs parts key p again i of_key =
-    let at = IsHeardAt (Contains parts) key in
+    let at = IsReceivedAt (Contains parts) key in
     let bounds : (t : ℕ) → at t → (s ≤ t) × (t ≤ s + 7200) = λ t x. heard_in s sat bs parts key t again x in
     let end = covered 7200 at (known_parts 7200 parts key) p.stamp (record { part = p; here = contains_from_In parts p i; of_key = of_key; at_stamp = refl }) in
     let is_end = end.1.is_end in
@@ -174,7 +174,7 @@ period_of s sat bs parts key p again i of_key =
       to = within.1;
       period = is_end;
       only = λ q hq is.
-          let moved : IsEnd 7200 at q.end = subst (λ (k : Key). IsEnd 7200 (IsHeardAt (Contains parts) k) q.end) is hq in
+          let moved : IsEnd 7200 at q.end = subst (λ (k : PeriodKey). IsEnd 7200 (IsReceivedAt (Contains parts) k) q.end) is hq in
           let same : q.end ≡ end.0 = one_end s at q.end end.0 bounds moved is_end in
           λ j. record { end = same j; key = is j };
       member = λ q iq kq. record {
@@ -199,7 +199,7 @@ key_at : (s : ℕ) (sat : Satellite) (bs : List Body) (parts : List Part) (p : P
 key_at s sat bs parts p again i = ap (λ (z : Satellite). key_in z p.body) (again.sat_is p i)
 
 -- a period whose every finding is the item is complete with it
-complete_by : (r : ℕ) (parts : List Part) (key : Key) (e : ℕ) (item : NavItem) → IsPeriod 7200 (Contains parts) (end_place key e)
+complete_by : (r : ℕ) (parts : List Part) (key : PeriodKey) (e : ℕ) (item : NavItem) → IsPeriod 7200 (Contains parts) (end_place key e)
     → ((f : Finding) → IsFound r 7200 (Contains parts) (end_place key e) f → f ≡ Complete item)
     → IsComplete r 7200 (Contains parts) key e item
 complete_by r parts key e item period is =
@@ -305,7 +305,7 @@ gps_finding r s e parts end (Complete (IonItem g)) h v f = absurd f
 
 -- ---- Galileo
 
-abbrev GalKeys : GalEph → Option Key → Type 0
+abbrev GalKeys : GalEph → Option PeriodKey → Type 0
 GalKeys e k = (k ≡ Some (gal_key e)) ⊎ ((k ≡ None) ⊎ (k ≡ Some ion_key))
 
 gal_keys : (r : ℕ) (e : GalEph) (b : Body) → IsSentGal r e → In (bodies_of (GalItem e)) b → GalKeys e (key_in e.sat b)
@@ -436,7 +436,7 @@ gal_finding r s e parts end (Complete (GalItem g)) h again from to v f =
     let w2 = v.w2 g.w2 f.w2.here in
     let w3 = v.w3 g.w3 f.w3.here in
     let w4 = v.w4 g.w4 f.w4.here in
-    let said : Healthy e f.heard = elim f.heard_is [
+    let said : Healthy e f.heard = elim f.received_is [
       | inl first ↦ health_is s e parts f.heard again first.here.heard
       | inr none ↦ health_is s e parts f.heard again none.1.here.heard
     ] in
@@ -510,7 +510,7 @@ pub record AreSwapped (parts : List Part) : Type 0 where
 
 -- the periods of a slot: some before that of the ephemeris, that, and some after it
 pub record IsSlot (r s : ℕ) (x : NavItem) (parts : List Part) : Type 0 where
-  pub key : Key
+  pub key : PeriodKey
   pub of_item : key_of_item x ≡ Some key
   pub eph : IsOfEphemeris key
   pub end : ℕ
@@ -525,7 +525,7 @@ pub record IsSlot (r s : ℕ) (x : NavItem) (parts : List Part) : Type 0 where
   pub last_ascending : IsAscending last
   pub items : items_in first ++ items_in last ≡ ionosphere_with x
   pub order : (items_in first ≡ []) ⊎ AreSwapped parts
-  pub cases : (q : Place) → IsPeriod 7200 (Contains parts) q
+  pub cases : (q : PeriodId) → IsPeriod 7200 (Contains parts) q
       → (q ≡ end_place key end) ⊎ (((c : Closed) × In first c × (closed_place c ≡ q)) ⊎ ((c : Closed) × In last c × (closed_place c ≡ q)))
   pub low : (p : Part) → In parts p → s ≤ p.stamp
   pub high : (p : Part) → In parts p → p.stamp ≤ s + 7200
@@ -573,7 +573,7 @@ gal_slot r s e parts h again =
     let ion_found = complete_by r parts ion_key q.end (ion_item e) q.period (λ f found. ion_finding r s e parts q.end f h again found) in
     let ion_period : IsIonPeriod r parts ion = record { item = ion_item e; period = q.period; found = ion_found.found; verdict = refl; other = λ never. never } in
     let complete = complete_by r parts (gal_key e) p.end (as_sent (GalItem e)) p.period (λ f found. gal_finding r s e parts p.end f h again p.from p.to values found) in
-    let cases : (t : Place) → IsPeriod 7200 (Contains parts) t → (t ≡ end_place (gal_key e) p.end) ⊎ (t ≡ end_place ion_key q.end) = λ t ht.
+    let cases : (t : PeriodId) → IsPeriod 7200 (Contains parts) t → (t ≡ end_place (gal_key e) p.end) ⊎ (t ≡ end_place ion_key q.end) = λ t ht.
     let i = In-from_contains parts ht.heard.part ht.heard.here in
     let k = key_at s e.sat bs parts ht.heard.part again i in
     elim (gal_keys r e ht.heard.part.body h (again.body ht.heard.part i)) [

@@ -1,9 +1,9 @@
 -- The items that may be sent in a slot: their keys, weeks and stamps.
 use Rattle.std.proofs.Common.{◌≡◌, ℕ, ◌+◌, ◌*◌, ◌%◌, ◌<◌, ◌≤◌, inl, inr, pos, ◌-ℤ◌, Option, None, Some, refl, sym, ap, ◌∙◌, arith}
 use Rattle.std.proofs.lemmas.Int.{ints}
-use Rattle.gnss_week.specs.Weeks.{IsNearGalileo, IsNearGps, week_of}
-use Rattle.gnss_week.specs.Functions.{moment_near}
-use Rattle.gnss_week.proofs.Surface.{moment_near-only}
+use Rattle.nav_eph.specs.Weeks.{IsNearGalileo, IsNearGps, week_of}
+use Rattle.nav_eph.specs.Functions.{moment_near}
+use Rattle.nav_eph.proofs.Surface.{moment_near-only}
 use Rattle.nav_eph.specs.Items.{galileo_toe_moment}
 use Rattle.nav_eph.specs.Ranges.{IsGalItem, IsGpsItem}
 use Rattle.nav_eph.specs.declared.ion.IonContent.TheVariants.{Gal as OfGal}
@@ -14,9 +14,9 @@ use Rattle.nav_eph.specs.declared.items.GalEph.{GalEph}
 use Rattle.nav_eph.specs.declared.items.NavItem.{NavItem}
 use Rattle.nav_eph.specs.declared.items.NavItem.TheVariants.{Gps as GpsItem, Gal as GalItem, Ion as IonItem}
 use Rattle.periods.proofs.Surface.{In}
-use Rattle.periods.specs.declared.key.Key.{Key}
-use Rattle.periods.specs.declared.key.Key.TheVariants.{Gps, Gal, GalIon}
-use Rattle.page_send.specs.Slots.{no_ionosphere}
+use Rattle.periods.specs.declared.key.PeriodKey.{PeriodKey}
+use Rattle.periods.specs.declared.key.PeriodKey.TheVariants.{Gps, Gal, GalIon}
+use Rattle.sent_captures.specs.Slots.{no_ionosphere}
 use Rattle.nav_laws.specs.SlotParts.{parts_at}
 
 -- the GPS time with the second of week `toe` that is nearest to the transmission time
@@ -32,7 +32,7 @@ toe_week_is week sent toe small low high =
 pub sent_is : (week sent : ℕ) → At (pos sent) ≡ At (pos (604800 * week + sent) -ℤ pos (604800 * week))
 sent_is week sent = let e : pos sent ≡ pos (604800 * week + sent) -ℤ pos (604800 * week) = omega (arith, ints) in ap At e
 
-abbrev pub gps_key : GpsEph → Key
+abbrev pub gps_key : GpsEph → PeriodKey
 gps_key e = Gps e.sat e.a.iode
 
 -- the ephemeris of GPS may be sent
@@ -41,10 +41,10 @@ pub record IsSentGps (r : ℕ) (e : GpsEph) : Type 0 where
   pub issue : e.clock.iodc % 256 ≡ e.a.iode
   pub near : IsNearGps r e.toe_week
 
-abbrev pub gal_key : GalEph → Key
+abbrev pub gal_key : GalEph → PeriodKey
 gal_key e = Gal e.sat e.w1.iodnav
 
-abbrev pub ion_key : Key
+abbrev pub ion_key : PeriodKey
 ion_key = GalIon no_ionosphere
 
 -- the ionosphere that is sent
@@ -63,7 +63,7 @@ IsSent r (GalItem e) = IsSentGal r e
 IsSent r (IonItem e) = ⊥
 
 -- its key
-abbrev pub key_of_item : NavItem → Option Key
+abbrev pub key_of_item : NavItem → Option PeriodKey
 key_of_item (GpsItem e) = Some (gps_key e)
 key_of_item (GalItem e) = Some (gal_key e)
 key_of_item (IonItem e) = None

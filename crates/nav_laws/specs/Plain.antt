@@ -1,7 +1,7 @@
 -- The state of the plain assembly, and the parts and periods that it represents.
 use Rattle.std.specs.Prelude.{◌≡◌, ℕ, ◌+◌, ◌≤◌, Bool, true, ◌&&◌, nat_lt, if◌then◌else◌, List, [], ◌∷◌, Option, None, Some, All, Contains}
 use Rattle.nav_eph.specs.declared.part.Part.{Part}
-use Rattle.periods.specs.declared.key.Place.{Place}
+use Rattle.periods.specs.declared.key.PeriodId.{PeriodId}
 use Rattle.nav_eph.specs.Values.{IsPartValue}
 use Rattle.slot_assembly.specs.Standing.{Standing, NoneDue}
 use Rattle.periods.specs.PeriodsOf.{quiet, is_before, place_at}
@@ -17,7 +17,7 @@ pub record PlainState : Type 0 where
   -- the greatest watermark given
   pub watermark : ℕ
   -- the last period given
-  pub last : Option Place
+  pub last : Option PeriodId
   -- no part has an earlier time tag
   pub least : ℕ
   -- the greatest watermark at which no period was due
@@ -36,21 +36,21 @@ pub record PlainStandsFor (assembly : PlainState) (at : Standing) : Type 0 where
   pub none_by : assembly.none_at ≤ at.watermark
 
 -- the place comes after the last one given
-abbrev pub is_after : Option Place → Place → Bool
+abbrev pub is_after : Option PeriodId → PeriodId → Bool
 is_after None q = true
 is_after (Some last) q = is_before last q
 
 -- the place is due: closed at the watermark, after the last one given, and the end of a period
-abbrev pub due : List Part → ℕ → ℕ → Option Place → Place → Bool
+abbrev pub due : List Part → ℕ → ℕ → Option PeriodId → PeriodId → Bool
 due parts window watermark last q = nat_lt (q.end + window) watermark && (is_after last q && quiet parts window q.key q.end)
 
 -- n + 1 if there is a place after the last one given, else n
-abbrev pub count_after : Option Place → Option Place → ℕ → ℕ
+abbrev pub count_after : Option PeriodId → Option PeriodId → ℕ → ℕ
 count_after last None n = n
 count_after last (Some q) n = if is_after last q then n + 1 else n
 
 -- the number of parts at places after the last one given
-abbrev pub left_of : Option Place → List Part → ℕ
+abbrev pub left_of : Option PeriodId → List Part → ℕ
 left_of last [] = 0
 left_of last (p ∷ ps) = count_after last (place_at p) (left_of last ps)
 

@@ -9,8 +9,8 @@ use Rattle.capture_lines.specs.Late.{stamp_of}
 use Rattle.capture_lines.specs.declared.item.LineItem.{LineItem}
 use Rattle.capture_lines.specs.declared.item.LineItem.TheVariants.{Pass, Lnav, Half, Frame, Malformed}
 use Rattle.capture_log.specs.Log.{line_items_of, parts_of}
-use Rattle.page_send.specs.Sendable.{is_ephemeris}
-use Rattle.page_send.specs.Slots.{slot_stamp}
+use Rattle.sent_captures.specs.Sendable.{is_ephemeris}
+use Rattle.sent_captures.specs.Slots.{slot_stamp}
 
 -- the second is one of the first two hours of the slot
 pub record IsInSlot (slot second : ℕ) : Type 0 where
@@ -58,8 +58,8 @@ pub record AreTurned (parts : List Part) : Type 0 where
   pub earlier : ionosphere.stamp < word.stamp
 
 -- each part of the first lines is received of the second, at whichever second of its slot
-abbrev pub IsHeardAgain : List Line → List Line → Type 0
-IsHeardAgain sent received =
+abbrev pub IsReceivedAgain : List Line → List Line → Type 0
+IsReceivedAgain sent received =
     (q : Part) → Contains (parts_of 7200 sent) q → (p : Part) × Contains (parts_of 7200 received) p × IsSentAgain p q
 
 -- the item of a line, with a later time tag

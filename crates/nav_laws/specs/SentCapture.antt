@@ -6,7 +6,7 @@ use Rattle.nav_eph.specs.declared.items.NavItem.{NavItem}
 use Rattle.capture_lines.specs.Late.{stamp_of}
 use Rattle.capture_lines.specs.declared.item.LineItem.{LineItem}
 use Rattle.capture_log.specs.Log.{line_items_of, parts_of}
-use Rattle.page_send.specs.Sendable.{sent_text}
+use Rattle.sent_captures.specs.Sendable.{sent_text}
 
 -- the lines after the first of the capture that transmits a list of items, for the reference week r
 abbrev pub sent_capture : ℕ → List NavItem → List Line
@@ -18,5 +18,5 @@ IsOfLines some other =
     (item : LineItem) (s : ℕ) → stamp_of item ≡ Some s → Contains (line_items_of some) item → Contains (line_items_of other) item
 
 -- each part received in the first is received in the second, with a window of 7,200 s
-abbrev pub IsStillHeard : List Line → List Line → Type 0
-IsStillHeard some other = (part : Part) → Contains (parts_of 7200 some) part → Contains (parts_of 7200 other) part
+abbrev pub IsStillReceived : List Line → List Line → Type 0
+IsStillReceived some other = (part : Part) → Contains (parts_of 7200 some) part → Contains (parts_of 7200 other) part

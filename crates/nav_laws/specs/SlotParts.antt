@@ -9,7 +9,7 @@ use Rattle.nav_eph.specs.declared.items.GpsEph.{GpsEph}
 use Rattle.nav_eph.specs.declared.items.GalEph.{GalEph}
 use Rattle.nav_eph.specs.declared.items.NavItem.{NavItem}
 use Rattle.nav_eph.specs.declared.items.NavItem.TheVariants.{Gps, Gal, Ion}
-use Rattle.page_send.specs.Slots.{galileo_second, galileo_week_number, gps_transmission, gps_week_number, no_ionosphere, slot_stamp}
+use Rattle.sent_captures.specs.Slots.{galileo_second, galileo_week_number, gps_transmission, gps_week_number, no_ionosphere, slot_stamp}
 
 -- the part with this time tag, satellite and content
 abbrev pub part : ℕ → Satellite → Body → Part

@@ -6,10 +6,10 @@ ghost use Rattle.periods.specs.PeriodsOf.{place_at, is_before};
 ghost use Rattle.nav_laws.specs.Plain.{is_after, due};
 
 use nav_eph::Part;
-use periods::{Place, comes_before, is_quiet, place_of_part};
+use periods::{PeriodId, comes_before, is_quiet, place_of_part};
 
 // Whether the place comes after the last one given.
-fn is_behind(last: &Option<Place>, place: &Place) -> bool
+fn is_behind(last: &Option<PeriodId>, place: &PeriodId) -> bool
     ensures { result ≡ is_after last.now place.now }
 {
     match last {
@@ -19,7 +19,7 @@ fn is_behind(last: &Option<Place>, place: &Place) -> bool
 }
 
 // Whether no place was found yet, or this one comes before it.
-fn is_sooner(best: &Option<Place>, place: &Place) -> bool
+fn is_sooner(best: &Option<PeriodId>, place: &PeriodId) -> bool
     ensures { result ≡ is_better is_before best.now place.now }
 {
     match best {
@@ -29,7 +29,13 @@ fn is_sooner(best: &Option<Place>, place: &Place) -> bool
 }
 
 // Whether the place is that of a period that is closed at the watermark and was not given.
-fn is_due(parts: &[Part], window: u32, watermark: u64, last: &Option<Place>, place: &Place) -> bool
+fn is_due(
+    parts: &[Part],
+    window: u32,
+    watermark: u64,
+    last: &Option<PeriodId>,
+    place: &PeriodId,
+) -> bool
     ensures { result ≡ due parts.now window watermark last.now place.now }
 {
     place.end as u64 + (window as u64) < watermark
@@ -38,13 +44,13 @@ fn is_due(parts: &[Part], window: u32, watermark: u64, last: &Option<Place>, pla
 
 // The first due place so far, after one more place was looked at.
 fn place_with(
-    best: Option<Place>,
-    place: Option<Place>,
+    best: Option<PeriodId>,
+    place: Option<PeriodId>,
     parts: &[Part],
     window: u32,
     watermark: u64,
-    last: &Option<Place>,
-) -> Option<Place>
+    last: &Option<PeriodId>,
+) -> Option<PeriodId>
     ensures { result ≡ best_with (due parts.now window watermark last.now) is_before best place }
 {
     match place {
@@ -64,12 +70,12 @@ pub(crate) fn first_due(
     parts: &[Part],
     window: u32,
     watermark: u64,
-    last: &Option<Place>,
-) -> Option<Place>
+    last: &Option<PeriodId>,
+) -> Option<PeriodId>
     ensures { result
         ≡ best_among place_at (due parts.now window watermark last.now) is_before parts.now None }
 {
-    let mut best: Option<Place> = None;
+    let mut best: Option<PeriodId> = None;
     for part in parts {
         best = place_with(best, place_of_part(part), parts, window, watermark, last);
     }

@@ -10,13 +10,13 @@ ghost use Rattle.nav_eph.specs.declared.part.Part.{Part};
 ghost use Rattle.capture_lines.specs.Heads.{head_of, plain_head};
 ghost use Rattle.periods.specs.PeriodLists.{items_in};
 ghost use Rattle.periods.specs.PeriodsOf.{periods_of};
-ghost use Rattle.capture_log.specs.Heard.{NoneLate, SameItems};
+ghost use Rattle.capture_log.specs.Received.{NoneLate, SameItems};
 ghost use Rattle.capture_log.specs.Log.{line_items_of, parts_of};
-ghost use Rattle.page_send.specs.Sendable.{sendable, sent_lines, sent_text};
-ghost use Rattle.page_send.specs.SentItems.{sent_items};
-ghost use Rattle.nav_laws.specs.SentAgain.{AreRepeats, AreSentAgain, AreTurned, IsHeardAgain};
+ghost use Rattle.sent_captures.specs.Sendable.{sendable, sent_lines, sent_text};
+ghost use Rattle.sent_captures.specs.SentItems.{sent_items};
+ghost use Rattle.nav_laws.specs.SentAgain.{AreRepeats, AreSentAgain, AreTurned, IsReceivedAgain};
 ghost use Rattle.nav_laws.specs.SentAgain.{IsSentAgain, SameByType};
-ghost use Rattle.nav_laws.specs.SentCapture.{IsOfLines, IsStillHeard, sent_capture};
+ghost use Rattle.nav_laws.specs.SentCapture.{IsOfLines, IsStillReceived, sent_capture};
 ghost use Rattle.nav_laws.specs.SlotParts.{slots_parts};
 
 /// The items of the periods of the parts of all slots are those that are read again of a
@@ -30,7 +30,7 @@ pub fn parts_of_slots_come_back()
 /// its further lines are those of the slots, and exactly the parts of the slots are received from
 /// them. From lines that repeat them, every 30 s for two hours, the same parts are received, at
 /// other seconds of their slots, and no others.
-pub fn what_is_sent_is_heard()
+pub fn what_is_sent_is_received()
     ensures head { (r : ℕ) (items : List NavItem) → lines_by false (sent_text r items)
         ≡ record { text = plain_head; long = false } ∷ sent_capture r items }
     ensures window { head_of plain_head ≡ Some (record { window = 7200; week = None }) }
@@ -49,16 +49,16 @@ pub fn what_is_sent_is_heard()
     capture_lines::each_line_stands_for_one_thing();
     capture_lines::texts_stand_for_their_items();
     lnav_subframe::subframe_bytes_are_written();
-    inav_word::word_bytes();
-    inav_word::written_word1_is_read();
-    inav_word::written_word2_is_read();
-    inav_word::written_word3_is_read();
-    inav_word::written_word4_is_read();
-    inav_word::written_word5_is_read();
-    inav_page::split_is_a_word();
-    inav_page::halves_are_read_again();
-    inav_page::parts_are_their_bits();
-    capture_log::lines_yield_what_is_heard();
+    inav::word_bytes();
+    inav::written_word1_is_read();
+    inav::written_word2_is_read();
+    inav::written_word3_is_read();
+    inav::written_word4_is_read();
+    inav::written_word5_is_read();
+    inav::split_is_a_word();
+    inav::halves_are_read_again();
+    inav::parts_are_their_bits();
+    capture_log::lines_yield_what_is_received();
 }
 
 /// What is transmitted is read again. Take a capture with a window of 7,200 s from whose further
@@ -85,7 +85,7 @@ pub fn what_is_sent_comes_back()
         ↔ Contains (parts_of 7200 (sent_capture r items)) part)
         → items_in (periods_of r 7200 (parts_of 7200 lines)) ≡ sent_items r items }
     ensures lost { (r : ℕ) (items : List NavItem) (lines : List Line) → All IsItem items
-        → IsOfLines lines (sent_capture r items) → IsStillHeard (sent_capture r items) lines
+        → IsOfLines lines (sent_capture r items) → IsStillReceived (sent_capture r items) lines
         → items_in (periods_of r 7200 (parts_of 7200 lines)) ≡ sent_items r items }
     ensures reordered { (r : ℕ) (items : List NavItem) (lines : List Line) → All IsItem items
         → SameItems (line_items_of lines) (line_items_of (sent_capture r items))
@@ -99,12 +99,12 @@ pub fn what_is_sent_comes_back()
         → (AreTurned (parts_of 7200 lines) → ⊥)
         → items_in (periods_of r 7200 (parts_of 7200 lines)) ≡ sent_items r items }
     ensures repeated { (r : ℕ) (items : List NavItem) (lines : List Line) → All IsItem items
-        → AreRepeats lines (sent_capture r items) → IsHeardAgain (sent_capture r items) lines
+        → AreRepeats lines (sent_capture r items) → IsReceivedAgain (sent_capture r items) lines
         → SameByType (items_in (periods_of r 7200 (parts_of 7200 lines))) (sent_items r items) }
 {
     periods::order_does_not_matter();
     capture_log::parts_of_lines_are_values();
-    capture_log::lines_yield_what_is_heard();
+    capture_log::lines_yield_what_is_received();
     parts_of_slots_come_back();
-    what_is_sent_is_heard();
+    what_is_sent_is_received();
 }

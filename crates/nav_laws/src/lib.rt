@@ -8,7 +8,8 @@
 //!
 //! - [`what_is_sent_comes_back`], over lines;
 //! - [`parts_of_slots_come_back`], over the parts of the slots alone;
-//! - [`what_is_sent_is_heard`], that the parts received from a transmission are those of the slots.
+//! - [`what_is_sent_is_received`], that the parts received from a transmission are those of the
+//! slots.
 //!
 //! [`PlainAssembly`] keeps all parts and searches them, as the definitions do; the assembly in
 //! slots is compared with it.
@@ -21,5 +22,7 @@ mod laws;
 mod plain;
 
 pub use crate::far::old_is_far;
-pub use crate::laws::{parts_of_slots_come_back, what_is_sent_comes_back, what_is_sent_is_heard};
+pub use crate::laws::{
+    parts_of_slots_come_back, what_is_sent_comes_back, what_is_sent_is_received,
+};
 pub use crate::plain::PlainAssembly;

@@ -4,9 +4,8 @@ ghost use Rattle.std.specs.Prelude.{◌≡◌, ◌≤◌, ◌<◌, ◌+◌, ◌^
 
 use crate::due::first_due;
 use crate::kept::keep;
-use gnss_week::RefWeek;
-use nav_eph::Part;
-use periods::{Closed, Place, note_value, verdict_on};
+use nav_eph::{Part, RefWeek};
+use periods::{Closed, PeriodId, note_value, verdict_on};
 use slot_assembly::Assembly;
 use std::alloc::{AllocError, Global};
 use std::marker::Model;
@@ -23,7 +22,7 @@ pub struct PlainAssembly {
     reference: RefWeek,
     window: u32,
     watermark: u64,
-    last: Option<Place>,
+    last: Option<PeriodId>,
     // no kept part has an earlier stamp
     least: u32,
     // the greatest watermark at which no period was due

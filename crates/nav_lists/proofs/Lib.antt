@@ -5,3 +5,6 @@ mod FrontLemmas
 mod InsertLemmas
 mod MergeLemmas
 mod HeldLemmas
+pub mod RankedLemmas
+pub mod RankedHeldLemmas
+pub mod Surface

@@ -20,6 +20,19 @@
 //! let mut cover = Cover::new(rt.alloc());
 //! assert!(rt; cover.take_first().is_none());
 //! ```
+//!
+//! Lists of values in the order of a rank, of which each rank has one value.
+//!
+//! A [`RankedList`] is built value by value. Of values of one rank it keeps the first by choice. It
+//! depends on the set of the values alone, not on their order nor on repetition, if values that are
+//! equal in rank and choice are equal.
+//!
+//! ```rust
+//! use nav_lists::RankedList;
+//!
+//! let mut list: RankedList<Text> = RankedList::new(rt.alloc());
+//! list.add(text)?;
+//! ```
 #![tactic(auto)]
 
 mod cover;
@@ -27,10 +40,12 @@ mod covering_laws;
 mod few;
 mod items;
 mod laws;
+mod list;
 mod merge;
 mod numbers;
 mod range;
 mod ranked;
+mod ranked_laws;
 mod sweep;
 
 pub use crate::cover::Cover;
@@ -38,5 +53,7 @@ pub use crate::covering_laws::{covering, one_cover};
 pub use crate::few::Few;
 pub use crate::items::Items;
 pub use crate::laws::merging;
+pub use crate::list::{Ranked, RankedList};
 pub use crate::merge::Merge;
 pub use crate::range::CoverRange;
+pub use crate::ranked_laws::ranking;

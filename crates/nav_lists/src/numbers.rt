@@ -5,11 +5,10 @@ ghost use Rattle.nav_eph.specs.Ranks.{clock_rank, gal_ion_rank, gps_ion_rank, he
 ghost use Rattle.nav_eph.specs.Ranks.{orbit_a_rank, orbit_b_rank, sat_rank, side_rank};
 ghost use Rattle.nav_eph.specs.Ranks.{word1_rank, word2_rank, word3_rank, word4_rank};
 
-use gnss_week::Week;
 use nav_bits::U;
 use nav_eph::{
     GalHealth, GalIon, GalWord1, GalWord2, GalWord3, GalWord4, GpsClock, GpsIon, GpsOrbitA,
-    GpsOrbitB, GpsSide, Sat, System,
+    GpsOrbitB, GpsSide, Sat, System, Week,
 };
 
 pub(crate) fn sat_numbers(sat: Sat) -> [i64; 2]

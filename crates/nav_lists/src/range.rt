@@ -116,7 +116,8 @@ impl Eq for CoverRange {
 impl PartialOrd for CoverRange {
     ghost partial_cmp = { λ a b. Some (by_place a b) };
 
-    ghost laws = { partial_order_from_agreeing_total by_place by_place_total (λ a b. refl) (λ a b. refl) };
+    ghost laws = { partial_order_from_agreeing_total by_place by_place_total (λ a b. refl)
+        (λ a b. refl) };
 
     fn partial_cmp(&self, other: &CoverRange) -> Option<Ordering> {
         Some(compare(self, other))

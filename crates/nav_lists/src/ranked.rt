@@ -5,7 +5,7 @@ ghost use Rattle.std.proofs.Common.{refl};
 ghost use Rattle.std.specs.Cmp.Lexicographic.{slice_cmp};
 ghost use Rattle.std.specs.Ordering.{is_eq, int_cmp};
 ghost use Rattle.nav_eph.specs.Ranks.{content_rank, rank, sent_of};
-ghost use Rattle.gnss_week.specs.Weeks.{IsMoment};
+ghost use Rattle.nav_eph.specs.Weeks.{IsMoment};
 ghost use Rattle.nav_eph.specs.declared.items.NavItem.TheVariants.{Gps as GpsItem};
 ghost use Rattle.nav_eph.specs.declared.items.NavItem.TheVariants.{Gal as GalItem};
 ghost use Rattle.nav_eph.specs.declared.items.NavItem.TheVariants.{Ion as IonItem};
@@ -222,7 +222,8 @@ pub(crate) fn is_earlier(a: &NavItem, b: &NavItem) -> bool
 impl PartialEq for Ranked {
     ghost eq = { λ a b. is_eq (by_rank a b) };
 
-    ghost laws = { partial_equiv_from_equiv (eq_by_cmp_equiv (on_total place_in_rank (lists_total int_cmp_total))) };
+    ghost laws = { partial_equiv_from_equiv (eq_by_cmp_equiv (on_total place_in_rank
+        (lists_total int_cmp_total))) };
 
     fn eq(&self, other: &Ranked) -> bool {
         compare(self, other).is_eq()

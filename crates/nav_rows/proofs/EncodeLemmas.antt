@@ -13,9 +13,9 @@ use Rattle.std.proofs.lemmas.Int.{ints}
 use Rattle.std.proofs.lemmas.Bool.{le-leb, leb-true, lt-ltb, ltb-true}
 use Rattle.std.proofs.lemmas.Bool.Decides.{nat_tests}
 use Rattle.nav_bits.specs.Packed.{AreBytes}
-use Rattle.gnss_week.specs.Weeks.{IsReference, IsNearestMoment}
-use Rattle.gnss_week.specs.Functions.{moment_near}
-use Rattle.gnss_week.proofs.Surface.{moment_near-nearest, moment_near-only}
+use Rattle.nav_eph.specs.Weeks.{IsReference, IsNearestMoment}
+use Rattle.nav_eph.specs.Functions.{moment_near}
+use Rattle.nav_eph.proofs.Surface.{moment_near-nearest, moment_near-only}
 use Rattle.nav_tables.specs.declared.field.Field.{Field as TableField}
 use Rattle.nav_tables.specs.declared.message.TableFault.{TableFault}
 use Rattle.nav_tables.specs.Messages.{AreInRange, ArePlain, first_outside, message_bytes}
@@ -24,27 +24,27 @@ use Rattle.nav_tables.specs.Messages.{starts}
 use Rattle.nav_tables.proofs.Surface.{all_in_range, both, le_z_true, none_outside, range_length}
 use Rattle.nav_tables.proofs.Surface.{read_in_range, read_written, start_is, starts_length}
 use Rattle.nav_tables.proofs.Surface.{written_read}
-use Rattle.nav_links.specs.declared.link.Part.{Part}
-use Rattle.nav_links.specs.declared.link.Link.{Link}
-use Rattle.nav_links.specs.declared.link.Link.TheVariants.{Field, Opposite, Raised, Parts, Given}
-use Rattle.nav_links.specs.declared.link.Link.TheVariants.{Fixed}
-use Rattle.nav_links.specs.Links.{AreFit, AreSaid, AreSmall, column_of, columns_of}
-use Rattle.nav_links.specs.Links.{filled}
-use Rattle.nav_links.specs.Links.{nth, say}
-use Rattle.nav_links.proofs.Surface.{back_all, column_at, columns_append, columns_length}
-use Rattle.nav_links.proofs.Surface.{filled_append, filled_length, fit_all, fit_append, right_all}
-use Rattle.nav_links.proofs.Surface.{said_append}
-use Rattle.nav_days.specs.declared.times.FrameTime.{FrameTime}
-use Rattle.nav_days.specs.declared.times.TimeFault.{TimeFault}
-use Rattle.nav_days.specs.declared.times.TimeFault.TheVariants as frames
-use Rattle.nav_days.specs.declared.times.Times.{Times}
-use Rattle.nav_days.specs.Times.{frame_in, times_to}
-use Rattle.nav_days.specs.Days.{distance}
-use Rattle.nav_days.specs.Weeks.{number_of_week, week_to}
-use Rattle.nav_days.proofs.Surface.{frame_epoch, frame_is, good_rule, near_is, number_again}
-use Rattle.nav_days.proofs.Surface.{ok_same}
-use Rattle.nav_days.proofs.Surface.{passed}
-use Rattle.nav_days.proofs.Surface.{times_near, week_again}
+use Rattle.nav_tables.specs.declared.link.Part.{Part}
+use Rattle.nav_tables.specs.declared.link.Link.{Link}
+use Rattle.nav_tables.specs.declared.link.Link.TheVariants.{Field, Opposite, Raised, Parts, Given}
+use Rattle.nav_tables.specs.declared.link.Link.TheVariants.{Fixed}
+use Rattle.nav_tables.specs.Links.{AreFit, AreStated, AreSmall, column_of, columns_of}
+use Rattle.nav_tables.specs.Links.{filled}
+use Rattle.nav_tables.specs.Links.{nth, say}
+use Rattle.nav_tables.proofs.Surface.{back_all, column_at, columns_append, columns_length}
+use Rattle.nav_tables.proofs.Surface.{filled_append, filled_length, fit_all, fit_append, right_all}
+use Rattle.nav_tables.proofs.Surface.{said_append}
+use Rattle.nav_tables.specs.declared.times.FrameTime.{FrameTime}
+use Rattle.nav_tables.specs.declared.times.TimeFault.{TimeFault}
+use Rattle.nav_tables.specs.declared.times.TimeFault.TheVariants as frames
+use Rattle.nav_tables.specs.declared.times.Times.{Times}
+use Rattle.nav_tables.specs.Times.{frame_in, times_to}
+use Rattle.nav_tables.specs.Days.{distance}
+use Rattle.nav_tables.specs.Weeks.{number_of_week, week_to}
+use Rattle.nav_tables.proofs.Surface.{frame_epoch, frame_is, good_rule, near_is, number_again}
+use Rattle.nav_tables.proofs.Surface.{ok_same}
+use Rattle.nav_tables.proofs.Surface.{passed}
+use Rattle.nav_tables.proofs.Surface.{times_near, week_again}
 use Rattle.scaled_decimal.specs.declared.scales.Scale.{Scale}
 use Rattle.rinex_write.specs.declared.columns.Rule.{Rule}
 use Rattle.rinex_write.specs.declared.columns.Rule.TheVariants.{Plain, OrZero, OrLeast, OrUnknown}
@@ -52,7 +52,7 @@ use Rattle.rinex_write.specs.declared.columns.Rule.TheVariants.{Ura, Sisa, Fit, 
 use Rattle.rinex_write.specs.declared.columns.Column.{Column}
 use Rattle.rinex_write.specs.Columns.{AreFields, IsField, are_good, is_below_unknown}
 use Rattle.rinex_write.specs.Columns.{is_good_range, is_good_rule, is_good_scale, is_unknown}
-use Rattle.rinex_read.specs.declared.reason.Reason.{Reason}
+use Rattle.rinex_read.specs.declared.reason.RecordFault.{RecordFault}
 use Rattle.rinex_read.specs.Judging.{is_named_week}
 use Rattle.nav_rows.specs.declared.kind.WeekClock.{WeekClock}
 use Rattle.nav_rows.specs.declared.kind.Clock.{Clock}
@@ -62,18 +62,18 @@ use Rattle.nav_rows.specs.declared.times.RowTimes.{RowTimes}
 use Rattle.nav_rows.specs.declared.encode.EncodeFault.{EncodeFault}
 use Rattle.nav_rows.specs.declared.encode.EncodeFault.TheVariants as faults
 use Rattle.nav_rows.specs.declared.row.RowFault.TheVariants.{SpareSisa}
-use Rattle.nav_rows.specs.Kinds.{IsKind, all_covered, all_links, are_said, has_columns, has_times}
+use Rattle.nav_rows.specs.Kinds.{IsKind, all_covered, all_links, are_stated, has_columns, has_times}
 use Rattle.nav_rows.specs.Kinds.{has_weeks, head_links, is_given_at, is_of_field, is_whole, link_at}
 use Rattle.nav_rows.specs.Times.{IsGiven, IsSatellite, frame_of, framed, number}
-use Rattle.nav_rows.specs.Times.{times_told}
+use Rattle.nav_rows.specs.Times.{times_stated}
 use Rattle.nav_rows.specs.Times.{weekly}
 use Rattle.nav_rows.specs.Rows.{RowValue, given_of, has_spare_sisa, row_at, row_by, row_in}
-use Rattle.nav_rows.specs.Encoding.{AreUnsaid, HasClock, IsNearRow, IsOfMessage, bytes_by}
-use Rattle.nav_rows.specs.Encoding.{epoch_fault, frame_said, head_of, frame_head, is_near_toe}
+use Rattle.nav_rows.specs.Encoding.{AreUnstated, HasClock, IsNearRow, IsOfMessage, bytes_by}
+use Rattle.nav_rows.specs.Encoding.{epoch_fault, frame_stated, head_of, frame_head, is_near_toe}
 use Rattle.nav_rows.specs.Encoding.{judged_numbers}
 use Rattle.nav_rows.specs.Encoding.{judged_row, known, known_in, message_of, numbers_after, numbers_in}
-use Rattle.nav_rows.specs.Encoding.{said_numbers}
-use Rattle.nav_rows.specs.Encoding.{said_times, toe_at, toe_week, week_head, with_head}
+use Rattle.nav_rows.specs.Encoding.{stated_numbers}
+use Rattle.nav_rows.specs.Encoding.{stated_times, toe_at, toe_week, week_head, with_head}
 use Rattle.nav_rows.proofs.NumberLemmas.{clock_of, satellite_is, times_are}
 use Rattle.nav_rows.proofs.RowLemmas.{front, good}
 
@@ -220,7 +220,7 @@ unfolding_head (Weeks c) parts zs = (tt, (tt, (tt, tt)))
 unfolding_head (Daily step) parts zs = (tt, tt)
 
 carried : (k : Kind) (zs given : List ℤ) → IsKind k → AreInRange k.table.fields.now zs
-    → AreUnsaid k zs
+    → AreUnstated k zs
     → filled k.parts.now (head_links k.clock) (columns_of k.parts.now (head_links k.clock) zs given)
     (filled k.parts.now k.links.now (columns_of k.parts.now k.links.now zs given)
     (starts k.table.fields.now)) ≡ zs
@@ -246,19 +246,19 @@ or_second true b unsaid e = absurd cc
 or_second false b unsaid e = e
 
 said_each : (ps : List Part) (ls : List Link) (k : ℕ) (fs : List TableField) (zs : List ℤ)
-    → are_said ps ls k fs ≡ true → AreInRange fs zs → (j : ℕ) → say ps ls (k + j) ≡ false
+    → are_stated ps ls k fs ≡ true → AreInRange fs zs → (j : ℕ) → say ps ls (k + j) ≡ false
     → nth (starts fs) j ≡ nth zs j
 unfolding starts
 said_each ps ls k [] [] e range j unsaid = refl
 said_each ps ls k [] (z ∷ zs) e range j unsaid = absurd range
 said_each ps ls k (f ∷ fs) [] e range j unsaid = absurd range
 said_each ps ls k (f ∷ fs) (z ∷ zs) e range zero unsaid =
-    let a = both (say ps ls k || int_le f.high f.low) (are_said ps ls (suc k) fs) e in
+    let a = both (say ps ls k || int_le f.high f.low) (are_stated ps ls (suc k) fs) e in
     let place : k ≡ k + 0 = omega arith in
     let here : say ps ls k ≡ false = ap (say ps ls) place ∙ unsaid in
     start_is f z (or_second (say ps ls k) (int_le f.high f.low) here a.0) range.0
 said_each ps ls k (f ∷ fs) (z ∷ zs) e range (suc j) unsaid =
-    let a = both (say ps ls k || int_le f.high f.low) (are_said ps ls (suc k) fs) e in
+    let a = both (say ps ls k || int_le f.high f.low) (are_stated ps ls (suc k) fs) e in
     let place : suc k + j ≡ k + suc j = omega arith in
     said_each ps ls (suc k) fs zs a.1 range.1 j (ap (say ps ls) place ∙ unsaid)
 
@@ -269,7 +269,7 @@ pub record IsRead (k : Kind) (bytes : List ℕ) (r : ℕ) (row : RowValue) : Typ
   pub read : message_in k.table bytes ≡ Ok numbers
   pub spare : has_spare_sisa k.sisa numbers ≡ false
   pub times : RowTimes
-  pub told : times_told k.clock numbers r ≡ Some times
+  pub told : times_stated k.clock numbers r ≡ Some times
   pub is : row ≡ record {
     number = number numbers 1;
     moment = times.epoch;
@@ -277,7 +277,7 @@ pub record IsRead (k : Kind) (bytes : List ℕ) (r : ℕ) (row : RowValue) : Typ
   }
 
 read_at : (k : Kind) (bytes : List ℕ) (r : ℕ) (zs : List ℤ) (row : RowValue) (o : Option RowTimes)
-    → times_told k.clock zs r ≡ o → has_spare_sisa k.sisa zs ≡ false
+    → times_stated k.clock zs r ≡ o → has_spare_sisa k.sisa zs ≡ false
     → message_in k.table bytes ≡ Ok zs → row_at k zs o ≡ Ok row → IsRead k bytes r row
 read_at k bytes r zs row None told spare read h = absurd cc
 read_at k bytes r zs row (Some t) told spare read h =
@@ -300,7 +300,7 @@ read_spare : (k : Kind) (bytes : List ℕ) (r : ℕ) (zs : List ℤ) (row : RowV
     → row_by k r (Ok zs) ≡ Ok row → IsRead k bytes r row
 read_spare k bytes r zs row true s e h = let no : Err SpareSisa ≡ Ok row = rw s at h in absurd cc
 read_spare k bytes r zs row false s e h =
-    read_at k bytes r zs row (times_told k.clock zs r) refl s e (rw s at h)
+    read_at k bytes r zs row (times_stated k.clock zs r) refl s e (rw s at h)
 
 read_by : (k : Kind) (bytes : List ℕ) (r : ℕ) (row : RowValue) (m : Result (List ℤ) TableFault)
     → message_in k.table bytes ≡ m → row_by k r m ≡ Ok row → IsRead k bytes r row
@@ -379,7 +379,7 @@ epoch_none c m cs some most step from to =
       le-leb m (toe_at c cs + 302400) to,
     ) refl
 
-none_passed : (b : Bool) (reason : Reason) (rest : Option Reason)
+none_passed : (b : Bool) (reason : RecordFault) (rest : Option RecordFault)
     → (if not b then Some reason else rest) ≡ None → (b ≡ true) × (rest ≡ None)
 none_passed true reason rest h = (refl, h)
 none_passed false reason rest h = absurd cc
@@ -472,7 +472,7 @@ some_same t u e = cc
 back_by : (clock : Clock) (fs : List TableField) (ps : List Part) (ls : List Link) (zs : List ℤ)
     (r : ℕ) (t : RowTimes) → has_weeks clock ≡ true → has_times clock fs ≡ true
     → has_columns clock ls ≡ true → IsSatellite zs → IsReference r → AreInRange fs zs
-    → times_told clock zs r ≡ Some t → IsBack clock ps zs (given_of t) (row_of ps ls zs t)
+    → times_stated clock zs r ≡ Some t → IsBack clock ps zs (given_of t) (row_of ps ls zs t)
 back_by Frame fs ps ls zs r t weeks e h satellite reference range told = absurd cc
 back_by (Daily step) fs ps ls zs r t weeks e h satellite reference range told = absurd cc
 back_by (Weeks c) fs ps ls zs r t weeks e h satellite reference range told =
@@ -482,7 +482,7 @@ back_by (Weeks c) fs ps ls zs r t weeks e h satellite reference range told =
 
 -- the times of a frame, and of a message with a week, are such as records tell
 given_frame : (clock : Clock) (zs : List ℤ) (r : ℕ) (t : RowTimes) → has_weeks clock ≡ false
-    → times_told clock zs r ≡ Some t → IsGiven clock t
+    → times_stated clock zs r ≡ Some t → IsGiven clock t
 given_frame (Weeks c) zs r t frame told = absurd cc
 given_frame (Daily step) zs r t frame told = absurd cc
 given_frame Frame zs r t frame told = go (times_to (frame_of zs) r) told
@@ -497,7 +497,7 @@ given_frame Frame zs r t frame told = go (times_to (frame_of zs) r) told
 
 given_by : (clock : Clock) (fs : List TableField) (zs : List ℤ) (r : ℕ) (t : RowTimes)
     → has_times clock fs ≡ true → IsReference r → AreInRange fs zs
-    → times_told clock zs r ≡ Some t → IsGiven clock t
+    → times_stated clock zs r ≡ Some t → IsGiven clock t
 given_by Frame fs zs r t e reference range told = given_frame Frame zs r t refl told
 given_by (Daily step) fs zs r t e reference range told = absurd cc
 given_by (Weeks c) fs zs r t e reference range told =
@@ -515,7 +515,7 @@ given_by (Weeks c) fs zs r t e reference range told =
 -- the numbers of a row whose head and columns are those of the numbers
 sent_is : (k : Kind) (row : RowValue) (zs head : List ℤ)
     → epoch_fault k.clock row.moment row.columns ≡ None → head_of k.clock row ≡ Ok head
-    → filled k.parts.now (head_links k.clock) head (said_numbers k row) ≡ zs
+    → filled k.parts.now (head_links k.clock) head (stated_numbers k row) ≡ zs
     → AreInRange k.table.fields.now zs → has_spare_sisa k.sisa zs ≡ false
     → numbers_in k row ≡ Ok zs
 unfolding numbers_in
@@ -523,12 +523,12 @@ sent_is k row zs head epoch told whole range spare =
     let judged : judged_row k (Ok zs) ≡ Ok zs
     = rw (none_outside 0 k.table.fields.now zs range, spare) refl in
     ap (numbers_after k row) epoch
-    ∙ ap (λ h. judged_row k (with_head k.parts.now k.clock h (said_numbers k row))) told
+    ∙ ap (λ h. judged_row k (with_head k.parts.now k.clock h (stated_numbers k row))) told
     ∙ ap (λ ns. judged_row k (Ok ns)) whole ∙ judged
 
 back_whole : (k : Kind) (bytes : List ℕ) (zs : List ℤ) (t : RowTimes) → IsKind k
     → AreBytes k.table.bytes bytes → ArePlain bytes 0 k.table.fields.now
-    → message_in k.table bytes ≡ Ok zs → has_spare_sisa k.sisa zs ≡ false → AreUnsaid k zs
+    → message_in k.table bytes ≡ Ok zs → has_spare_sisa k.sisa zs ≡ false → AreUnstated k zs
     → IsGiven k.clock t → IsBack k.clock k.parts.now zs (given_of t) (row_of k.parts.now k.links.now zs t)
     → message_of k (row_of k.parts.now k.links.now zs t) ≡ Ok bytes
 back_whole k bytes zs t is are plain read spare unsaid given back =
@@ -551,7 +551,7 @@ weeks_back k bytes r row is whole reference are plain h =
     let d = is_read k bytes r row h in
     let range = read_in_range k.table bytes d.numbers d.read in
     let a = both (has_weeks k.clock)
-    (are_said k.parts.now (all_links k.clock k.links.now) 0 fs) whole in
+    (are_stated k.parts.now (all_links k.clock k.links.now) 0 fs) whole in
     let back = back_by k.clock fs k.parts.now k.links.now d.numbers r d.times a.0 is.times
     is.columns
     (satellite_is fs d.numbers is.satellite range) reference range d.told in
@@ -567,12 +567,12 @@ eight : (a b c d e f g h a' b' c' d' e' f' g' h' : ℤ) → a ≡ a' → b ≡ b
 eight a b c d e f g h a' b' c' d' e' f' g' h' i j k l m n o p = cc
 
 -- what a frame's time says
-record IsSaid (m sent : ℕ) (t : FrameTime) : Type 0 where
+record IsStated (m sent : ℕ) (t : FrameTime) : Type 0 where
   pub few : sent < 604800
   pub late : 604800 ≤ m
   pub is : frame_in (record { epoch = m; frame = moment_near m sent }) ≡ Ok t
 
-said_is : (m sent : ℕ) (t : FrameTime) → frame_said m sent ≡ Ok t → IsSaid m sent t
+said_is : (m sent : ℕ) (t : FrameTime) → frame_stated m sent ≡ Ok t → IsStated m sent t
 said_is m sent t h =
     let a = passed (nat_lt sent 604800) frames.Sent _ t h in
     let b = passed (is_named_week m) frames.Day _ t a.1 in
@@ -581,10 +581,10 @@ said_is m sent t h =
     record { few = ltb-true sent 604800 a.0; late = omega (arith, some); is = b.1 }
 
 frame_back : (clock : Clock) (fs : List TableField) (ps : List Part) (zs given : List ℤ)
-    (row : RowValue) (r : ℕ) (t : RowTimes) → times_told clock zs r ≡ Some t
+    (row : RowValue) (r : ℕ) (t : RowTimes) → times_stated clock zs r ≡ Some t
     → has_weeks clock ≡ false → has_times clock fs ≡ true → IsSatellite zs
     → AreInRange fs zs → row.number ≡ number zs 1
-    → frame_said row.moment (number row.columns 2) ≡ Ok (frame_of zs) → IsBack clock ps zs given row
+    → frame_stated row.moment (number row.columns 2) ≡ Ok (frame_of zs) → IsBack clock ps zs given row
 unfolding columns_of
 frame_back (Weeks c) fs ps zs given row r t times frame e satellite range same told = absurd cc
 frame_back (Daily step) fs ps zs given row r t times frame e satellite range same told = absurd cc
@@ -607,8 +607,8 @@ frame_back Frame fs ps zs given row r t times frame e satellite range same told 
 pub frames_back : (k : Kind) (bytes : List ℕ) (r : ℕ) (row : RowValue) (zs : List ℤ) → IsKind k
     → has_weeks k.clock ≡ false → AreBytes k.table.bytes bytes
     → ArePlain bytes 0 k.table.fields.now → message_in k.table bytes ≡ Ok zs
-    → row_in k bytes r ≡ Ok row → AreUnsaid k zs
-    → frame_said row.moment (number row.columns 2) ≡ Ok (frame_of zs)
+    → row_in k bytes r ≡ Ok row → AreUnstated k zs
+    → frame_stated row.moment (number row.columns 2) ≡ Ok (frame_of zs)
     → message_of k row ≡ Ok bytes
 frames_back k bytes r row zs is frame are plain read h unsaid told =
     let fs = k.table.fields.now in
@@ -616,12 +616,12 @@ frames_back k bytes r row zs is frame are plain read h unsaid told =
     let same : d.numbers ≡ zs = ok_same (message_in k.table bytes) d.numbers zs d.read read in
     let range = read_in_range k.table bytes d.numbers d.read in
     let value = row_of k.parts.now k.links.now d.numbers d.times in
-    let said : frame_said value.moment (number value.columns 2) ≡ Ok (frame_of d.numbers)
-    = ap (λ v. frame_said v.moment (number v.columns 2)) (sym d.is) ∙ told
+    let said : frame_stated value.moment (number value.columns 2) ≡ Ok (frame_of d.numbers)
+    = ap (λ v. frame_stated v.moment (number v.columns 2)) (sym d.is) ∙ told
     ∙ ap (λ ns. Ok (frame_of ns)) (sym same) in
     ap (message_of k) d.is
     ∙ back_whole k bytes d.numbers d.times is are plain d.read d.spare
-    (subst (AreUnsaid k) (sym same) unsaid)
+    (subst (AreUnstated k) (sym same) unsaid)
     (given_frame k.clock d.numbers r d.times frame d.told)
     (frame_back k.clock fs k.parts.now d.numbers (given_of d.times) value r d.times d.told frame
     is.times
@@ -635,7 +635,7 @@ record IsSent (k : Kind) (row : RowValue) (bytes : List ℕ) : Type 0 where
   pub head : List ℤ
   pub epoch : epoch_fault k.clock row.moment row.columns ≡ None
   pub told : head_of k.clock row ≡ Ok head
-  pub whole : filled k.parts.now (head_links k.clock) head (said_numbers k row) ≡ numbers
+  pub whole : filled k.parts.now (head_links k.clock) head (stated_numbers k row) ≡ numbers
   pub range : AreInRange k.table.fields.now numbers
   pub spare : has_spare_sisa k.sisa numbers ≡ false
   pub bytes_are : bytes ≡ message_bytes k.table numbers
@@ -665,15 +665,15 @@ sent_head : (k : Kind) (row : RowValue) (ns : List ℤ) (out : List ℕ)
     (h : Result (List ℤ) EncodeFault)
     → epoch_fault k.clock row.moment row.columns ≡ None → head_of k.clock row ≡ h
     → out ≡ message_bytes k.table ns
-    → judged_row k (with_head k.parts.now k.clock h (said_numbers k row)) ≡ Ok ns
+    → judged_row k (with_head k.parts.now k.clock h (stated_numbers k row)) ≡ Ok ns
     → IsSent k row out
 sent_head k row ns out (Err fault) epoch e are j = absurd cc
 sent_head k row ns out (Ok head) epoch e are j =
     let fs = k.table.fields.now in
-    let zs = filled k.parts.now (head_links k.clock) head (said_numbers k row) in
+    let zs = filled k.parts.now (head_links k.clock) head (stated_numbers k row) in
     let d = judged_is k zs ns (first_outside 0 fs zs) refl j in
     let count : length zs ≡ length fs
-    = filled_length k.parts.now (head_links k.clock) head (said_numbers k row)
+    = filled_length k.parts.now (head_links k.clock) head (stated_numbers k row)
     ∙ filled_length k.parts.now k.links.now (known_in k row) (starts fs) ∙ starts_length fs in
     record {
       numbers = ns;
@@ -686,7 +686,7 @@ sent_head k row ns out (Ok head) epoch e are j =
       bytes_are = are;
     }
 
-sent_epoch : (k : Kind) (row : RowValue) (out : List ℕ) (ns : List ℤ) (o : Option Reason)
+sent_epoch : (k : Kind) (row : RowValue) (out : List ℕ) (ns : List ℤ) (o : Option RecordFault)
     → epoch_fault k.clock row.moment row.columns ≡ o → out ≡ message_bytes k.table ns
     → numbers_after k row o ≡ Ok ns → IsSent k row out
 sent_epoch k row out ns (Some reason) e are h = absurd cc
@@ -713,7 +713,7 @@ halves (x ∷ xs) (u ∷ us) ys vs e h =
     let a = halves xs us ys vs (omega arith) rest in
     (ap₂ (λ y zs. y ∷ zs) first a.0, a.1)
 
-said_length : (ps : List Part) (ls : List Link) (given cs : List ℤ) → AreSaid ps ls given cs
+said_length : (ps : List Part) (ls : List Link) (given cs : List ℤ) → AreStated ps ls given cs
     → length cs ≡ length ls
 said_length ps [] given [] h = refl
 said_length ps [] given (c ∷ cs) h = absurd h
@@ -721,27 +721,27 @@ said_length ps (l ∷ ls) given [] h = absurd h
 said_length ps (l ∷ ls) given (c ∷ cs) h = ap suc (said_length ps ls given cs h.1)
 
 said_frame : (ps : List Part) (given head : List ℤ) (satellite : ℕ) (o : Result FrameTime TimeFault)
-    → frame_head satellite o ≡ Ok head → AreSaid ps (head_links Frame) given head
+    → frame_head satellite o ≡ Ok head → AreStated ps (head_links Frame) given head
 said_frame ps given head satellite (Err fault) e = absurd cc
 said_frame ps given head satellite (Ok t) e =
-    subst (AreSaid ps (head_links Frame) given)
+    subst (AreStated ps (head_links Frame) given)
     (ok_same (frame_head satellite (Ok t)) _ head refl e)
     (tt, (tt, (tt, (tt, (tt, (tt, (tt, (tt, tt))))))))
 
 said_head : (clock : Clock) (ps : List Part) (given head : List ℤ) (row : RowValue)
-    → head_of clock row ≡ Ok head → AreSaid ps (head_links clock) given head
+    → head_of clock row ≡ Ok head → AreStated ps (head_links clock) given head
 said_head Frame ps given head row h =
-    said_frame ps given head row.number (frame_said row.moment (number row.columns 2)) h
+    said_frame ps given head row.number (frame_stated row.moment (number row.columns 2)) h
 said_head (Daily step) ps given head row h = absurd cc
 said_head (Weeks c) ps given head row h =
-    subst (AreSaid ps (head_links (Weeks c)) given)
+    subst (AreStated ps (head_links (Weeks c)) given)
     (ok_same (head_of (Weeks c) row) (week_head c row) head refl h)
     (tt, (tt, (tt, tt)))
 
 -- the numbers tell the satellite and the times of the row
 record IsAgain (clock : Clock) (zs : List ℤ) (r : ℕ) (row : RowValue) : Type 0 where
   pub satellite : number zs 1 ≡ row.number
-  pub times : times_told clock zs r ≡ Some (said_times clock row)
+  pub times : times_stated clock zs r ≡ Some (stated_times clock row)
 
 three_same : (a b c a' b' c' : ℤ) → a ∷ b ∷ c ∷ [] ≡ a' ∷ b' ∷ c' ∷ []
     → (a ≡ a') × (b ≡ b') × (c ≡ c')
@@ -795,11 +795,11 @@ told_frame : (zs : List ℤ) (t : FrameTime) → nth zs 32 ≡ pos t.additional 
 told_frame zs t a b c d e f g = rw (a, b, c, d, e, f, g) refl
 
 frame_row : (ps : List Part) (zs given : List ℤ) (r satellite m sent : ℕ)
-    (o : Result FrameTime TimeFault) (head : List ℤ) → frame_said m sent ≡ o
+    (o : Result FrameTime TimeFault) (head : List ℤ) → frame_stated m sent ≡ o
     → frame_head satellite o ≡ Ok head → columns_of ps (head_links Frame) zs given ≡ head
     → distance (7 * r + 3) ((moment_near m sent + 10800) / 86400) ≤ 729
     → (number zs 1 ≡ satellite)
-    × (times_told Frame zs r ≡ Some (record { epoch = m; week = 0; sent = sent }))
+    × (times_stated Frame zs r ≡ Some (record { epoch = m; week = 0; sent = sent }))
 unfolding columns_of
 frame_row ps zs given r satellite m sent (Err fault) head told e columns near = absurd cc
 frame_row ps zs given r satellite m sent (Ok t) head told e columns near =
@@ -828,7 +828,7 @@ again_by : (clock : Clock) (ps : List Part) (ls : List Link) (zs given head : Li
 again_by Frame ps ls zs given head r row h columns heads told epoch near =
     let sent = number row.columns 2 in
     let is = frame_row ps zs given r row.number row.moment sent
-    (frame_said row.moment sent) head refl
+    (frame_stated row.moment sent) head refl
     told heads near in
     record { satellite = is.0; times = is.1 }
 again_by (Daily step) ps ls zs given head r row h columns heads told epoch near = absurd cc
@@ -844,7 +844,7 @@ rows_back k row bytes r is of near h =
     let ps = k.parts.now in
     let ls = k.links.now in
     let hs = head_links k.clock in
-    let given = given_of (said_times k.clock row) in
+    let given = given_of (stated_times k.clock row) in
     let d = sent_bytes k row bytes (numbers_in k row) refl h in
     let zs = d.numbers in
     let count = said_length ps ls given row.columns of.0 in
@@ -864,7 +864,7 @@ rows_back k row bytes r is of near h =
     near in
     let read : message_in k.table bytes ≡ Ok zs
     = ap (message_in k.table) d.bytes_are ∙ written_read k.table zs is.table d.range in
-    let spare : row_by k r (Ok zs) ≡ row_at k zs (times_told k.clock zs r) = rw d.spare refl in
+    let spare : row_by k r (Ok zs) ≡ row_at k zs (times_stated k.clock zs r) = rw d.spare refl in
     ap (row_by k r) read ∙ spare ∙ ap (row_at k zs) again.times
     ∙ ap₂ (λ n cs. Ok (record { number = n; moment = row.moment; columns = cs })) again.satellite
     parts.0

@@ -10,9 +10,9 @@ use Rattle.std.proofs.lemmas.Bool.{leb-true, ltb-true}
 use Rattle.nav_tables.specs.declared.field.Field.{Field as TableField}
 use Rattle.nav_tables.specs.Messages.{AreInRange}
 use Rattle.nav_tables.proofs.Surface.{both, le_z_true, range_length}
-use Rattle.nav_links.specs.Links.{nth, field_at}
-use Rattle.nav_links.proofs.Surface.{inside_at}
-use Rattle.nav_days.specs.Weeks.{first_week, is_week_rule}
+use Rattle.nav_tables.specs.Links.{nth, field_at}
+use Rattle.nav_tables.proofs.Surface.{inside_at}
+use Rattle.nav_tables.specs.Weeks.{first_week, is_week_rule}
 use Rattle.nav_rows.specs.declared.kind.WeekClock.{WeekClock}
 use Rattle.nav_rows.specs.declared.kind.Clock.{Clock}
 use Rattle.nav_rows.specs.declared.kind.Clock.TheVariants.{Frame, Weeks, Daily}

@@ -7,7 +7,7 @@ use Rattle.std.specs.FinMap.{int_cmp-IsAntisymmetric, slice_cmp-IsAntisymmetric}
 use Rattle.std.specs.Ordering.{int_cmp}
 use Rattle.std.specs.declared.cmp.Ordering.TheVariants.{Equal}
 use Rattle.std.proofs.lemmas.Cmp.{on_total, lists_total, int_cmp_total, tied_itself}
-use Rattle.nav_links.specs.Links.{nth}
+use Rattle.nav_tables.specs.Links.{nth}
 use Rattle.nav_rows.specs.Order.{IsAlike, KindRow, by_place, by_rank, rank}
 
 pub by_place_total : IsTotalOrder by_place

@@ -12,12 +12,12 @@ use Rattle.std.proofs.lemmas.Bool.Decides.{nat_tests}
 use Rattle.std.proofs.lemmas.List.{length-map}
 use Rattle.scaled_decimal.specs.NumberText.{digits}
 use Rattle.scaled_decimal.specs.NumberReading.{is_decimal}
-use Rattle.gnss_week.specs.Weeks.{IsMoment}
-use Rattle.gnss_week.specs.Functions.{civil_to}
+use Rattle.nav_eph.specs.Weeks.{IsMoment}
+use Rattle.nav_eph.specs.Functions.{civil_to}
 use Rattle.rinex_write.specs.Texts.{date_text}
 use Rattle.nav_tables.specs.Fields.{IsInRange, is_in_range}
 use Rattle.nav_tables.proofs.Surface.{both, in_range_true, le_z_true}
-use Rattle.nav_links.specs.Links.{field_at}
+use Rattle.nav_tables.specs.Links.{field_at}
 use Rattle.rinex_write.specs.declared.columns.Rule.{Rule}
 use Rattle.rinex_write.specs.declared.columns.Rule.TheVariants.{Plain, OrZero, OrLeast, OrUnknown}
 use Rattle.rinex_write.specs.declared.columns.Rule.TheVariants.{Ura, Sisa, Fit, Sent, Unread}
@@ -25,8 +25,8 @@ use Rattle.rinex_write.specs.declared.columns.Column.{Column}
 use Rattle.rinex_write.specs.Columns.{AreFields, IsField, are_good, joined_rows, not_known}
 use Rattle.rinex_write.specs.Columns.{row_lines}
 use Rattle.rinex_write.specs.RowTexts.{RowKind, row_record, row_satellite, row_title}
-use Rattle.rinex_read.specs.declared.reason.Reason.{Reason}
-use Rattle.rinex_read.specs.declared.reason.Reason.TheVariants as reasons
+use Rattle.rinex_read.specs.declared.reason.RecordFault.{RecordFault}
+use Rattle.rinex_read.specs.declared.reason.RecordFault.TheVariants as reasons
 use Rattle.rinex_read.specs.Fields.{◌>>=◌}
 use Rattle.rinex_read.specs.Judging.{first_of, need}
 use Rattle.rinex_read.specs.RowReads.{RowContent, flat_said, row_said}
@@ -35,7 +35,7 @@ use Rattle.nav_rows.specs.Kinds.{IsKind, is_long}
 use Rattle.nav_rows.specs.Rows.{RowValue, record_kind, record_of}
 use Rattle.nav_rows.specs.Encoding.{epoch_fault}
 use Rattle.nav_rows.specs.Reading.{are_in_columns, completed, is_in_column, judged_row, lines_read}
-use Rattle.nav_rows.specs.Reading.{number_said, read_lines_of, row_read, same_satellite}
+use Rattle.nav_rows.specs.Reading.{number_stated, read_lines_of, row_read, same_satellite}
 use Rattle.nav_rows.specs.Reading.{with_epoch}
 use Rattle.nav_rows.proofs.RowLemmas.{rows_are}
 
@@ -145,7 +145,7 @@ record IsShown (k : Kind) (title : List ℕ) (n : ℕ) : Type 0 where
   pub few : n ≤ 99
   pub range : is_in_range (field_at k.table.fields.now 1) (pos n) ≡ true
 
-number_again : (k : Kind) (title : List ℕ) (n : ℕ) → IsShown k title n → number_said k title ≡ Ok n
+number_again : (k : Kind) (title : List ℕ) (n : ℕ) → IsShown k title n → number_stated k title ≡ Ok n
 number_again k title n h =
     let one : is_decimal (48 + n % 10) ≡ true
     = rw (le-leb 48 (48 + n % 10) (omega arith), le-leb (48 + n % 10) 57 (omega arith)) refl in
@@ -209,7 +209,7 @@ said_again k row more is fields moment written laid =
     (subst (λ cs. are_good cs ≡ true) rows.columns is.lines.good)
     (subst (λ cs. AreFields cs row.columns) rows.columns fields) moment
 
-passes : {A B : Type 0} → (r : Result A Reason) (x : A) (f : A → Result B Reason) → r ≡ Ok x
+passes : {A B : Type 0} → (r : Result A RecordFault) (x : A) (f : A → Result B RecordFault) → r ≡ Ok x
     → (r >>= f) ≡ f x
 passes r x f e = ap (λ s. s >>= f) e
 
@@ -258,13 +258,13 @@ read_again k row more is fields range epoch said =
     let fit : need (are_in_columns k.layout.columns.now row.columns) reasons.OutOfRange ≡ Ok true
     = ap (λ b. need b reasons.OutOfRange) (are_columns k.layout.columns.now row.columns fields) in
     let value : RowContent = record { moment = row.moment; fields = row.columns } in
-    let judged : Bool → Result RowValue Reason
+    let judged : Bool → Result RowValue RecordFault
     = λ fit. with_epoch (epoch_fault k.clock row.moment row.columns) row in
-    let told : Bool → Result RowValue Reason
+    let told : Bool → Result RowValue RecordFault
     = λ same. flat_said k.layout.rows.now k.layout.columns.now lines >>= judged_row k n in
-    let checked : Bool → Result RowValue Reason
+    let checked : Bool → Result RowValue RecordFault
     = λ all. need (same_satellite title (first_of lines)) reasons.BadSat >>= told in
-    passes (number_said k title) n
+    passes (number_stated k title) n
     (λ m. lines_read k m title (completed k.may_end_early lines)) number
     ∙ ap (lines_read k n title) kept
     ∙ passes (need (nat_le (length k.layout.rows.now) (length lines)) reasons.Short) true checked

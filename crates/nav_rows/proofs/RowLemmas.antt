@@ -11,14 +11,14 @@ use Rattle.std.proofs.lemmas.List.{length-take-le, take-append-drop}
 use Rattle.std.proofs.lemmas.List.Sums.{sum_by-cons}
 use Rattle.nav_tables.specs.declared.field.Field.{Field as TableField}
 use Rattle.nav_tables.specs.Messages.{AreInRange}
-use Rattle.nav_links.specs.declared.link.Part.{Part}
-use Rattle.nav_links.specs.declared.link.Link.{Link}
-use Rattle.nav_links.specs.declared.link.Link.TheVariants.{Field, Opposite, Raised, Parts, Given}
-use Rattle.nav_links.specs.declared.link.Link.TheVariants.{Fixed}
-use Rattle.nav_links.specs.Links.{nth, parts_from, joined, width_of, are_parts, is_link, are_links}
-use Rattle.nav_links.specs.Links.{column_of, columns_of, ranges_fit, range_fits, AreFit}
+use Rattle.nav_tables.specs.declared.link.Part.{Part}
+use Rattle.nav_tables.specs.declared.link.Link.{Link}
+use Rattle.nav_tables.specs.declared.link.Link.TheVariants.{Field, Opposite, Raised, Parts, Given}
+use Rattle.nav_tables.specs.declared.link.Link.TheVariants.{Fixed}
+use Rattle.nav_tables.specs.Links.{nth, parts_from, joined, width_of, are_parts, is_link, are_links}
+use Rattle.nav_tables.specs.Links.{column_of, columns_of, ranges_fit, range_fits, AreFit}
 use Rattle.nav_tables.proofs.Surface.{both, le_z_true, range_length}
-use Rattle.nav_links.proofs.Surface.{joined-lt, inside_at, fit_parts, fit_all, links_append}
+use Rattle.nav_tables.proofs.Surface.{joined-lt, inside_at, fit_parts, fit_all, links_append}
 use Rattle.scaled_decimal.specs.declared.scales.Scale.{Scale}
 use Rattle.rinex_write.specs.declared.columns.Rule.{Rule}
 use Rattle.rinex_write.specs.declared.columns.Rule.TheVariants.{Plain, OrZero, OrLeast, OrUnknown}

@@ -21,8 +21,8 @@ use Rattle.nav_tables.specs.Fields.{IsInRange, greatest, is_field, least, number
 use Rattle.nav_tables.specs.Messages.{AreInRange, are_fields, message_in, numbers_at}
 use Rattle.nav_tables.proofs.Surface.{both, good, le_z_true, long_is, none_outside, ok_is}
 use Rattle.nav_tables.proofs.Surface.{read_in_range}
-use Rattle.rtcm_eph.specs.declared.content.Content.{Content}
-use Rattle.rtcm_eph.specs.declared.content.Content.TheVariants.{Gps as OfGps, Gal as OfGal}
+use Rattle.rtcm_eph.specs.declared.content.EphemerisMessage.{EphemerisMessage}
+use Rattle.rtcm_eph.specs.declared.content.EphemerisMessage.TheVariants.{Gps as OfGps, Gal as OfGal}
 use Rattle.rtcm_eph.specs.declared.content.GpsContent.{GpsContent}
 use Rattle.rtcm_eph.specs.declared.content.GalContent.{GalContent}
 use Rattle.rtcm_eph.specs.declared.fault.MessageFault.{MessageFault}
@@ -155,28 +155,28 @@ pub record IsMessage (bytes number least most satellite toe toc last : ℕ)
   pub toc_is : toc < last
 
 abbrev Judged : Type 0
-Judged = Result Content MessageFault
+Judged = Result EphemerisMessage MessageFault
 
-else_ok : (b : Bool) (fault : MessageFault) (y : Judged) (v : Content)
+else_ok : (b : Bool) (fault : MessageFault) (y : Judged) (v : EphemerisMessage)
     → (if b then Err fault else y) ≡ Ok v → (b ≡ false) × (y ≡ Ok v)
 else_ok true fault y v h = let no : Err fault ≡ Ok v = h in absurd cc
 else_ok false fault y v h = (refl, h)
 
-then_ok : (b : Bool) (fault : MessageFault) (x : Judged) (v : Content)
+then_ok : (b : Bool) (fault : MessageFault) (x : Judged) (v : EphemerisMessage)
     → (if b then x else Err fault) ≡ Ok v → (b ≡ true) × (x ≡ Ok v)
 then_ok true fault x v h = (refl, h)
 then_ok false fault x v h = let no : Err fault ≡ Ok v = h in absurd cc
 
-either_ok : (b : Bool) (x y : Judged) (v : Content) → (if b then x else y) ≡ Ok v
+either_ok : (b : Bool) (x y : Judged) (v : EphemerisMessage) → (if b then x else y) ≡ Ok v
     → ((b ≡ true) × (x ≡ Ok v)) ⊎ ((b ≡ false) × (y ≡ Ok v))
 either_ok true x y v h = inl (refl, h)
 either_ok false x y v h = inr (refl, h)
 
-same_content : (a b : Content) (j k : Judged) → j ≡ Ok a → k ≡ Ok b → j ≡ k → a ≡ b
+same_content : (a b : EphemerisMessage) (j k : Judged) → j ≡ Ok a → k ≡ Ok b → j ≡ k → a ≡ b
 same_content a b j k e f g = cc
 
 -- what judged_1019 says where it takes a message
-gps_judged : (m : Message1019) (v : Content) → judged_1019 m ≡ Ok v
+gps_judged : (m : Message1019) (v : EphemerisMessage) → judged_1019 m ≡ Ok v
     → (1 ≤ m.satellite) × (m.satellite ≤ 32) × (m.toe < 37800) × (m.toc < 37800) ×
     (OfGps (content_1019 m) ≡ v)
 gps_judged m v h =
@@ -191,7 +191,7 @@ gps_judged m v h =
       same_content (OfGps (content_1019 m)) v (Ok (OfGps (content_1019 m))) (Ok v) refl refl b.1,
     )
 
-gal_judged : (m : Message1046) (v : Content) → judged_1046 m ≡ Ok v
+gal_judged : (m : Message1046) (v : EphemerisMessage) → judged_1046 m ≡ Ok v
     → (1 ≤ m.satellite) × (m.satellite ≤ 36) × (m.toe < 10080) × (m.toc < 10080) ×
     (OfGal (content_1046 m) ≡ v)
 gal_judged m v h =

@@ -3,20 +3,20 @@ use Rattle.std.specs.Prelude.{◌≡◌, ℕ, false, ◌+◌, ◌*◌, ◌/◌, 
 use Rattle.std.specs.Prelude.{List, [], ◌∷◌}
 use Rattle.std.specs.Prelude.{length, ℤ, pos, nat_eq, nat_le, nat_lt, Option, Some, None}
 use Rattle.std.specs.Prelude.{Result, Ok, Err, if◌then◌else◌}
-use Rattle.gnss_week.specs.Functions.{moment_near}
+use Rattle.nav_eph.specs.Functions.{moment_near}
 use Rattle.nav_tables.specs.Messages.{first_outside, message_bytes, starts}
-use Rattle.nav_links.specs.declared.link.Part.{Part}
-use Rattle.nav_links.specs.Links.{AreSaid, filled, nth, say}
-use Rattle.nav_days.specs.declared.times.FrameTime.{FrameTime}
-use Rattle.nav_days.specs.declared.times.TimeFault.{TimeFault}
-use Rattle.nav_days.specs.declared.times.TimeFault.TheVariants as frames
-use Rattle.nav_days.specs.Times.{frame_in}
-use Rattle.nav_days.specs.Days.{distance}
-use Rattle.nav_days.specs.Weeks.{first_week, number_of_week}
+use Rattle.nav_tables.specs.declared.link.Part.{Part}
+use Rattle.nav_tables.specs.Links.{AreStated, filled, nth, say}
+use Rattle.nav_tables.specs.declared.times.FrameTime.{FrameTime}
+use Rattle.nav_tables.specs.declared.times.TimeFault.{TimeFault}
+use Rattle.nav_tables.specs.declared.times.TimeFault.TheVariants as frames
+use Rattle.nav_tables.specs.Times.{frame_in}
+use Rattle.nav_tables.specs.Days.{distance}
+use Rattle.nav_tables.specs.Weeks.{first_week, number_of_week}
 use Rattle.rinex_write.specs.declared.columns.Column.{Column}
 use Rattle.rinex_write.specs.Columns.{is_unknown}
-use Rattle.rinex_read.specs.declared.reason.Reason.{Reason}
-use Rattle.rinex_read.specs.declared.reason.Reason.TheVariants as reasons
+use Rattle.rinex_read.specs.declared.reason.RecordFault.{RecordFault}
+use Rattle.rinex_read.specs.declared.reason.RecordFault.TheVariants as reasons
 use Rattle.rinex_read.specs.Judging.{is_named_week}
 use Rattle.nav_rows.specs.declared.kind.WeekClock.{WeekClock}
 use Rattle.nav_rows.specs.declared.kind.Clock.{Clock}
@@ -43,7 +43,7 @@ is_near_toe m toe = nat_lt toe (m + 302400) && nat_le m (toe + 302400)
 -- the first reason why an epoch is none of its kind: the week of toe is not 1 to 16382, the epoch
 -- is not a multiple of toc's unit, of that of t0 or, of frames, of a quarter of an hour, or it is
 -- not near toe
-abbrev pub epoch_fault : Clock → ℕ → List ℤ → Option Reason
+abbrev pub epoch_fault : Clock → ℕ → List ℤ → Option RecordFault
 epoch_fault Frame m columns = if nat_eq (m % 900) 0 then None else Some reasons.EpochStep
 epoch_fault (Weeks c) m columns =
     if not (nat_le 1 (toe_week c columns)
@@ -54,8 +54,8 @@ epoch_fault (Weeks c) m columns =
 epoch_fault (Daily step) m columns = if nat_eq (m % 604800 % step) 0 then None else Some reasons.EpochStep
 
 -- the time of a frame with this epoch, sent at this time of week nearest to it
-abbrev pub frame_said : ℕ → ℕ → Result FrameTime TimeFault
-frame_said m sent =
+abbrev pub frame_stated : ℕ → ℕ → Result FrameTime TimeFault
+frame_stated m sent =
     if not (nat_lt sent 604800) then Err frames.Sent
     else if not (is_named_week m) then Err frames.Day
     else frame_in (record { epoch = m; frame = moment_near m sent })
@@ -73,7 +73,7 @@ week_head c row =
     ∷ pos (row.moment % 604800 / c.step) ∷ []
 
 abbrev pub head_of : Clock → RowValue → Result (List ℤ) EncodeFault
-head_of Frame row = frame_head row.number (frame_said row.moment (number row.columns 2))
+head_of Frame row = frame_head row.number (frame_stated row.moment (number row.columns 2))
 head_of (Weeks c) row = Ok (week_head c row)
 head_of (Daily step) row = Err faults.NoMessage
 
@@ -106,12 +106,12 @@ abbrev pub known_in : Kind → RowValue → List ℤ
 known_in k row = known k.layout.columns.now row.columns
 
 -- what the columns say of the numbers, 0 where it is not known; the others are constants or 0
-abbrev pub said_numbers : Kind → RowValue → List ℤ
-said_numbers k row = filled k.parts.now k.links.now (known_in k row) (starts k.table.fields.now)
+abbrev pub stated_numbers : Kind → RowValue → List ℤ
+stated_numbers k row = filled k.parts.now k.links.now (known_in k row) (starts k.table.fields.now)
 
-abbrev pub numbers_after : Kind → RowValue → Option Reason → Result (List ℤ) EncodeFault
+abbrev pub numbers_after : Kind → RowValue → Option RecordFault → Result (List ℤ) EncodeFault
 numbers_after k row (Some reason) = Err (faults.Epoch reason)
-numbers_after k row None = judged_row k (with_head_of k.parts.now k.clock row (said_numbers k row))
+numbers_after k row None = judged_row k (with_head_of k.parts.now k.clock row (stated_numbers k row))
 
 -- the numbers of the message of a row, or the first error
 unfoldable pub numbers_in : Kind → RowValue → Result (List ℤ) EncodeFault
@@ -128,8 +128,8 @@ message_of k row = bytes_by k (numbers_in k row)
 -- ---- rows and messages that come back
 
 -- the times that a row's record tells
-abbrev pub said_times : Clock → RowValue → RowTimes
-said_times clock row = record {
+abbrev pub stated_times : Clock → RowValue → RowTimes
+stated_times clock row = record {
   epoch = row.moment;
   week = if has_weeks clock then number row.columns 21 else 0;
   sent = if has_weeks clock then 0 else number row.columns 2;
@@ -139,7 +139,7 @@ said_times clock row = record {
 -- they are written, and other numbers are known
 abbrev pub IsOfMessage : Kind → RowValue → Type 0
 IsOfMessage k row =
-    AreSaid k.parts.now k.links.now (given_of (said_times k.clock row)) row.columns
+    AreStated k.parts.now k.links.now (given_of (stated_times k.clock row)) row.columns
     × (known_in k row ≡ row.columns)
 
 -- the reference week is one near which the message has the times of the row
@@ -152,8 +152,8 @@ IsNearRow (Weeks c) row r =
 IsNearRow (Daily step) row r = Unit {0}
 
 -- what no column says is as messages of rows have it: constants, and 0
-abbrev pub AreUnsaid : Kind → List ℤ → Type 0
-AreUnsaid k numbers =
+abbrev pub AreUnstated : Kind → List ℤ → Type 0
+AreUnstated k numbers =
     (j : ℕ) → say k.parts.now (all_links k.clock k.links.now) j ≡ false
     → nth (starts k.table.fields.now) j ≡ nth numbers j
 

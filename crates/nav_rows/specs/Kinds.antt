@@ -6,13 +6,13 @@ use Rattle.std.specs.Prelude.{ℤ, pos, neg_ℤ, ◌+ℤ◌, int_le, nat_le, nat
 use Rattle.std.specs.Prelude.{Some, None, if◌then◌else◌}
 use Rattle.nav_tables.specs.declared.field.Field.{Field as TableField}
 use Rattle.nav_tables.specs.Messages.{is_table}
-use Rattle.nav_links.specs.declared.link.Part.{Part}
-use Rattle.nav_links.specs.declared.link.Link.{Link}
-use Rattle.nav_links.specs.declared.link.Link.TheVariants.{Field, Opposite, Raised, Parts, Given}
-use Rattle.nav_links.specs.declared.link.Link.TheVariants.{Fixed}
-use Rattle.nav_links.specs.Links.{parts_from, width_of, are_apart, are_links, field_at, ranges_fit}
-use Rattle.nav_links.specs.Links.{say}
-use Rattle.nav_days.specs.Weeks.{is_week_rule}
+use Rattle.nav_tables.specs.declared.link.Part.{Part}
+use Rattle.nav_tables.specs.declared.link.Link.{Link}
+use Rattle.nav_tables.specs.declared.link.Link.TheVariants.{Field, Opposite, Raised, Parts, Given}
+use Rattle.nav_tables.specs.declared.link.Link.TheVariants.{Fixed}
+use Rattle.nav_tables.specs.Links.{parts_from, width_of, are_apart, are_links, field_at, ranges_fit}
+use Rattle.nav_tables.specs.Links.{say}
+use Rattle.nav_tables.specs.Weeks.{is_week_rule}
 use Rattle.rinex_write.specs.declared.columns.Rule.{Rule}
 use Rattle.rinex_write.specs.declared.columns.Rule.TheVariants.{Plain, OrZero, OrLeast, OrUnknown}
 use Rattle.rinex_write.specs.declared.columns.Rule.TheVariants.{Ura, Sisa, Fit, Sent, Unread}
@@ -163,10 +163,10 @@ has_columns (Weeks c) links =
 has_columns (Daily step) links = true
 
 -- each field from k on is said by a link or constant
-abbrev pub are_said : List Part → List Link → ℕ → List TableField → Bool
-are_said parts links k [] = true
-are_said parts links k (f ∷ fs) =
-    (say parts links k || int_le f.high f.low) && are_said parts links (suc k) fs
+abbrev pub are_stated : List Part → List Link → ℕ → List TableField → Bool
+are_stated parts links k [] = true
+are_stated parts links k (f ∷ fs) =
+    (say parts links k || int_le f.high f.low) && are_stated parts links (suc k) fs
 
 abbrev pub has_weeks : Clock → Bool
 has_weeks Frame = false
@@ -176,7 +176,7 @@ has_weeks (Daily step) = false
 -- the columns, the satellite and the times of a record say all of its message
 abbrev pub is_whole : Kind → Bool
 is_whole k =
-    has_weeks k.clock && are_said k.parts.now (all_links k.clock k.links.now) 0 k.table.fields.now
+    has_weeks k.clock && are_stated k.parts.now (all_links k.clock k.links.now) 0 k.table.fields.now
 
 -- records that may lack the last of five lines have five
 abbrev pub is_long : Bool → ℕ → Bool

@@ -3,7 +3,7 @@ use Rattle.std.specs.Prelude.{◌≡◌, ℕ, ◌-◌, ◌*◌, ◌/◌, ◌%◌
 use Rattle.std.specs.Cmp.Lexicographic.{slice_cmp}
 use Rattle.std.specs.Ordering.{int_cmp, on, then_cmp}
 use Rattle.std.specs.declared.cmp.Ordering.{Ordering}
-use Rattle.nav_links.specs.Links.{nth}
+use Rattle.nav_tables.specs.Links.{nth}
 use Rattle.nav_rows.specs.declared.kind.Clock.{Clock}
 use Rattle.nav_rows.specs.declared.kind.Clock.TheVariants.{Frame, Weeks, Daily}
 use Rattle.nav_rows.specs.declared.kind.Kind.{Kind}

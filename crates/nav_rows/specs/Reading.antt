@@ -6,14 +6,14 @@ use Rattle.std.specs.Prelude.{Option}
 use Rattle.std.specs.Prelude.{Some, None, Result, Ok, Err, if◌then◌else◌}
 use Rattle.scaled_decimal.specs.NumberReading.{is_decimal}
 use Rattle.nav_tables.specs.Fields.{is_in_range}
-use Rattle.nav_links.specs.Links.{field_at}
+use Rattle.nav_tables.specs.Links.{field_at}
 use Rattle.rinex_write.specs.declared.columns.Rule.{Rule}
 use Rattle.rinex_write.specs.declared.columns.Rule.TheVariants.{Plain, OrZero, OrLeast, OrUnknown}
 use Rattle.rinex_write.specs.declared.columns.Rule.TheVariants.{Ura, Sisa, Fit, Sent, Unread}
 use Rattle.rinex_write.specs.declared.columns.Column.{Column}
 use Rattle.rinex_write.specs.Columns.{not_known}
-use Rattle.rinex_read.specs.declared.reason.Reason.{Reason}
-use Rattle.rinex_read.specs.declared.reason.Reason.TheVariants as reasons
+use Rattle.rinex_read.specs.declared.reason.RecordFault.{RecordFault}
+use Rattle.rinex_read.specs.declared.reason.RecordFault.TheVariants as reasons
 use Rattle.rinex_read.specs.Fields.{◌>>=◌}
 use Rattle.rinex_read.specs.Judging.{first_of, need}
 use Rattle.rinex_read.specs.RowReads.{RowContent, flat_said}
@@ -51,7 +51,7 @@ are_digits tens ones = is_decimal ones && (tens == 32 || is_decimal tens)
 abbrev pub two_digits : ℕ → ℕ → ℕ
 two_digits tens ones = (if tens == 32 then 0 else 10 * (tens - 48)) + (ones - 48)
 
-abbrev pub number_by : Kind → ℕ → ℕ → Result ℕ Reason
+abbrev pub number_by : Kind → ℕ → ℕ → Result ℕ RecordFault
 number_by k tens ones =
     if not (are_digits tens ones) then Err reasons.BadSat
     else if is_in_range (field_at k.table.fields.now 1) (pos (two_digits tens ones)) then Ok
@@ -59,8 +59,8 @@ number_by k tens ones =
     else Err reasons.BadSat
 
 -- the satellite of a title, in columns 8 and 9: one that messages of the kind have
-abbrev pub number_said : Kind → List ℕ → Result ℕ Reason
-number_said k title = number_by k (get_or title 7 32) (get_or title 8 32)
+abbrev pub number_stated : Kind → List ℕ → Result ℕ RecordFault
+number_stated k title = number_by k (get_or title 7 32) (get_or title 8 32)
 
 -- a line begins with the satellite in columns 7 to 9 of the title
 abbrev pub same_satellite : List ℕ → List ℕ → Bool
@@ -73,17 +73,17 @@ abbrev pub completed : Bool → List (List ℕ) → List (List ℕ)
 completed may_end_early lines =
     if may_end_early && nat_eq (length lines) 4 then lines ++ replicate 80 32 ∷ [] else lines
 
-abbrev pub with_epoch : Option Reason → RowValue → Result RowValue Reason
+abbrev pub with_epoch : Option RecordFault → RowValue → Result RowValue RecordFault
 with_epoch (Some reason) row = Err reason
 with_epoch None row = Ok row
 
-abbrev pub judged_row : Kind → ℕ → RowContent → Result RowValue Reason
+abbrev pub judged_row : Kind → ℕ → RowContent → Result RowValue RecordFault
 judged_row k number said =
     need (are_in_columns k.layout.columns.now said.fields) reasons.OutOfRange >>= λ fit.
     with_epoch (epoch_fault k.clock said.moment said.fields)
     (record { number = number; moment = said.moment; columns = said.fields })
 
-abbrev pub lines_read : Kind → ℕ → List ℕ → List (List ℕ) → Result RowValue Reason
+abbrev pub lines_read : Kind → ℕ → List ℕ → List (List ℕ) → Result RowValue RecordFault
 lines_read k number title lines =
     need (nat_le (length k.layout.rows.now) (length lines)) reasons.Short >>= λ all.
     need (same_satellite title (first_of lines)) reasons.BadSat >>= λ same.
@@ -91,11 +91,11 @@ lines_read k number title lines =
 
 -- the row of a record by its title and the lines after it, or the first reason. In this order:
 -- satellite, number of lines, the same satellite in the first line, date, numbers, epoch
-unfoldable pub row_read : Kind → List ℕ → List (List ℕ) → Result RowValue Reason
+unfoldable pub row_read : Kind → List ℕ → List (List ℕ) → Result RowValue RecordFault
 row_read k title lines =
-    number_said k title >>= λ number. lines_read k number title (completed k.may_end_early lines)
+    number_stated k title >>= λ number. lines_read k number title (completed k.may_end_early lines)
 
 -- the same of the lines of a record, the title first
-abbrev pub read_lines_of : Kind → List (List ℕ) → Result RowValue Reason
+abbrev pub read_lines_of : Kind → List (List ℕ) → Result RowValue RecordFault
 read_lines_of k [] = Err reasons.Short
 read_lines_of k (title ∷ lines) = row_read k title lines

@@ -3,7 +3,7 @@ use Rattle.std.specs.Prelude.{ℕ, ◌&&◌, ◌<◌, Bool, false, List, [], ◌
 use Rattle.std.specs.Prelude.{Option, Some, None, Result, Ok, Err, if◌then◌else◌, codes}
 use Rattle.nav_tables.specs.declared.message.TableFault.{TableFault}
 use Rattle.nav_tables.specs.Messages.{message_in}
-use Rattle.nav_links.specs.Links.{nth, columns_of}
+use Rattle.nav_tables.specs.Links.{nth, columns_of}
 use Rattle.rinex_write.specs.RowTexts.{RowKind, row_body, row_record, split_rows}
 use Rattle.rinex_write.specs.Texts.{text_of}
 use Rattle.nav_rows.specs.declared.kind.Kind.{Kind}
@@ -11,7 +11,7 @@ use Rattle.nav_rows.specs.declared.times.RowTimes.{RowTimes}
 use Rattle.nav_rows.specs.declared.row.Row.{Row}
 use Rattle.nav_rows.specs.declared.row.RowFault.{RowFault}
 use Rattle.nav_rows.specs.declared.row.RowFault.TheVariants.{Message, SpareSisa, Day}
-use Rattle.nav_rows.specs.Times.{number, times_told}
+use Rattle.nav_rows.specs.Times.{number, times_stated}
 
 -- the SISA index is one of 126 to 254
 abbrev pub has_spare_sisa : Option ℕ → List ℤ → Bool
@@ -47,7 +47,7 @@ abbrev pub row_by : Kind → ℕ → Result (List ℤ) TableFault → Result Row
 row_by k r (Err fault) = Err (Message fault)
 row_by k r (Ok numbers)
     = if has_spare_sisa k.sisa numbers then Err SpareSisa else row_at k numbers
-    (times_told k.clock numbers r)
+    (times_stated k.clock numbers r)
 
 -- the records of a kind
 abbrev pub record_kind : Kind → RowKind

@@ -1,12 +1,12 @@
 -- The times in the numbers of a message.
 use Rattle.std.specs.Prelude.{ℕ, ◌+◌, ◌-◌, ◌*◌, ◌%◌, ◌^◌, ◌<◌, ◌≤◌, List, length, ℤ, pos, ◌≤ℤ◌}
 use Rattle.std.specs.Prelude.{unsigned_abs, IsTrue, Option, Some, None}
-use Rattle.gnss_week.specs.Functions.{moment_near}
-use Rattle.nav_links.specs.Links.{nth}
-use Rattle.nav_days.specs.declared.times.FrameTime.{FrameTime}
-use Rattle.nav_days.specs.declared.times.Times.{Times}
-use Rattle.nav_days.specs.Times.{times_to, IsFrameTime}
-use Rattle.nav_days.specs.Weeks.{week_to}
+use Rattle.nav_eph.specs.Functions.{moment_near}
+use Rattle.nav_tables.specs.Links.{nth}
+use Rattle.nav_tables.specs.declared.times.FrameTime.{FrameTime}
+use Rattle.nav_tables.specs.declared.times.Times.{Times}
+use Rattle.nav_tables.specs.Times.{times_to, IsFrameTime}
+use Rattle.nav_tables.specs.Weeks.{week_to}
 use Rattle.nav_rows.specs.declared.kind.WeekClock.{WeekClock}
 use Rattle.nav_rows.specs.declared.kind.Clock.{Clock}
 use Rattle.nav_rows.specs.declared.kind.Clock.TheVariants.{Frame, Weeks, Daily}
@@ -46,10 +46,10 @@ weekly c numbers r = times_in_week c (week_to c.rule r (number numbers c.week))
     (number numbers c.toe) (number numbers c.toc)
 
 -- the times of a message near reference week r
-abbrev pub times_told : Clock → List ℤ → ℕ → Option RowTimes
-times_told Frame numbers r = framed (times_to (frame_of numbers) r)
-times_told (Weeks c) numbers r = Some (weekly c numbers r)
-times_told (Daily step) numbers r = None
+abbrev pub times_stated : Clock → List ℤ → ℕ → Option RowTimes
+times_stated Frame numbers r = framed (times_to (frame_of numbers) r)
+times_stated (Weeks c) numbers r = Some (weekly c numbers r)
+times_stated (Daily step) numbers r = None
 
 -- the ranges of what records tell of these times
 pub record IsGiven (clock : Clock) (t : RowTimes) : Type 0 where

@@ -3,31 +3,32 @@
 ghost use Rattle.std.specs.Prelude.{◌≡◌, ◌≤◌, ◌<◌, ◌+◌, ◌*◌, ◌^◌, ◌∷◌, ◌++◌, [], length, pos, IfOk};
 ghost use Rattle.std.specs.Prelude.{IfErr, IsTrue, Ok, Err, None, if◌then◌else◌};
 ghost use Rattle.nav_tables.specs.Messages.{AreInRange, starts};
-ghost use Rattle.nav_links.specs.Links.{AreSmall, are_links};
-ghost use Rattle.nav_days.specs.Weeks.{is_week_rule};
+ghost use Rattle.nav_tables.specs.Links.{AreSmall, are_links};
+ghost use Rattle.nav_tables.specs.Weeks.{is_week_rule};
 ghost use Rattle.rinex_write.specs.Columns.{AreFields, is_unknown};
 ghost use Rattle.nav_rows.specs.declared.kind.Clock.TheVariants.{Frame, Weeks};
 ghost use Rattle.nav_rows.specs.Kinds.{IsKind, head_links};
 ghost use Rattle.nav_rows.specs.Rows.{value};
-ghost use Rattle.nav_rows.specs.Encoding.{HasClock, HasFlags, HasToe, epoch_fault, frame_said};
+ghost use Rattle.nav_rows.specs.Encoding.{HasClock, HasFlags, HasToe, epoch_fault, frame_stated};
 ghost use Rattle.nav_rows.specs.Encoding.{is_near_toe, judged_row, known, message_of, numbers_in};
 ghost use Rattle.nav_rows.specs.Encoding.{toe_at, toe_week, week_head, with_head_of};
 
 use crate::kind::{Clock, Kind, WeekClock};
 use crate::row::{Row, has_spare_sisa};
 use arrayvec::ArrayVec;
-use gnss_week::{Moment, Second, Week, nearest_moment};
-use nav_days::{FrameTime, TimeFault, Times, frame_time, number_of_week};
-use nav_links::{Link, Part, fill_numbers};
-use nav_tables::{first_outside, start_numbers, write_message};
-use rinex_read::Reason;
+use nav_eph::{Moment, Second, Week, nearest_moment};
+use nav_tables::{
+    FrameTime, Link, Part, TimeFault, Times, fill_numbers, first_outside, frame_time,
+    number_of_week, start_numbers, write_message,
+};
+use rinex_read::RecordFault;
 use rinex_write::{Column, NOT_KNOWN, Rule};
 
 /// Why a row has no message: the first of these that holds, in this order.
 #[derive(Clone, Copy, PartialEq, Eq, Debug)]
 pub enum EncodeFault {
     /// Its epoch is none of its kind.
-    Epoch(Reason),
+    Epoch(RecordFault),
     /// Its times are not those of a frame.
     Frame(TimeFault),
     /// A number is outside its field's range; no field before it has such a number.
@@ -69,7 +70,7 @@ fn is_near_toe(moment: u64, toe: u64) -> bool
 }
 
 // The first reason why an epoch is none of its kind.
-pub(crate) fn epoch_fault(clock: &Clock, moment: Moment, columns: &[i64]) -> Option<Reason>
+pub(crate) fn epoch_fault(clock: &Clock, moment: Moment, columns: &[i64]) -> Option<RecordFault>
     requires { HasClock clock.now columns.now }
     ensures { result ≡ epoch_fault clock.now moment columns.now }
 {
@@ -78,19 +79,19 @@ pub(crate) fn epoch_fault(clock: &Clock, moment: Moment, columns: &[i64]) -> Opt
             if moment.value() % 900 == 0 {
                 None
             } else {
-                Some(Reason::EpochStep)
+                Some(RecordFault::EpochStep)
             }
         }
         Clock::Weeks(weeks) => {
             let week = toe_week(weeks, columns);
             if week < 1 || week > 16_382 {
-                return Some(Reason::Week);
+                return Some(RecordFault::Week);
             }
             if moment.second().value() % weeks.step != 0 {
-                return Some(Reason::EpochStep);
+                return Some(RecordFault::EpochStep);
             }
             if !is_near_toe(moment.value(), toe_at(weeks, columns)) {
-                return Some(Reason::EpochFar);
+                return Some(RecordFault::EpochFar);
             }
             None
         }
@@ -98,15 +99,15 @@ pub(crate) fn epoch_fault(clock: &Clock, moment: Moment, columns: &[i64]) -> Opt
             if moment.second().value() % *step == 0 {
                 None
             } else {
-                Some(Reason::EpochStep)
+                Some(RecordFault::EpochStep)
             }
         }
     }
 }
 
 // The time of a frame with this epoch, sent at this time of week.
-fn frame_said(moment: Moment, sent: u64) -> Result<FrameTime, TimeFault>
-    ensures { result ≡ frame_said moment sent }
+fn frame_stated(moment: Moment, sent: u64) -> Result<FrameTime, TimeFault>
+    ensures { result ≡ frame_stated moment sent }
 {
     if sent >= 604_800 {
         return Err(TimeFault::Sent);
@@ -180,7 +181,7 @@ fn write_frame_head(row: &Row, parts: &[Part], numbers: &mut [i64]) -> Result<()
     ensures count { length numbers.new ≡ length numbers.old }
 {
     let columns = row.columns.as_slice();
-    match frame_said(row.moment, columns[2].unsigned_abs()) {
+    match frame_stated(row.moment, columns[2].unsigned_abs()) {
         Err(fault) => Err(EncodeFault::Frame(fault)),
         Ok(time) => {
             fill_numbers(&FRAME_LINKS, parts, &frame_head(row.number, &time), numbers);

@@ -8,9 +8,7 @@ use crate::links::{
     QZSS_LINKS, QZSS_PARTS, SBAS_LINKS, SBAS_PARTS,
 };
 use crate::tables::{FIELDS_1020, FIELDS_1041, FIELDS_1042, FIELDS_1044, FIELDS_1045, FIELDS_SBAS};
-use nav_days::WeekRule;
-use nav_links::{Link, Part};
-use nav_tables::Table;
+use nav_tables::{Link, Part, Table, WeekRule};
 use rinex_read::columns;
 use rinex_write::{
     D1, D1_ROWS, FDMA, FDMA_ROWS, FNAV, FNAV_ROWS, NAVIC, NAVIC_ROWS, QZSS, QZSS_ROWS,

@@ -6,24 +6,24 @@ ghost use Rattle.std.specs.Cmp.{IsTotalOrder};
 ghost use Rattle.std.specs.declared.cmp.Ordering.TheVariants.{Equal};
 ghost use Rattle.nav_bits.specs.Bits.{number_at};
 ghost use Rattle.nav_bits.specs.Packed.{AreBytes};
-ghost use Rattle.gnss_week.specs.Weeks.{IsMoment, IsReference};
+ghost use Rattle.nav_eph.specs.Weeks.{IsMoment, IsReference};
 ghost use Rattle.nav_tables.specs.Fields.{IsInRange};
 ghost use Rattle.nav_tables.specs.Messages.{ArePlain};
-ghost use Rattle.nav_links.specs.Links.{field_at};
+ghost use Rattle.nav_tables.specs.Links.{field_at};
 ghost use Rattle.rinex_write.specs.Columns.{AreFields};
 ghost use Rattle.nav_rows.specs.declared.kind.Kind.{Kind};
 ghost use Rattle.nav_rows.specs.Kinds.{IsKind, has_weeks, is_whole};
 ghost use Rattle.nav_rows.specs.Times.{frame_of, number};
 ghost use Rattle.nav_rows.specs.Rows.{RowValue, record_of, row_in};
-ghost use Rattle.nav_rows.specs.Encoding.{AreUnsaid, IsNearRow, IsOfMessage, epoch_fault};
-ghost use Rattle.nav_rows.specs.Encoding.{frame_said, message_of};
+ghost use Rattle.nav_rows.specs.Encoding.{AreUnstated, IsNearRow, IsOfMessage, epoch_fault};
+ghost use Rattle.nav_rows.specs.Encoding.{frame_stated, message_of};
 ghost use Rattle.nav_rows.specs.Reading.{read_lines_of};
 ghost use Rattle.nav_rows.specs.Order.{IsAlike, KindRow, by_place, by_rank};
 ghost use Rattle.nav_tables.specs.declared.field.Table.{Table};
 ghost use Rattle.nav_tables.specs.Messages.{message_in, numbers_at};
 ghost use Rattle.rtcm_eph.specs.declared.content.GpsContent.{GpsContent};
 ghost use Rattle.rtcm_eph.specs.declared.content.GalContent.{GalContent};
-ghost use Rattle.rtcm_eph.specs.declared.content.Content.TheVariants.{Gps, Gal};
+ghost use Rattle.rtcm_eph.specs.declared.content.EphemerisMessage.TheVariants.{Gps, Gal};
 ghost use Rattle.rtcm_eph.specs.Messages.{message1019_at, message1046_at};
 ghost use Rattle.rtcm_eph.specs.Reading.{content_1019, content_1046, content_of, is_sisa};
 ghost use Rattle.nav_rows.specs.Tied.{numbers_1019, numbers_1046};
@@ -71,8 +71,8 @@ pub fn messages_come_back()
     ensures frames { (k : Kind) (bytes : List ℕ) (r : ℕ) (row : RowValue) (numbers : List ℤ) →
         IsKind k → has_weeks k.clock ≡ false → AreBytes k.table.bytes bytes →
         ArePlain bytes 0 k.table.fields.now → message_in k.table bytes ≡ Ok numbers →
-        row_in k bytes r ≡ Ok row → AreUnsaid k numbers →
-        frame_said row.moment (number row.columns 2) ≡ Ok (frame_of numbers) →
+        row_in k bytes r ≡ Ok row → AreUnstated k numbers →
+        frame_stated row.moment (number row.columns 2) ≡ Ok (frame_of numbers) →
         message_of k row ≡ Ok bytes }
 {}
 

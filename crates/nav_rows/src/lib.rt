@@ -7,7 +7,7 @@
 //! rows, and [`are_alike`] finds those that a file needs once.
 //!
 //! ```rust
-//! use gnss_week::RefWeek;
+//! use nav_eph::RefWeek;
 //! use nav_rows::{kind_of, row_of_message};
 //!
 //! let kind = kind_of(1020, 25).ok_or("a kind")?;

@@ -1,6 +1,6 @@
 //! Where the columns of the records come from in their messages, a line a column.
 
-use nav_links::{Link, Part};
+use nav_tables::{Link, Part};
 
 // The week of toe, the time of the frame, and a time of transmission that is not known.
 const WEEK: Link = Link::Given { place: 0 };

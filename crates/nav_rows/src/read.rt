@@ -3,19 +3,19 @@
 ghost use Rattle.std.specs.Prelude.{◌≡◌, ◌++◌, ◌∷◌, ◌&&◌, ◌↔◌, [], length, replicate, int_le, pos};
 ghost use Rattle.std.specs.Prelude.{IfOk, IsTrue};
 ghost use Rattle.nav_tables.specs.Fields.{is_in_range};
-ghost use Rattle.nav_links.specs.Links.{field_at};
+ghost use Rattle.nav_tables.specs.Links.{field_at};
 ghost use Rattle.rinex_write.specs.Columns.{AreFields};
 ghost use Rattle.rinex_read.specs.Mirrors.{Gives};
 ghost use Rattle.nav_rows.specs.Kinds.{IsKind};
 ghost use Rattle.nav_rows.specs.Rows.{value};
 ghost use Rattle.nav_rows.specs.Reading.{are_digits, are_in_columns, is_in_column, judged_row};
-ghost use Rattle.nav_rows.specs.Reading.{lines_read, number_by, number_said, row_read};
+ghost use Rattle.nav_rows.specs.Reading.{lines_read, number_by, number_stated, row_read};
 ghost use Rattle.nav_rows.specs.Reading.{same_satellite, two_digits};
 
 use crate::encode::epoch_fault;
 use crate::kind::Kind;
 use crate::row::Row;
-use rinex_read::{Reason, RowSaid, read_row_lines};
+use rinex_read::{RecordFault, RowStated, read_row_lines};
 use rinex_write::{Column, NOT_KNOWN, Rule};
 use scaled_decimal::is_decimal;
 
@@ -106,25 +106,25 @@ fn has_satellite(kind: &Kind, number: u8) -> bool
 }
 
 // The satellite of two digits: one that messages of the kind have.
-fn number_by(kind: &Kind, tens: u8, ones: u8) -> Result<u8, Reason>
+fn number_by(kind: &Kind, tens: u8, ones: u8) -> Result<u8, RecordFault>
     requires { IsKind kind.now }
     ensures { result ≡ number_by kind.now tens ones }
 {
     if !are_digits(tens, ones) {
-        return Err(Reason::BadSat);
+        return Err(RecordFault::BadSat);
     }
     let number = two_digits(tens, ones);
     if has_satellite(kind, number) {
         Ok(number)
     } else {
-        Err(Reason::BadSat)
+        Err(RecordFault::BadSat)
     }
 }
 
 // The satellite of a title.
-fn number_said(kind: &Kind, title: &[u8; 80]) -> Result<u8, Reason>
+fn number_stated(kind: &Kind, title: &[u8; 80]) -> Result<u8, RecordFault>
     requires { IsKind kind.now }
-    ensures { result ≡ number_said kind.now title.now }
+    ensures { result ≡ number_stated kind.now title.now }
 {
     number_by(kind, title[7], title[8])
 }
@@ -137,14 +137,14 @@ fn same_satellite(title: &[u8; 80], line: &[u8; 80]) -> bool
 }
 
 // The row of what lines say, or the first reason why there is none.
-fn judged_row(kind: &Kind, number: u8, said: RowSaid) -> Result<Row, Reason>
+fn judged_row(kind: &Kind, number: u8, said: RowStated) -> Result<Row, RecordFault>
     requires { IsKind kind.now }
     ensures row { Gives value result (judged_row kind.now number
         (record { moment = said.moment; fields = said.fields.items })) }
     ensures fields { IfOk result (λ row. AreFields kind.now.layout.columns.now row.columns.items) }
 {
     if !are_in_columns(kind.layout.columns, said.fields.as_slice()) {
-        return Err(Reason::OutOfRange);
+        return Err(RecordFault::OutOfRange);
     }
     match epoch_fault(&kind.clock, said.moment, said.fields.as_slice()) {
         Some(reason) => Err(reason),
@@ -157,16 +157,21 @@ fn judged_row(kind: &Kind, number: u8, said: RowSaid) -> Result<Row, Reason>
 }
 
 // The row of the lines after a title.
-fn lines_read(kind: &Kind, number: u8, title: &[u8; 80], lines: &[[u8; 80]]) -> Result<Row, Reason>
+fn lines_read(
+    kind: &Kind,
+    number: u8,
+    title: &[u8; 80],
+    lines: &[[u8; 80]],
+) -> Result<Row, RecordFault>
     requires { IsKind kind.now }
     ensures row { Gives value result (lines_read kind.now number title.now lines.now) }
     ensures fields { IfOk result (λ row. AreFields kind.now.layout.columns.now row.columns.items) }
 {
     if lines.len() < kind.layout.rows.len() {
-        return Err(Reason::Short);
+        return Err(RecordFault::Short);
     }
     if !same_satellite(title, &lines[0]) {
-        return Err(Reason::BadSat);
+        return Err(RecordFault::BadSat);
     }
     match read_row_lines(&kind.layout, lines) {
         Ok(said) => judged_row(kind, number, said),
@@ -188,12 +193,12 @@ fn completed(lines: &[[u8; 80]]) -> [[u8; 80]; 5]
 /// The error is the first reason: satellite, number of lines, another satellite in the first line,
 /// date, numbers, epoch.
 #[tactic(auto, unfolding(crate::specs::Reading::row_read))]
-pub fn read_record(kind: &Kind, title: &[u8; 80], lines: &[[u8; 80]]) -> Result<Row, Reason>
+pub fn read_record(kind: &Kind, title: &[u8; 80], lines: &[[u8; 80]]) -> Result<Row, RecordFault>
     requires { IsKind kind.now }
     ensures row { Gives value result (row_read kind.now title.now lines.now) }
     ensures fields { IfOk result (λ row. AreFields kind.now.layout.columns.now row.columns.items) }
 {
-    match number_said(kind, title) {
+    match number_stated(kind, title) {
         Err(reason) => Err(reason),
         Ok(number) => {
             if kind.may_end_early && lines.len() == 4 {

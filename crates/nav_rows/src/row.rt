@@ -3,7 +3,7 @@
 ghost use Rattle.std.specs.Prelude.{◌≡◌, ◌<◌, ◌≤◌, ◌++◌, ◌∷◌, [], length, pos, ◌≤ℤ◌, unsigned_abs};
 ghost use Rattle.std.specs.Prelude.{IfOk, IfErr, Ok, Err, codes, map};
 ghost use Rattle.nav_io.specs.Writes.{Writes};
-ghost use Rattle.nav_links.specs.Links.{nth};
+ghost use Rattle.nav_tables.specs.Links.{nth};
 ghost use Rattle.rinex_write.specs.Columns.{AreFields};
 ghost use Rattle.nav_rows.specs.Kinds.{IsKind};
 ghost use Rattle.nav_rows.specs.Times.{IsSatellite};
@@ -11,12 +11,11 @@ ghost use Rattle.nav_rows.specs.Rows.{SisaInside, body_text, given_of, has_spare
 ghost use Rattle.nav_rows.specs.Rows.{record_text, row_in, value};
 
 use crate::kind::Kind;
-use crate::times::{RowTimes, times_told};
+use crate::times::{RowTimes, times_stated};
 use arrayvec::ArrayVec;
-use gnss_week::{Moment, RefWeek};
+use nav_eph::{Moment, RefWeek};
 use nav_io::{Failed, Sink};
-use nav_links::columns_of;
-use nav_tables::{TableFault, read_message};
+use nav_tables::{TableFault, columns_of, read_message};
 use rinex_write::{RowHead, write_row, write_row_body};
 
 /// An ephemeris of some kind.
@@ -83,7 +82,7 @@ pub fn row_of_message(kind: &Kind, payload: &[u8], reference: RefWeek) -> Result
     if has_spare_sisa(kind.sisa, numbers.as_slice()) {
         return Err(RowFault::SpareSisa);
     }
-    let Some(times) = times_told(&kind.clock, numbers.as_slice(), reference) else {
+    let Some(times) = times_stated(&kind.clock, numbers.as_slice(), reference) else {
         return Err(RowFault::Day);
     };
     let given = given_of(&times);

@@ -9,7 +9,7 @@ use crate::order::are_alike;
 use crate::read::read_record;
 use crate::row::{Row, row_of_message, write_record};
 use crate::tables::table_1046;
-use gnss_week::RefWeek;
+use nav_eph::RefWeek;
 use nav_io::MemSink;
 use nav_tables::{read_message, write_message};
 use rinex_write::NOT_KNOWN;

@@ -2,17 +2,17 @@
 
 ghost use Rattle.std.specs.Prelude.{◌≡◌, ◌<◌, ◌≤◌, ◌+◌, ◌*◌, ◌/◌, IfSome, IsTrue, length, pos};
 ghost use Rattle.std.specs.Prelude.{◌≤ℤ◌, unsigned_abs};
-ghost use Rattle.gnss_week.specs.Weeks.{week_of};
-ghost use Rattle.nav_links.specs.Links.{nth};
-ghost use Rattle.nav_days.specs.Times.{IsFrameTime, times_to};
+ghost use Rattle.nav_eph.specs.Weeks.{week_of};
+ghost use Rattle.nav_tables.specs.Links.{nth};
+ghost use Rattle.nav_tables.specs.Times.{IsFrameTime, times_to};
 ghost use Rattle.nav_rows.specs.declared.kind.Clock.TheVariants.{Frame, Weeks};
 ghost use Rattle.nav_rows.specs.Kinds.{is_week_clock};
 ghost use Rattle.nav_rows.specs.Times.{HasFrame, HasTimes, HasWeek, IsGiven, IsNumber, frame_of};
-ghost use Rattle.nav_rows.specs.Times.{framed, times_told, weekly};
+ghost use Rattle.nav_rows.specs.Times.{framed, times_stated, weekly};
 
 use crate::kind::{Clock, WeekClock};
-use gnss_week::{Moment, RefWeek, Second, Week, nearest_moment};
-use nav_days::{FrameTime, times_of, week_near};
+use nav_eph::{Moment, RefWeek, Second, Week, nearest_moment};
+use nav_tables::{FrameTime, times_of, week_near};
 
 /// The times of an ephemeris as its record gives them.
 #[derive(Clone, Copy, PartialEq, Eq)]
@@ -93,9 +93,9 @@ fn week_times(clock: &WeekClock, numbers: &[i64], reference: RefWeek) -> RowTime
 }
 
 // The times of a message near a reference week; None where no day has its number.
-pub(crate) fn times_told(clock: &Clock, numbers: &[i64], reference: RefWeek) -> Option<RowTimes>
+pub(crate) fn times_stated(clock: &Clock, numbers: &[i64], reference: RefWeek) -> Option<RowTimes>
     requires { HasTimes clock.now numbers.now }
-    ensures value { result ≡ times_told clock.now numbers.now reference }
+    ensures value { result ≡ times_stated clock.now numbers.now reference }
     ensures range { IfSome result (IsGiven clock.now) }
 {
     match clock {

@@ -1,4 +1,13 @@
 pub mod FieldLemmas
 pub mod MessageLemmas
 pub mod LoopLemmas
+pub mod NavTablesSurface
+pub mod LinkLemmas
+pub mod LinkSurface
+pub mod WeekLemmas
+pub mod DayLemmas
+pub mod NearLemmas
+pub mod FrameLemmas
+pub mod DaySurface
+pub mod PieceLemmas
 pub mod Surface

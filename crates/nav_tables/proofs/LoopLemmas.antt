@@ -154,10 +154,10 @@ told_at i fs zs all h h' t =
     subst (λ gs. AreTold fs gs zs (get_or zs i (pos 0) ∷ drop (i + 1) zs) all) (next_field fs i h)
     (subst (λ ys. AreTold fs (drop i fs) zs ys all) (next_number zs i h') t)
 
-pub told_more : (fs rest : List Field) (zs left : List ℤ) (f : Field) (z : ℤ) (all : List (ℕ × ℕ))
+pub reported_more : (fs rest : List Field) (zs left : List ℤ) (f : Field) (z : ℤ) (all : List (ℕ × ℕ))
     → AreTold fs (f ∷ rest) zs (z ∷ left) all
     → AreTold fs rest zs left (all ++ (f.width, bits_of f z) ∷ [])
-told_more fs rest zs left f z all t = record {
+reported_more fs rest zs left f z all t = record {
   told = append_snoc all (f.width, bits_of f z) (pairs rest left) ∙ t.told;
   good = (both (is_field f) (are_fields rest) t.good).1;
   range = t.range.1;

@@ -6,14 +6,14 @@ use Rattle.std.specs.Io.KnownBytes.{Appends, Consumes, IsAtEnd}
 use Rattle.nav_io.specs.Prefix.{AppendsPrefix, IsPrefix}
 use Rattle.one_run.specs.declared.fault.BridgeFault.{BridgeFault}
 use Rattle.one_run.specs.declared.fault.BridgeFault.TheVariants.{ReadFault, WriteFault, ReportFault, NotThisForm, TooLong, NoMemory}
-use Rattle.one_run.specs.Runs.{Broke, Done, Ended, Meaning, StopAtOnePlace, Texts, World, world}
+use Rattle.one_run.specs.Runs.{IsBroken, IsDone, Ended, Meaning, StopAtOnePlace, Texts, World, world}
 use Rattle.one_run.specs.Ends.{status_of, uncounted}
 use Rattle.one_run.proofs.Surface.{forget, forgotten, status_forgotten}
 use Rattle.bridge_engine.specs.Job.{GivesJob, IsJob}
 use Rattle.bridge_engine.specs.Meanings.{meaning_of}
 use Rattle.bridge_engine.proofs.Surface.{limit_of}
 use Rattle.bridge_engine.specs.declared.job.Job.{Job}
-use Rattle.c_records.specs.Rooms.{StandsIn}
+use Rattle.raw_values.specs.Rooms.{StandsIn}
 use Rattle.navbridge_c.specs.Conversions.{Converts, ForJob, HasEnded, IsBegun, IsWhole, Made, made_of, nothing, read_by}
 use Rattle.navbridge_c.specs.Mirrors.{HasEndedInMemory, in_memory, in_room}
 
@@ -173,7 +173,7 @@ module _ {S T U : Type 0} (left : S → List ℕ) (written : T → List ℕ) (wr
   world_at i o r = world i (Some (left i)) true 0 o (Some (written o)) (writes o) r (Some (reported r)) (reports r)
 
   whole_of : (job : Job) (i i' : S) (o o' : T) (r r' : U) (counts : Unit {0}) → written o ≡ [] → reported r ≡ []
-      → Done (meaning_of job) (world_at i o r) (world_at i' o' r') counts → IsWhole job (left i) (made_of (written o') (reported r'))
+      → IsDone (meaning_of job) (world_at i o r) (world_at i' o' r') counts → IsWhole job (left i) (made_of (written o') (reported r'))
   whole_of job i i' o o' r r' counts none silent done =
       let m = meaning_of job in
       let all : done.taken ≡ read_by job (left i) = all_taken m.reads (left i) (left i') done.taken done.consumes done.end in
@@ -184,7 +184,7 @@ module _ {S T U : Type 0} (left : S → List ℕ) (written : T → List ℕ) (wr
         report = grown _ _ _ silent done.told ∙ ap m.whole.report all;
       }
 
-  ahead_of : (job : Job) (i i' : S) (o o' : T) (r r' : U) (fault : BridgeFault) → Broke (meaning_of job) (world_at i o r) (world_at i' o' r') fault
+  ahead_of : (job : Job) (i i' : S) (o o' : T) (r r' : U) (fault : BridgeFault) → IsBroken (meaning_of job) (world_at i o r) (world_at i' o' r') fault
       → AppendsPrefix (Some (written o)) (Some (written o')) ((meaning_of job).whole.output (read_by job (left i)))
       × AppendsPrefix (Some (reported r)) (Some (reported r')) ((meaning_of job).whole.report (read_by job (left i)))
   ahead_of job i i' o o' r r' fault broke =
@@ -193,7 +193,7 @@ module _ {S T U : Type 0} (left : S → List ℕ) (written : T → List ℕ) (wr
       (meaning_of job).reads (left i) broke.ahead
 
   stops_of : (job : Job) (i i' : S) (o o' : T) (r r' : U) (fault : BridgeFault) → written o ≡ [] → reported r ≡ []
-      → Broke (meaning_of job) (world_at i o r) (world_at i' o' r') fault
+      → IsBroken (meaning_of job) (world_at i o r) (world_at i' o' r') fault
       → StopAtOnePlace (meaning_of job).flushed (Some (read_by job (left i))) (Some []) (Some (written o')) (Some []) (Some (reported r'))
   stops_of job i i' o o' r r' fault none silent broke =
       let m = meaning_of job in
@@ -202,7 +202,7 @@ module _ {S T U : Type 0} (left : S → List ℕ) (written : T → List ℕ) (wr
       (stopped_read m.flushed m.reads (left i) _ _ _ _ broke.stopped))
 
   last_of : (job : Job) (i i' : S) (o o' : T) (r r' : U) (fault : BridgeFault) → written o ≡ [] → reported r ≡ []
-      → Broke (meaning_of job) (world_at i o r) (world_at i' o' r') fault
+      → IsBroken (meaning_of job) (world_at i o r) (world_at i' o' r') fault
       → IsPrefix (reported r') ((meaning_of job).rejections (read_by job (left i))) ⊎ (written o' ≡ (meaning_of job).whole.output (read_by job (left i)))
   last_of job i i' o o' r r' fault none silent broke = by broke.counts_last where
     m : Meaning (Unit {0})
@@ -217,7 +217,7 @@ module _ {S T U : Type 0} (left : S → List ℕ) (written : T → List ℕ) (wr
         inr (grown _ _ _ none all ∙ ap m.whole.output (all_taken m.reads (left i) (left i') broke.taken broke.consumes end))
 
   begun_of : (job : Job) (i i' : S) (o o' : T) (r r' : U) (fault : BridgeFault) → written o ≡ [] → reported r ≡ []
-      → Broke (meaning_of job) (world_at i o r) (world_at i' o' r') fault → IsBegun job (left i) (made_of (written o') (reported r'))
+      → IsBroken (meaning_of job) (world_at i o r) (world_at i' o' r') fault → IsBegun job (left i) (made_of (written o') (reported r'))
   begun_of job i i' o o' r r' fault none silent broke =
       let m = meaning_of job in
       let is : broke.text.prefix ≡ written o' = sym (grown _ _ _ none broke.text.grew) in

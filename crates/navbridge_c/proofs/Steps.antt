@@ -33,15 +33,15 @@ pub use denote.Triple.Entry.{on_entry}
 pub use denote.Triple.Spec.{triple_of}
 pub use denote.Triple.Walked.{Stays, walk_of, says, stay_dropped, Goes-dropped, gave_ref, Goes-gave_ref, gave_slice, Goes-gave_slice, ends_at}
 pub use denote.Triple.Table.{framed}
-pub use Rattle.rtcm_frame.specs.State.{DeframerState}
-pub use Rattle.rtcm_frame.specs.contracts.deframer.Deframer.{the_row as R}
-pub use Rattle.rtcm_frame.proofs.deframer.Deframer.TheLaws.{the_row_laws}
-pub use Rattle.c_states.specs.Pushes.{PushState}
-pub use Rattle.c_states.specs.contracts.push.Conversion.{the_row as P}
-pub use Rattle.c_states.proofs.push.Conversion.TheLaws.{the_row_laws as push_laws}
-pub use Rattle.c_states.specs.PagePairs.{PagesState}
-pub use Rattle.c_states.specs.contracts.pages.PagePairs.{the_row as Q}
-pub use Rattle.c_states.proofs.pages.PagePairs.TheLaws.{the_row_laws as pages_laws}
+pub use Rattle.framing.specs.State.{DeframerState}
+pub use Rattle.framing.specs.contracts.deframer.Deframer.{the_row as R}
+pub use Rattle.framing.proofs.deframer.Deframer.TheLaws.{the_row_laws}
+pub use Rattle.c_calls.specs.Pushes.{PushState}
+pub use Rattle.c_calls.specs.contracts.push.PushedJob.{the_row as P}
+pub use Rattle.c_calls.proofs.push.PushedJob.TheLaws.{the_row_laws as push_laws}
+pub use Rattle.c_calls.specs.PagePairs.{PagesState}
+pub use Rattle.c_calls.specs.contracts.state_pages.PagePairs.{the_row as Q}
+pub use Rattle.c_calls.proofs.state_pages.PagePairs.TheLaws.{the_row_laws as pages_laws}
 pub use Rattle.std.specs.contracts.alloc.Global.{the_row as Heap}
 pub use Rattle.std.proofs.alloc.Global.TheLaws.{the_row_laws as heap_laws}
 use mir.Val.{Val, vstruct, vnil, vcons}

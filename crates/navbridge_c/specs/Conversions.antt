@@ -6,7 +6,7 @@ use Rattle.one_run.specs.Runs.{StopAtOnePlace}
 use Rattle.bridge_engine.specs.Job.{GivesJob, IsJob}
 use Rattle.bridge_engine.specs.Meanings.{meaning_of}
 use Rattle.bridge_engine.specs.declared.job.Job.{Job}
-use Rattle.c_records.specs.Rooms.{StandsIn}
+use Rattle.raw_values.specs.Rooms.{StandsIn}
 
 -- what was written and what was reported
 pub record Made : Type 0 where

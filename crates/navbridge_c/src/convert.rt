@@ -7,9 +7,9 @@ ghost use Rattle.navbridge_c.specs.Mirrors.{HasEndedInMemory, in_memory, in_room
 
 use crate::memory::Lent;
 use bridge_engine::run_job;
-use c_records::put;
-use c_states::{Kept, push};
+use c_calls::{GrowingSink, push};
 use one_run::Status;
+use raw_values::put;
 use std::alloc::Global;
 
 // There was less room for the output than it takes.
@@ -20,10 +20,10 @@ const REPORT_ROOM: u8 = 7;
 
 // A conversion that ended, and what was written and reported.
 #[derive(Drop)]
-pub(crate) struct Run {
+pub(crate) struct MemoryRun {
     pub(crate) status: u8,
-    pub(crate) output: Kept,
-    pub(crate) report: Kept,
+    pub(crate) output: GrowingSink,
+    pub(crate) report: GrowingSink,
 }
 
 // The status of a run whose sinks fail for want of memory alone.
@@ -37,17 +37,17 @@ fn in_memory(status: Status) -> Status
 }
 
 // The conversion that the words ask for.
-fn run_words(alloc: Global, words: &[&[u8]], input: &[u8]) -> Run
+fn run_words(alloc: Global, words: &[&[u8]], input: &[u8]) -> MemoryRun
     ensures { HasEndedInMemory (map (λ word. word.now) words.now) input.now
         (made_of result.output.bytes.items result.report.bytes.items) result.status }
 {
-    let mut output = Kept::new(alloc);
-    let mut report = Kept::new(alloc);
+    let mut output = GrowingSink::new(alloc);
+    let mut report = GrowingSink::new(alloc);
     let job = match push::job_in(alloc, words) {
         Ok(job) => job,
         Err(status) => {
             let status = status.number();
-            return Run {
+            return MemoryRun {
                 status,
                 output,
                 report,
@@ -56,7 +56,7 @@ fn run_words(alloc: Global, words: &[&[u8]], input: &[u8]) -> Run
     };
     let mut source = Lent { left: input };
     let ended = run_job(alloc, &job, &mut source, &mut output, &mut report);
-    Run {
+    MemoryRun {
         status: in_memory(Status::of(&ended)).number(),
         output,
         report,
@@ -64,7 +64,7 @@ fn run_words(alloc: Global, words: &[&[u8]], input: &[u8]) -> Run
 }
 
 // The status of a run where there is so much room for what it made.
-fn status_in_room(run: &Run, room: usize, report_room: usize) -> u8
+fn status_in_room(run: &MemoryRun, room: usize, report_room: usize) -> u8
     ensures { result ≡ in_room run.now.status (length run.now.output.bytes.items)
         (length run.now.report.bytes.items) room report_room }
 {
@@ -89,8 +89,8 @@ pub(crate) fn convert(
     report: &mut [u8],
     report_used: &mut usize,
 ) -> u8
-    ensures { Converts (map (λ word. word.now) words.now) input.now output.old output.new output_used.new
-        report.old report.new report_used.new result }
+    ensures { Converts (map (λ word. word.now) words.now) input.now output.old
+        output.new output_used.new report.old report.new report_used.new result }
 {
     let run = run_words(alloc, words, input);
     *output_used = put(&run.output.bytes, output);

@@ -5,12 +5,12 @@
 
 ghost use Rattle.std.specs.Prelude.{◌≡◌, ◌≤◌, take};
 ghost use Rattle.std.specs.Borrow.{sem};
-ghost use Rattle.rtcm_frame.specs.State.{DeframerState};
-ghost use Rattle.c_states.specs.Deframers.{Feeds, Gives, HasRoom, HoldsDeframer, deframer_size};
-ghost use Rattle.c_states.specs.Deframers.{ended, fed, fresh, left};
+ghost use Rattle.framing.specs.State.{DeframerState};
+ghost use Rattle.c_calls.specs.Deframers.{Feeds, Gives, HasRoom, HoldsDeframer, deframer_size};
+ghost use Rattle.c_calls.specs.Deframers.{ended, fed, fresh, left};
 
-use c_states::deframer;
-use rtcm_frame::Deframer;
+use c_calls::deframer;
+use framing::Deframer;
 
 /// How many bytes a deframer takes, at most 24,576.
 #[unsafe(no_mangle)]

@@ -22,35 +22,37 @@ mod pages;
 mod push;
 
 ghost use Rattle.std.specs.Prelude.{◌≡◌, ◌<◌, ◌≤◌, ◌↔◌, IsTrue, length, map};
-ghost use Rattle.gnss_week.specs.Weeks.{IsReference};
+ghost use Rattle.nav_eph.specs.Weeks.{IsReference};
 ghost use Rattle.nav_bits.specs.Bits.{number_at};
 ghost use Rattle.nav_eph.specs.Satellite.{IsSat};
 ghost use Rattle.nav_eph.specs.declared.sat.System.TheVariants.{Gal, Gps};
 ghost use Rattle.lnav_subframe.specs.Reading.{subframe_of};
 ghost use Rattle.nav_eph.specs.declared.items.NavItem.TheVariants.{Gal as GalItem, Gps as GpsItem};
-ghost use Rattle.rtcm_frame.specs.State.{payload_of};
-ghost use Rattle.rtcm_frame.specs.Writing.{frame_bytes};
+ghost use Rattle.framing.specs.State.{payload_of};
+ghost use Rattle.framing.specs.Writing.{frame_bytes};
 ghost use Rattle.rtcm_eph.specs.Reading.{item_in as item_of_payload};
 ghost use Rattle.rinex_read.specs.Form3.{rinex3};
 ghost use Rattle.rinex_read.specs.Forms.{rinex4};
 ghost use Rattle.rinex_write.specs.declared.words.HeaderWords.{HeaderWords};
-ghost use Rattle.c_records.specs.Items.{IsItemIn, item_in, raw_item};
-ghost use Rattle.c_records.specs.Rooms.{IsLeft, StandsIn};
-ghost use Rattle.c_messages.specs.Joins.{AreOfIssue, AreWords, gal_joined, gps_joined};
-ghost use Rattle.c_messages.specs.Messages.{IsFrame, PutsMessage, WritesMessage};
-ghost use Rattle.c_messages.specs.Subframes.{IsContent, IsSubframeOf, PutsSubframe, content_in};
-ghost use Rattle.c_messages.specs.Pages.{ArePair, BelongTogether, IsAlert, IsPageOf, PutsWord};
-ghost use Rattle.c_messages.specs.Pages.{IsContent as IsWord, content_in as word_in, word_read};
-ghost use Rattle.c_messages.specs.RecordEnds.{EndsHeader, EndsRecord};
-ghost use Rattle.c_messages.specs.RecordReads.{IsVersion, PutsRead, read_in};
-ghost use Rattle.c_messages.specs.RecordWrites.{IsHeader, IsSaidBy, PutsRecord, header_text};
-ghost use Rattle.c_messages.specs.Weeks.{unix_week};
-ghost use Rattle.c_rows.specs.Rows.{GivesColumn, ReadsRow, WritesFrame, WritesRow};
+ghost use Rattle.raw_values.specs.Items.{IsItemIn, item_in, raw_item};
+ghost use Rattle.raw_values.specs.Rooms.{IsLeft, StandsIn};
+ghost use Rattle.c_calls.specs.Joins.{AreOfIssue, AreWords, gal_joined, gps_joined};
+ghost use Rattle.c_calls.specs.Messages.{IsFrame, PutsMessage, WritesMessage};
+ghost use Rattle.c_calls.specs.Subframes.{IsContent, IsSubframeOf, PutsSubframe, content_in};
+ghost use Rattle.c_calls.specs.Pages.{ArePair, BelongTogether, IsAlert, IsPageOf, PutsWord};
+ghost use Rattle.c_calls.specs.Pages.{IsContent as IsWord, content_in as word_in, word_read};
+ghost use Rattle.c_calls.specs.RecordEnds.{EndsHeader, EndsRecord};
+ghost use Rattle.c_calls.specs.RecordReads.{IsVersion, PutsRead, read_in};
+ghost use Rattle.c_calls.specs.RecordWrites.{IsHeader, IsStatedBy, PutsRecord, header_text};
+ghost use Rattle.c_calls.specs.Weeks.{unix_week};
+ghost use Rattle.c_calls.specs.Rows.{GivesColumn, ReadsRow, WritesFrame, WritesRow};
 ghost use Rattle.navbridge_c.specs.Conversions.{Converts};
 
-use c_messages::{HeaderRaw, PageBits, SubframeBits, SubframeRaw, SubframesRaw, WordRaw, WordsRaw};
-use c_records::ItemRaw;
-use c_rows::{ColumnRaw, RowRaw};
+use c_calls::{
+    ColumnRaw, HeaderRaw, PageBits, RowRaw, SubframeBits, SubframeRaw, SubframesRaw, WordRaw,
+    WordsRaw,
+};
+use raw_values::ItemRaw;
 use std::alloc::Global;
 
 /// Does the conversion that the arguments name, as the program `navbridge` does it, from an input
@@ -79,8 +81,8 @@ pub extern "C" fn nb_convert(
     report: &mut [u8],
     report_used: &mut usize,
 ) -> u32
-    ensures converts { Converts (map (λ word. word.now) words.now) input.now output.old output.new output_used.new
-        report.old report.new report_used.new result }
+    ensures converts { Converts (map (λ word. word.now) words.now) input.now output.old
+        output.new output_used.new report.old report.new report_used.new result }
 {
     u32::from(convert::convert(
         alloc,
@@ -99,7 +101,7 @@ pub extern "C" fn nb_convert(
 pub extern "C" fn nb_is_frame(bytes: &[u8]) -> bool
     ensures frame { IsTrue result ↔ IsFrame bytes.now }
 {
-    c_messages::is_frame(bytes)
+    c_calls::is_frame(bytes)
 }
 
 /// Puts the prefix that fits of the frame of a payload of at most 1,023 bytes, and returns its
@@ -110,7 +112,7 @@ pub extern "C" fn nb_frame_make(payload: &[u8], frame: &mut [u8]) -> usize
         StandsIn frame.old frame.new result (frame_bytes payload.now) }
     ensures long { 1023 < length payload.now → IsLeft frame.old frame.new result }
 {
-    c_messages::make_frame(payload, frame)
+    c_calls::make_frame(payload, frame)
 }
 
 /// Puts the ephemeris in a payload of message 1019 or 1046, whose full week is the one near a
@@ -121,7 +123,7 @@ pub extern "C" fn nb_message_read(payload: &[u8], week: u32, item: &mut ItemRaw)
         PutsMessage (item_of_payload week payload.now) item.old item.new result }
     ensures week { (IsReference week → ⊥) → (result ≡ 22) × (item.new ≡ item.old) }
 {
-    c_messages::read_message(payload, week, item)
+    c_calls::read_message(payload, week, item)
 }
 
 /// Puts the ephemeris in message 1019 or 1046 of a complete frame, as `nb_message_read` of its
@@ -134,7 +136,7 @@ pub extern "C" fn nb_frame_read(frame: &[u8], week: u32, item: &mut ItemRaw) -> 
         (result ≡ 22) × (item.new ≡ item.old) }
     ensures frame { (IsFrame frame.now → ⊥) → (result ≡ 26) × (item.new ≡ item.old) }
 {
-    c_messages::read_frame(frame, week, item)
+    c_calls::read_frame(frame, week, item)
 }
 
 /// Puts the prefix that fits of the frame of the message of an ephemeris, and its size into `used`;
@@ -146,7 +148,7 @@ pub extern "C" fn nb_message_write(item: &ItemRaw, frame: &mut [u8], used: &mut 
     ensures none { (IsItemIn (item_in item.now) → ⊥) →
         (result ≡ 23) × IsLeft frame.old frame.new used.new }
 {
-    c_messages::write_message(item, frame, used)
+    c_calls::write_message(item, frame, used)
 }
 
 /// Puts the content of an LNAV subframe received from that GPS satellite; 48 to 62 if there is
@@ -163,7 +165,7 @@ pub extern "C" fn nb_subframe_read(
     ensures satellite { (IsSat Gps satellite → ⊥) →
         (result ≡ 62) × (subframe.new ≡ subframe.old) }
 {
-    c_messages::read_subframe(bits, satellite, subframe)
+    c_calls::read_subframe(bits, satellite, subframe)
 }
 
 /// Puts the bits of the LNAV subframe with this content and TOW count; 63 for a TOW count of
@@ -180,7 +182,7 @@ pub extern "C" fn nb_subframe_write(
         (result ≡ 23) × (bits.new ≡ bits.old) }
     ensures tow_count { 100800 ≤ tow_count → (result ≡ 63) × (bits.new ≡ bits.old) }
 {
-    c_messages::write_subframe(subframe, tow_count, bits)
+    c_calls::write_subframe(subframe, tow_count, bits)
 }
 
 /// Puts the ephemeris of subframes 1, 2 and 3 of a GPS satellite, of one issue, dated near a
@@ -201,7 +203,7 @@ pub extern "C" fn nb_subframes_join(
         (result ≡ 62) × (item.new ≡ item.old) }
     ensures week { (IsReference week → ⊥) → (result ≡ 22) × (item.new ≡ item.old) }
 {
-    c_messages::join_subframes(subframes, satellite, week, item)
+    c_calls::join_subframes(subframes, satellite, week, item)
 }
 
 /// Puts the ephemeris of words 1 to 5 of a Galileo satellite, of one issue, dated near a reference
@@ -222,7 +224,7 @@ pub extern "C" fn nb_words_join(
         (result ≡ 62) × (item.new ≡ item.old) }
     ensures week { (IsReference week → ⊥) → (result ≡ 22) × (item.new ≡ item.old) }
 {
-    c_messages::join_words(words, satellite, week, item)
+    c_calls::join_words(words, satellite, week, item)
 }
 
 /// Puts the content of the word of an I/NAV page received from that Galileo satellite; 62 to 71 if
@@ -241,7 +243,7 @@ pub extern "C" fn nb_page_read(page: &PageBits, satellite: u32, word: &mut WordR
         PutsWord (word_read page.now (record { system = Gal; number = satellite }))
         word.old word.new result }
 {
-    c_messages::read_page(page, satellite, word)
+    c_calls::read_page(page, satellite, word)
 }
 
 /// Puts the I/NAV page of the word with this content, sent by that Galileo satellite; 62 if there
@@ -254,7 +256,7 @@ pub extern "C" fn nb_page_write(word: &WordRaw, satellite: u32, page: &mut PageB
     ensures written { IsSat Gal satellite → IsWord (word_in word.now) →
         (result ≡ 0) × IsPageOf (word_in word.now) satellite page.new }
 {
-    c_messages::write_page(word, satellite, page)
+    c_calls::write_page(word, satellite, page)
 }
 
 /// Puts the item that the text of one record of a navigation file gives, of version 4 with its
@@ -265,7 +267,7 @@ pub extern "C" fn nb_record_read(text: &[u8], version: u32, item: &mut ItemRaw) 
         PutsRead (read_in version text.now) item.old item.new result }
     ensures version { (IsVersion version → ⊥) → (result ≡ 24) × (item.new ≡ item.old) }
 {
-    c_messages::read_record(text, version, item)
+    c_calls::read_record(text, version, item)
 }
 
 /// Puts the prefix that fits of the record of an item in a navigation file of version 4, with its
@@ -285,7 +287,7 @@ pub extern "C" fn nb_record_write(
     ensures version { (IsVersion version → ⊥) →
         (result ≡ 24) × IsLeft text.old text.new used.new }
 {
-    c_messages::write_record(item, version, text, used)
+    c_calls::write_record(item, version, text, used)
 }
 
 /// How many bytes the first record of the bytes of a file has: the lines up to the next that begins
@@ -296,7 +298,7 @@ pub extern "C" fn nb_record_size(text: &[u8], version: u32, is_end: bool) -> usi
     ensures version3 { version ≡ 3 → EndsRecord rinex3 text.now is_end result }
     ensures none { (IsVersion version → ⊥) → result ≡ 0 }
 {
-    c_messages::record_size(text, version, is_end)
+    c_calls::record_size(text, version, is_end)
 }
 
 /// How many bytes the header at the start of these has, with the line that ends it; 0 if none of
@@ -305,7 +307,7 @@ pub extern "C" fn nb_record_size(text: &[u8], version: u32, is_end: bool) -> usi
 pub extern "C" fn nb_header_size(text: &[u8]) -> usize
     ensures header { EndsHeader text.now result }
 {
-    c_messages::header_size(text)
+    c_calls::header_size(text)
 }
 
 /// Puts the prefix that fits of the header of a navigation file of version 4 or 3, and its length
@@ -320,14 +322,14 @@ pub extern "C" fn nb_header_write(
 ) -> u32
     ensures status { IsVersion version → IsHeader header.now → result ≡ 0 }
     ensures written { IsVersion version → (words : HeaderWords) → IsHeader header.now
-        → IsSaidBy header.now words
+        → IsStatedBy header.now words
         → StandsIn text.old text.new used.new (header_text version words) }
     ensures none { IsVersion version → (IsHeader header.now → ⊥) →
         (result ≡ 27) × IsLeft text.old text.new used.new }
     ensures version { (IsVersion version → ⊥) →
         (result ≡ 24) × IsLeft text.old text.new used.new }
 {
-    c_messages::write_header(header, version, text, used)
+    c_calls::write_header(header, version, text, used)
 }
 
 /// The week, counted from 1980-01-06, of a time in seconds from 1970-01-01; 0 in no week from 1 to
@@ -336,7 +338,7 @@ pub extern "C" fn nb_header_write(
 pub extern "C" fn nb_week_of_unix(seconds: u64) -> u32
     ensures week { result ≡ unix_week seconds }
 {
-    c_messages::week_of_unix(seconds)
+    c_calls::week_of_unix(seconds)
 }
 
 /// Puts the row of a payload of an ephemeris message of any system, near a reference week; 16 to
@@ -349,7 +351,7 @@ pub extern "C" fn nb_row_from_message(payload: &[u8], week: u32, row: &mut RowRa
         (result ≡ 16) × (row.new ≡ row.old) }
     ensures week { (IsReference week → ⊥) → (result ≡ 22) × (row.new ≡ row.old) }
 {
-    c_rows::read_row(payload, week, row)
+    c_calls::read_row(payload, week, row)
 }
 
 /// Puts the prefix that fits of the frame of the message of a row, and its size into `used`; 23 if
@@ -358,7 +360,7 @@ pub extern "C" fn nb_row_from_message(payload: &[u8], week: u32, row: &mut RowRa
 pub extern "C" fn nb_row_message(row: &RowRaw, frame: &mut [u8], used: &mut usize) -> u32
     ensures message { WritesFrame row.now frame.old frame.new used.new result }
 {
-    c_rows::write_message(row, frame, used)
+    c_calls::write_row_message(row, frame, used)
 }
 
 /// Puts the prefix that fits of the record of a row (RINEX 4.01), and its length into `used`; 23 if
@@ -367,7 +369,7 @@ pub extern "C" fn nb_row_message(row: &RowRaw, frame: &mut [u8], used: &mut usiz
 pub extern "C" fn nb_row_rinex(row: &RowRaw, text: &mut [u8], used: &mut usize) -> u32
     ensures row { WritesRow row.now text.old text.new used.new result }
 {
-    c_rows::write_row(row, text, used)
+    c_calls::write_row(row, text, used)
 }
 
 /// Puts the unit of the column with that index of a row; 23 if there is none.
@@ -375,7 +377,7 @@ pub extern "C" fn nb_row_rinex(row: &RowRaw, text: &mut [u8], used: &mut usize) 
 pub extern "C" fn nb_row_column(row: &RowRaw, index: u32, column: &mut ColumnRaw) -> u32
     ensures column { GivesColumn row.now.message index column.old column.new result }
 {
-    c_rows::row_column(row, index, column)
+    c_calls::row_column(row, index, column)
 }
 
 /// The version of the library: that of the header that fits it.

@@ -3,10 +3,10 @@
 
 ghost use Rattle.std.specs.Prelude.{◌≡◌, ◌≤◌};
 ghost use Rattle.std.specs.Borrow.{sem};
-ghost use Rattle.c_states.specs.PagePairs.{GivesPage, IsEmpty, PagesState, TakesBits};
-ghost use Rattle.c_states.specs.Places.{HasPagesRoom, HoldsPages, HoldsPagesThat, pages_size};
+ghost use Rattle.c_calls.specs.PagePairs.{GivesPage, IsEmpty, PagesState, TakesBits};
+ghost use Rattle.c_calls.specs.Places.{HasPagesRoom, HoldsPages, HoldsPagesThat, pages_size};
 
-use c_states::{JoinedPage, PagePairs, PartBits, pages};
+use c_calls::{JoinedPage, PagePairs, PartBits, state_pages as pages};
 use std::alloc::Global;
 
 /// How many bytes they take, at most 1,024.

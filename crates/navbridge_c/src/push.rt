@@ -5,11 +5,11 @@
 
 ghost use Rattle.std.specs.Prelude.{◌≡◌, ◌≤◌, map};
 ghost use Rattle.std.specs.Borrow.{sem};
-ghost use Rattle.c_states.specs.Places.{HasPushRoom, HoldsPush, HoldsPushThat, push_size};
-ghost use Rattle.c_states.specs.Pushes.{Finishes, Opens, PushState, Pushes, Takes};
-ghost use Rattle.c_states.specs.Pushes.{closed, taken_more, told_more};
+ghost use Rattle.c_calls.specs.Places.{HasPushRoom, HoldsPush, HoldsPushThat, push_size};
+ghost use Rattle.c_calls.specs.Pushes.{Finishes, Opens, PushState, Pushes, Takes};
+ghost use Rattle.c_calls.specs.Pushes.{closed, taken_more, reported_more};
 
-use c_states::{Conversion, push};
+use c_calls::{PushedJob, push};
 use std::alloc::Global;
 
 /// How many bytes a conversion takes, at most 65,536.
@@ -18,7 +18,7 @@ pub extern "C" fn nb_push_size() -> usize
     ensures size { result ≡ push_size }
     ensures most { result ≤ 65536 }
 {
-    std::mem::size_of::<Conversion>()
+    std::mem::size_of::<PushedJob>()
 }
 
 /// Makes a conversion of this memory, whatever it held, and opens the conversion that the arguments
@@ -30,7 +30,7 @@ pub unsafe extern "C" fn nb_push_open(at: *mut u8, alloc: Global, words: &[&[u8]
     ensures* { sem 𝓛 (HoldsPushThat at
         (λ new. Opens (map (λ word. word.now) words.now) new result)) }
 {
-    let place = at as *mut Conversion;
+    let place = at as *mut PushedJob;
     std::ptr::write(place, push::new(alloc));
     push::open(&mut *place, words)
 }
@@ -44,7 +44,7 @@ pub unsafe extern "C" fn nb_push(at: *mut u8, bytes: &[u8]) -> u32
     requires* { sem 𝓛 (HoldsPush at old) }
     ensures* { sem 𝓛 (HoldsPushThat at (λ new. Pushes old bytes.now new result)) }
 {
-    let place = at as *mut Conversion;
+    let place = at as *mut PushedJob;
     push::push(&mut *place, bytes)
 }
 
@@ -55,7 +55,7 @@ pub unsafe extern "C" fn nb_push_finish(at: *mut u8) -> u32
     requires* { sem 𝓛 (HoldsPush at old) }
     ensures* { sem 𝓛 (HoldsPushThat at (λ new. Finishes old new result)) }
 {
-    let place = at as *mut Conversion;
+    let place = at as *mut PushedJob;
     push::finish(&mut *place)
 }
 
@@ -68,7 +68,7 @@ pub unsafe extern "C" fn nb_push_take(at: *mut u8, room: &mut [u8]) -> usize
     ensures* holds { sem 𝓛 (HoldsPush at (taken_more old result)) }
     ensures takes { Takes old.output old.taken room.old room.new result }
 {
-    let place = at as *mut Conversion;
+    let place = at as *mut PushedJob;
     push::take(&mut *place, room)
 }
 
@@ -77,10 +77,10 @@ pub unsafe extern "C" fn nb_push_take(at: *mut u8, room: &mut [u8]) -> usize
 pub unsafe extern "C" fn nb_push_take_report(at: *mut u8, room: &mut [u8]) -> usize
     ghost old: { PushState }
     requires* { sem 𝓛 (HoldsPush at old) }
-    ensures* holds { sem 𝓛 (HoldsPush at (told_more old result)) }
+    ensures* holds { sem 𝓛 (HoldsPush at (reported_more old result)) }
     ensures takes { Takes old.report old.told room.old room.new result }
 {
-    let place = at as *mut Conversion;
+    let place = at as *mut PushedJob;
     push::take_report(&mut *place, room)
 }
 
@@ -91,6 +91,6 @@ pub unsafe extern "C" fn nb_push_close(at: *mut u8)
     requires* { sem 𝓛 (HoldsPush at old) }
     ensures* { sem 𝓛 (HoldsPush at closed) }
 {
-    let place = at as *mut Conversion;
+    let place = at as *mut PushedJob;
     push::close(&mut *place);
 }

@@ -10,8 +10,8 @@ use crate::rejections::Rejections;
 use crate::reports::{is_headed, report_of};
 use crate::staged::{Before, staged_of};
 use crate::taken::Known;
-use crate::telling::{tell_file, tell_program};
 use crate::values::{Wanted, wanted_of};
+use crate::wording::{print_file, print_program};
 use crate::words::is_broken;
 use file_conversion::Refusal;
 use std::cell::Cell;
@@ -31,11 +31,11 @@ pub(crate) fn do_asked(rt: &HostRuntime, asked: &Asked) -> u8 {
         return diff_asked(rt, asked);
     }
     if let Some(refusal) = refused(rt, asked) {
-        return tell_program(rt, &refusal);
+        return print_program(rt, &refusal);
     }
     match wanted_of(rt, asked) {
         Ok(wanted) => do_wanted(rt, asked, wanted),
-        Err(refusal) => tell_program(rt, &refusal),
+        Err(refusal) => print_program(rt, &refusal),
     }
 }
 
@@ -53,7 +53,7 @@ fn do_wanted(rt: &HostRuntime, asked: &Asked, wanted: Wanted) -> u8 {
             let letter = Cell::new(0);
             convert_asked(rt, asked, wanted, report.as_ref(), &rejections, &letter)
         }
-        Err(refusal) => tell_program(rt, &refusal),
+        Err(refusal) => print_program(rt, &refusal),
     }
 }
 
@@ -105,7 +105,8 @@ fn convert_asked<'x, 'a>(
     }
 }
 
-// Converts each file, or makes one output of several, those of RINEX 3 converted before; the status.
+// Converts each file, or makes one output of several, those of RINEX 3 converted before; the
+// status.
 fn convert_staged<'a>(settings: &Settings<'a>, files: &'a [&'a str]) -> u8 {
     match staged_of(settings, files) {
         Err(status) => status,
@@ -135,7 +136,7 @@ fn merging(wanted: Wanted) -> Wanted {
 // Converts each file, or makes one output of several; the status of the first that failed.
 fn convert_files<'a>(settings: &Settings<'a>, files: &'a [&'a str]) -> u8 {
     let Ok(mut known) = Known::new(settings.rt, files) else {
-        return tell_program(settings.rt, &Refusal::NoMemory);
+        return print_program(settings.rt, &Refusal::NoMemory);
     };
     if are_joined(settings.wanted.target, files) {
         return convert_joined(settings, files, &mut known);
@@ -146,7 +147,7 @@ fn convert_files<'a>(settings: &Settings<'a>, files: &'a [&'a str]) -> u8 {
         let ended = if files.len() == 1 || is_headed(settings, file) {
             convert_file(settings, file, &mut known)
         } else {
-            tell_file(settings, file, &Refusal::ReportFault)
+            print_file(settings, file, &Refusal::ReportFault)
         };
         if status == 0 {
             status = ended;

@@ -1,6 +1,6 @@
 //! The week and the date of the clock.
 
-use gnss_week::{Civil, Moment, RefWeek, civil};
+use nav_eph::{Civil, Moment, RefWeek, civil};
 use std::alloc::{AllocError, Global};
 use std::rt::Clock;
 

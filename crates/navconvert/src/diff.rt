@@ -6,11 +6,11 @@ use crate::command::Asked;
 use crate::inputs::{Input, Inputs, opened};
 use crate::words::is_broken;
 use file_conversion::{Refusal, STANDARD_OUTPUT, Shown};
-use file_diff::{FileItems, ReadCounts, read_items, write_differences};
+use nav_files::{FileItems, ReadCounts, read_items, write_differences};
 use nav_io::{Failed, WriteSink};
 use one_run::BridgeFault;
+use rinex_lines::Rinex2Source;
 use rinex_read::{Rinex3, Rinex4};
-use rinex2_lines::Rinex2Source;
 use std::io::ErrorKind;
 use std::slice::from_ref;
 use whole_file::{FileFault, Kind, PeekFault, Peeked, fault_of, look};
@@ -67,23 +67,23 @@ fn diff<'a>(
     let mut output = WriteSink::new(rt.stdout());
     match write_differences(&firsts, &seconds, &mut output) {
         Ok(same) => Ok(same),
-        Err(Failed) => Err(tell_output(rt, output.fault())),
+        Err(Failed) => Err(print_output(rt, output.fault())),
     }
 }
 
 // Says why the differences were not written; the status. Where their reader has gone nothing is
 // said.
-fn tell_output(rt: &HostRuntime, fault: Option<ErrorKind>) -> u8 {
+fn print_output(rt: &HostRuntime, fault: Option<ErrorKind>) -> u8 {
     let fault = fault_of(fault.unwrap_or(ErrorKind::Other));
     let refusal = Refusal::WriteFault(STANDARD_OUTPUT, fault);
     match fault {
         FileFault::ReaderGone => refusal.status(),
-        _ => tell_file(rt, STANDARD_OUTPUT, &refusal),
+        _ => print_file(rt, STANDARD_OUTPUT, &refusal),
     }
 }
 
 // Says why a file is not compared; the status.
-fn tell_file(rt: &HostRuntime, file: &str, refusal: &Refusal) -> u8 {
+fn print_file(rt: &HostRuntime, file: &str, refusal: &Refusal) -> u8 {
     let shown = Shown(file);
     let _ = eprintln!(rt; "navconvert: {shown}: {refusal}");
     refusal.status()
@@ -93,7 +93,7 @@ fn tell_file(rt: &HostRuntime, file: &str, refusal: &Refusal) -> u8 {
 fn told<T: Drop>(rt: &HostRuntime, name: &str, got: Result<T, Refusal>) -> Result<T, u8> {
     match got {
         Ok(value) => Ok(value),
-        Err(refusal) => Err(tell_file(rt, name, &refusal)),
+        Err(refusal) => Err(print_file(rt, name, &refusal)),
     }
 }
 
@@ -138,11 +138,11 @@ fn read(rt: &HostRuntime, all: bool, quiet: bool, file: Compared) -> Result<File
     match got {
         Ok(counts) => {
             if !quiet {
-                tell_counts(rt, all, name, &counts);
+                print_counts(rt, all, name, &counts);
             }
             Ok(items)
         }
-        Err(fault) => Err(tell_file(rt, name, &refusal_of(kind, fault, input))),
+        Err(fault) => Err(print_file(rt, name, &refusal_of(kind, fault, input))),
     }
 }
 
@@ -178,11 +178,11 @@ fn refusal_of(kind: Kind, fault: BridgeFault, input: Peeked<Input>) -> Refusal<'
 }
 
 // Says which records of a file are not compared.
-fn tell_counts(rt: &HostRuntime, all: bool, name: &str, counts: &ReadCounts) {
-    tell_count(rt, name, "rejected", counts.refused);
-    tell_count(rt, name, "skipped, of other kinds", counts.passed);
+fn print_counts(rt: &HostRuntime, all: bool, name: &str, counts: &ReadCounts) {
+    print_count(rt, name, "rejected", counts.refused);
+    print_count(rt, name, "skipped, of other kinds", counts.passed);
     if !all {
-        tell_count(
+        print_count(
             rt,
             name,
             "skipped, of the ionosphere, which RINEX 3 does not have",
@@ -192,7 +192,7 @@ fn tell_counts(rt: &HostRuntime, all: bool, name: &str, counts: &ReadCounts) {
 }
 
 // Says how many records are not compared, if there are some.
-fn tell_count(rt: &HostRuntime, name: &str, what: &str, count: u64) {
+fn print_count(rt: &HostRuntime, name: &str, what: &str, count: u64) {
     if count > 0 {
         let shown = Shown(name);
         let _ = eprintln!(rt; "navconvert: {shown}: {count} records {what}");

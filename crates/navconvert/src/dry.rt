@@ -5,11 +5,11 @@ use crate::files::Settings;
 use crate::forms::{format_word, input_kind};
 use crate::inputs::{Inputs, opened};
 use crate::staged::older_kind;
-use crate::telling::tell_file;
 use crate::values::Wanted;
+use crate::wording::print_file;
 use bridge_engine::Job;
 use file_conversion::{Refusal, Target, Task, task_for, to_word};
-use gnss_week::RefWeek;
+use nav_eph::RefWeek;
 use std::str::from_utf8;
 use whole_file::Kind;
 
@@ -29,7 +29,7 @@ pub(crate) fn show_files(
     }
     match input_kind(settings, settings.wanted.form, opened(settings.rt, inputs)) {
         Ok(kind) => show_kind(settings, first, files, name, kind),
-        Err(refusal) => tell_file(settings, first, &refusal),
+        Err(refusal) => print_file(settings, first, &refusal),
     }
 }
 
@@ -52,7 +52,7 @@ fn show_kind(
     kind: Kind,
 ) -> u8 {
     let Some(task) = task_for(&settings.wanted.plan(), kind) else {
-        return tell_file(settings, first, &Refusal::NoSuchConversion(kind));
+        return print_file(settings, first, &Refusal::NoSuchConversion(kind));
     };
     let mut line = Line::new(settings.rt);
     match reader_of(kind, files.len()) {

@@ -13,8 +13,8 @@ use crate::rejections::Rejections;
 use crate::staged::Before;
 use crate::steps::{Goes, made_by};
 use crate::taken::{Known, is_closed, is_read_once, is_same_file, taken};
-use crate::telling::tell_file;
 use crate::values::Wanted;
+use crate::wording::print_file;
 use crate::words::is_broken;
 use file_conversion::{Refusal, STANDARD_OUTPUT, Target, ending_of, is_converted};
 use std::fs::File;
@@ -62,7 +62,7 @@ pub(crate) fn convert_file<'a>(
     known: &mut Known,
 ) -> u8 {
     if let Some(refusal) = unread(settings, file) {
-        return tell_file(settings, file, &refusal);
+        return print_file(settings, file, &refusal);
     }
     let inputs = Inputs {
         names: from_ref(file),
@@ -119,15 +119,15 @@ pub(crate) fn convert_joined<'a>(
 // The status, where a file is of no form that can be joined: by its bytes, whatever form is named.
 fn refused_form<'a>(settings: &Settings<'a>, file: &'a str) -> Option<u8> {
     if file == "-" || is_read_once(settings.rt, file) {
-        return Some(tell_file(settings, file, &Refusal::AmongFiles));
+        return Some(print_file(settings, file, &Refusal::AmongFiles));
     }
     if let Some(refusal) = unread(settings, file) {
-        return Some(tell_file(settings, file, &refusal));
+        return Some(print_file(settings, file, &refusal));
     }
     match file_kind(settings, None, file) {
-        Err(refusal) => Some(tell_file(settings, file, &refusal)),
+        Err(refusal) => Some(print_file(settings, file, &refusal)),
         Ok(kind) if is_converted(kind, settings.wanted.target) => None,
-        Ok(kind) => Some(tell_file(settings, file, &Refusal::NoSuchConversion(kind))),
+        Ok(kind) => Some(print_file(settings, file, &Refusal::NoSuchConversion(kind))),
     }
 }
 
@@ -173,7 +173,7 @@ fn convert_headed<'a>(
         Output::Beside if first == "-" => convert_unnamed(settings, first, inputs),
         _ => match named(settings, first) {
             Ok(name) => put_free(settings, first, inputs, name.as_str(), known),
-            Err(refusal) => tell_file(settings, first, &refusal),
+            Err(refusal) => print_file(settings, first, &refusal),
         },
     }
 }
@@ -215,17 +215,17 @@ fn put_free<'a>(
     known: &mut Known,
 ) -> u8 {
     if is_report(settings, name) {
-        return tell_file(settings, first, &Refusal::SameReport(name));
+        return print_file(settings, first, &Refusal::SameReport(name));
     }
     if let Some(refusal) = taken(settings.rt, name, known, settings.overwrites) {
-        return tell_taken(settings, first, &refusal);
+        return print_taken(settings, first, &refusal);
     }
     if settings.dry {
         return show_files(settings, first, inputs, Some(name));
     }
     let (status, made) = put_known(settings, first, inputs, Goal::File, name);
     if made.is_some() && known.add(settings.rt, name).is_err() {
-        return tell_file(settings, first, &Refusal::NoMemory);
+        return print_file(settings, first, &Refusal::NoMemory);
     }
     status
 }
@@ -240,11 +240,11 @@ fn put_known<'a>(
 ) -> (u8, Option<String>) {
     let alloc = settings.rt.alloc();
     let (Ok(own), Ok(part)) = (owned(alloc, name), part_name(alloc, name)) else {
-        return (tell_file(settings, first, &Refusal::NoMemory), None);
+        return (print_file(settings, first, &Refusal::NoMemory), None);
     };
     if part.as_str() == name {
         let refusal = Refusal::WriteFault(name, FileFault::NameTooLong);
-        return (tell_file(settings, first, &refusal), None);
+        return (print_file(settings, first, &refusal), None);
     }
     let shown = match goal {
         Goal::Standard | Goal::Nowhere => Some(first),
@@ -260,10 +260,10 @@ fn put_known<'a>(
 }
 
 // Says why an output may not have its name; or that the file has no conversion, where that is so.
-fn tell_taken(settings: &Settings, file: &str, refusal: &Refusal) -> u8 {
+fn print_taken(settings: &Settings, file: &str, refusal: &Refusal) -> u8 {
     match unconverted(settings, file) {
-        None => tell_file(settings, file, refusal),
-        Some(kind) => tell_file(settings, file, &Refusal::NoSuchConversion(kind)),
+        None => print_file(settings, file, refusal),
+        Some(kind) => print_file(settings, file, &Refusal::NoSuchConversion(kind)),
     }
 }
 

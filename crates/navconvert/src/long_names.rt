@@ -11,7 +11,7 @@ use crate::parts::part_name;
 use crate::place::Goal;
 use crate::steps::{Goes, made_by};
 use crate::taken::{Known, is_read_once, taken};
-use crate::telling::tell_file;
+use crate::wording::print_file;
 use bridge_engine::Times;
 use file_conversion::{Done, Refusal, Target, long_name};
 use nav_io::Failed;
@@ -30,7 +30,7 @@ pub(crate) fn convert_named<'a>(
 ) -> u8 {
     let (status, name) = match part_for(settings, first, site) {
         Ok(part) => made(settings, first, inputs, site, known, part.as_str()),
-        Err(refusal) => return tell_file(settings, first, &refusal),
+        Err(refusal) => return print_file(settings, first, &refusal),
     };
     let Some(name) = name else {
         return status;
@@ -39,7 +39,7 @@ pub(crate) fn convert_named<'a>(
         return show_files(settings, first, inputs, Some(name.as_str()));
     }
     if known.add(settings.rt, name.as_str()).is_err() {
-        return tell_file(settings, first, &Refusal::NoMemory);
+        return print_file(settings, first, &Refusal::NoMemory);
     }
     status
 }
@@ -146,7 +146,7 @@ impl<'x, 'a> LongName<'x, 'a> {
                 None => Ok(name),
                 Some(status) => Err(status),
             },
-            Err(refusal) => Err(tell_file(self.settings, self.first, &refusal)),
+            Err(refusal) => Err(print_file(self.settings, self.first, &refusal)),
         }
     }
 
@@ -171,11 +171,11 @@ impl<'x, 'a> LongName<'x, 'a> {
     // The status, where the output may not have this name, which was said.
     fn refused(&self, name: &str) -> Option<u8> {
         if is_report(self.settings, name) {
-            return Some(tell_file(self.settings, self.first, &Refusal::SameReport(name)));
+            return Some(print_file(self.settings, self.first, &Refusal::SameReport(name)));
         }
         match taken(self.settings.rt, name, self.known, self.settings.overwrites) {
             None => None,
-            Some(refusal) => Some(tell_file(self.settings, self.first, &refusal)),
+            Some(refusal) => Some(print_file(self.settings, self.first, &refusal)),
         }
     }
 }

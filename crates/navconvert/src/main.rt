@@ -35,14 +35,14 @@ mod summary;
 mod systems;
 mod taken;
 mod tally;
-mod telling;
 mod values;
 mod watch;
+mod wording;
 mod words;
 
 use crate::choices::do_asked;
 use crate::command::read_words;
-use crate::telling::tell_program;
+use crate::wording::print_program;
 use crate::words::words_of;
 use file_conversion::{Refusal, Shown};
 use std::alloc::AllocError;
@@ -54,7 +54,7 @@ fn main(rt: HostRuntime) -> ExitCode {
     let _held = held_places(&rt);
     let status = match words_of(&rt) {
         Ok(words) => run(&rt, words.get(1..).unwrap_or(&[])),
-        Err(AllocError) => tell_program(&rt, &Refusal::NoMemory),
+        Err(AllocError) => print_program(&rt, &Refusal::NoMemory),
     };
     ExitCode::from(status)
 }
@@ -69,12 +69,12 @@ fn held_places(rt: &HostRuntime) -> [io::Result<File>; 3] {
 fn run(rt: &HostRuntime, words: &[String]) -> u8 {
     match read_words(rt.alloc(), words) {
         Ok(asked) => do_asked(rt, &asked),
-        Err(error) => tell_words(rt, &error),
+        Err(error) => print_words(rt, &error),
     }
 }
 
 // Prints what is said of words that are no command line, or that ask for help or the version.
-fn tell_words(rt: &HostRuntime, error: &clap::Error) -> u8 {
+fn print_words(rt: &HostRuntime, error: &clap::Error) -> u8 {
     let printed = match error.use_stderr() {
         true => match shown_lines(rt, error) {
             Ok(text) => eprint!(rt; "{text}"),

@@ -84,8 +84,8 @@ impl Messages {
     }
 }
 
-// The messages of one format. One counts where another one, or the end, stands behind it; of UBX one
-// whose checksum is right.
+// The messages of one format. One counts where another one, or the end, stands behind it; of UBX
+// one whose checksum is right.
 #[derive(Drop)]
 struct Walk {
     format: Format,
@@ -273,8 +273,8 @@ fn two(high: u8, low: u8) -> u16 {
 }
 
 // What a header says: of a frame of RTCM 3 six bits of 0, ten of the length, and twelve of the
-// number; of a UBX message, which has at most 8,192 bytes, with the first bytes of its payload, where
-// it is RXM-SFRBX (02 13); of an SBF block its CRC, its number in 13 bits, and its length.
+// number; of a UBX message, which has at most 8,192 bytes, with the first bytes of its payload,
+// where it is RXM-SFRBX (02 13); of an SBF block its CRC, its number in 13 bits, and its length.
 fn header_of(format: Format, header: &[u8]) -> Header {
     match (format, header) {
         (Format::Rtcm, [_, high, ..]) if *high > 3 => Header::Wrong,

@@ -3,8 +3,7 @@
 
 use crate::tally::Reported;
 use nav_io::Failed;
-use receiver_log::{Refused, refusal};
-use receiver_messages::Reason;
+use receiver_log::{LogReason, Refused, refusal};
 
 /// Who writes the messages of a log that are rejected to the report.
 #[derive(Drop)]
@@ -27,7 +26,7 @@ impl Refused for Notes<'_> {
     ghost faults = { λ _. 0 };
 
     // Where a line cannot be written, the report of the job or the counts will fail.
-    fn refused(&mut self, number: u64, reason: Reason) -> Result<(), Failed> {
+    fn refused(&mut self, number: u64, reason: LogReason) -> Result<(), Failed> {
         let _ = self.to.is_put(refusal(number, reason).as_slice());
         Ok(())
     }

@@ -64,14 +64,14 @@ impl Sink for Outlet {
 
 /// What is made, while it is written.
 #[derive(Drop)]
-pub(crate) struct Draft<'a> {
+pub(crate) struct HostDraft<'a> {
     outlet: Outlet,
     made: Made,
     // its systems, where its name has them
     letters: Option<Letters<'a>>,
 }
 
-impl Sink for Draft<'_> {
+impl Sink for HostDraft<'_> {
     ghost use Rattle.std.specs.Prelude.{None};
 
     ghost written = { λ _. None };
@@ -101,7 +101,7 @@ pub(crate) struct Seen {
 
 /// The files of the system, of which some are read as one, and where their output goes.
 #[derive(Drop)]
-pub(crate) struct Place<'a> {
+pub(crate) struct HostPlace<'a> {
     folder: HostFolder<'a, HostRuntime>,
     rt: &'a HostRuntime,
     named: Option<Kind>,
@@ -115,11 +115,11 @@ pub(crate) struct Place<'a> {
     pub bytes: Option<Vec<u8>>,
 }
 
-impl<'a> Place<'a> {
+impl<'a> HostPlace<'a> {
     /// For these files, and what goes there.
-    pub(crate) fn new(settings: &Settings<'a>, inputs: Inputs<'a>, goal: Goal) -> Place<'a> {
+    pub(crate) fn new(settings: &Settings<'a>, inputs: Inputs<'a>, goal: Goal) -> HostPlace<'a> {
         let rt = settings.rt;
-        Place {
+        HostPlace {
             folder: HostFolder::with(rt.alloc(), rt, settings.overwrites),
             rt,
             named: settings.wanted.form,
@@ -191,12 +191,12 @@ fn gathered(rt: &HostRuntime, part: &str) -> Result<Gathered<File>, FileFault>
     }
 }
 
-impl<'a> Folder for Place<'a> {
+impl<'a> Folder for HostPlace<'a> {
     ghost use Rattle.std.specs.Prelude.{None};
 
     type Input = Watched<'a>;
 
-    type Draft = Draft<'a>;
+    type Draft = HostDraft<'a>;
 
     ghost files = { λ _. None };
 
@@ -218,9 +218,9 @@ impl<'a> Folder for Place<'a> {
     }
 
     /// Begins what is made.
-    fn draft(&mut self, part: &str) -> Result<Draft<'a>, FileFault> {
+    fn draft(&mut self, part: &str) -> Result<HostDraft<'a>, FileFault> {
         match self.outlet(part) {
-            Ok(outlet) => Ok(Draft {
+            Ok(outlet) => Ok(HostDraft {
                 outlet,
                 made: Made::new(),
                 letters: self.letters(),
@@ -230,7 +230,7 @@ impl<'a> Folder for Place<'a> {
     }
 
     /// Gives the file its name, or keeps the bytes.
-    fn publish(&mut self, draft: Draft<'a>, part: &str, name: &str) -> Result<(), FileFault> {
+    fn publish(&mut self, draft: HostDraft<'a>, part: &str, name: &str) -> Result<(), FileFault> {
         self.made = draft.made;
         match draft.outlet {
             Outlet::File(file) => self.folder.publish(file, part, name),
@@ -245,7 +245,7 @@ impl<'a> Folder for Place<'a> {
     }
 
     /// Removes the part, if there is one.
-    fn discard(&mut self, draft: Draft<'a>, part: &str) -> Result<(), FileFault> {
+    fn discard(&mut self, draft: HostDraft<'a>, part: &str) -> Result<(), FileFault> {
         match draft.outlet {
             Outlet::File(file) => self.folder.discard(file, part),
             Outlet::Standard(output) => self.folder.told(output.fault()),

@@ -6,14 +6,14 @@ use crate::forms::file_kind;
 use crate::inputs::{Inputs, Staged};
 use crate::meter::Meter;
 use crate::parts::part_name;
-use crate::place::{Goal, Place, Seen};
+use crate::place::{Goal, HostPlace, Seen};
 use crate::reports::is_headed;
 use crate::steps::converted;
 use crate::summary::counted;
 use crate::systems::Skips;
 use crate::taken::is_read_once;
-use crate::telling::tell_file;
 use crate::values::Wanted;
+use crate::wording::print_file;
 use file_conversion::{Done, Outcome, Refusal, Target, refusal_of};
 use std::slice::from_ref;
 use whole_file::{Given, Kind};
@@ -52,8 +52,8 @@ impl Before {
     }
 }
 
-/// The bytes that replace those of the files which are of RINEX 3 or 2, if they are merged, and what was
-/// rejected and skipped of them; the status, if one was not converted.
+/// The bytes that replace those of the files which are of RINEX 3 or 2, if they are merged, and
+/// what was rejected and skipped of them; the status, if one was not converted.
 pub(crate) fn staged_of<'a>(
     settings: &Settings<'a>,
     files: &'a [&'a str],
@@ -70,7 +70,7 @@ pub(crate) fn staged_of<'a>(
             None => None,
         };
         if all.push(staged).is_err() {
-            return Err(tell_file(settings, file, &Refusal::NoMemory));
+            return Err(print_file(settings, file, &Refusal::NoMemory));
         }
     }
     Ok((all, before))
@@ -105,7 +105,7 @@ fn converted_bytes<'a>(
     before: &mut Before,
 ) -> Result<Vec<u8>, u8> {
     if !is_headed(settings, file) {
-        return Err(tell_file(settings, file, &Refusal::ReportFault));
+        return Err(print_file(settings, file, &Refusal::ReportFault));
     }
     let alloc = settings.rt.alloc();
     match (String::from_str(alloc, file), part_name(alloc, file)) {
@@ -116,7 +116,7 @@ fn converted_bytes<'a>(
             };
             convert_by(&first, file, Given::new(name), part.as_str(), before)
         }
-        _ => Err(tell_file(settings, file, &Refusal::NoMemory)),
+        _ => Err(print_file(settings, file, &Refusal::NoMemory)),
     }
 }
 
@@ -132,7 +132,7 @@ fn convert_by<'a>(
         names: from_ref(file),
         staged: &[],
     };
-    let mut place = Place::new(first, inputs, Goal::Memory);
+    let mut place = HostPlace::new(first, inputs, Goal::Memory);
     let mut name = name;
     let meter = Meter::off(first.rt);
     let outcome = converted(first, &mut place, meter, file, part, &mut name);
@@ -146,14 +146,14 @@ fn convert_by<'a>(
     match done {
         Err(stop) => {
             let refusal = place.other().unwrap_or(refusal_of(stop, file, file));
-            Err(tell_file(first, file, &refusal))
+            Err(print_file(first, file, &refusal))
         }
         Ok(made) => {
             let is_of_all = matches!(made.done, Some(Done::File(_)));
             before.add(&made.done, &place.seen(kind, is_of_all));
             match place.bytes {
                 Some(bytes) => Ok(bytes),
-                None => Err(tell_file(first, file, &Refusal::NoMemory)),
+                None => Err(print_file(first, file, &Refusal::NoMemory)),
             }
         }
     }

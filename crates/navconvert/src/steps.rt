@@ -5,9 +5,9 @@ use crate::inputs::Inputs;
 use crate::meter::Meter;
 use crate::notes::Notes;
 use crate::outputs::size_of;
-use crate::place::{Goal, Place};
+use crate::place::{Goal, HostPlace};
 use crate::tally::{ReportFile, Reported};
-use crate::telling::{Saying, tell_file};
+use crate::wording::{Saying, print_file};
 use file_conversion::{Done, Made, Observers, Outcome, Refusal, Stop, convert_one, finish};
 use whole_file::Namer;
 
@@ -34,12 +34,12 @@ pub(crate) fn made_by<'x, 'a, A: Namer<Option<Done>>>(
     goes: Goes<'x>,
     names: &mut A,
 ) -> (u8, Option<String>) {
-    let mut place = Place::new(settings, inputs, goes.goal);
+    let mut place = HostPlace::new(settings, inputs, goes.goal);
     let meter = meter_of(settings, first, inputs.names, goes.goal);
     let outcome = converted(settings, &mut place, meter, first, goes.part, names);
     let is_stopped = matches!(outcome.done, Err(Stop::Run(_, _, _, _, _) | Stop::Look(_)));
     if let (true, Some(refusal)) = (is_stopped, place.other()) {
-        return (tell_file(settings, first, &refusal), None);
+        return (print_file(settings, first, &refusal), None);
     }
     if let Err(Stop::Unnamed) = outcome.done {
         return (Refusal::NoTimes.status(), None);
@@ -62,7 +62,7 @@ pub(crate) fn made_by<'x, 'a, A: Namer<Option<Done>>>(
 /// asked.
 pub(crate) fn converted<'a, A: Namer<Option<Done>>>(
     settings: &Settings<'a>,
-    place: &mut Place<'a>,
+    place: &mut HostPlace<'a>,
     progress: Meter<'a>,
     first: &'a str,
     part: &str,

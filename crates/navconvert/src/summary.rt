@@ -21,8 +21,8 @@ pub(crate) struct JobCounts {
     pub amiss: [u64; KINDS],
     /// The records or messages that were skipped.
     pub skipped: u64,
-    /// Those of `items` and `carried` for which the output format has no record or message; none, if
-    /// they are not counted.
+    /// Those of `items` and `carried` for which the output format has no record or message; none,
+    /// if they are not counted.
     pub unwritten: Option<u64>,
     /// The records of other kinds whose lines are written; none, if they are not counted.
     pub carried: Option<u64>,
@@ -361,8 +361,8 @@ fn write_count<W: fmt::Write>(
     write!(f, "{before}{count} {name}")
 }
 
-// Writes a count that is not 0, of a unit and what is said of it, behind others where there are any;
-// whether there are now.
+// Writes a count that is not 0, of a unit and what is said of it, behind others where there are
+// any; whether there are now.
 fn write_some<W: fmt::Write>(
     f: &mut fmt::Formatter<W>,
     any: bool,

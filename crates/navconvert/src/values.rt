@@ -6,7 +6,7 @@ use crate::clock::{date_of, now, week_of};
 use crate::command::Asked;
 use bridge_engine::is_date;
 use file_conversion::{Kinds, Plan, Refusal, Target, is_site};
-use gnss_week::{Moment, RefWeek};
+use nav_eph::{Moment, RefWeek};
 use rinex_write::HeaderWords;
 use std::alloc::{AllocError, Global};
 use whole_file::Kind;

@@ -7,9 +7,9 @@
 //! too many bytes, 2^64 - 1 or more.
 #![tactic(auto)]
 
+use framing::{SbfJudge, UbxJudge};
 use nav_io::{ReadSource, WriteSink};
 use one_run::Status;
-use receiver_frames::{SbfJudge, UbxJudge};
 use receiver_log::{Receiver, run_log};
 use std::env;
 use std::io::ErrorKind;

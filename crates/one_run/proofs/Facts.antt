@@ -7,7 +7,7 @@ use Rattle.nav_io.specs.Prefix.{AppendsPrefix}
 use Rattle.one_run.specs.declared.fault.BridgeFault.{BridgeFault}
 use Rattle.one_run.specs.declared.fault.BridgeFault.TheVariants.{ReadFault, WriteFault, ReportFault, NotThisForm, TooLong, NoMemory}
 use Rattle.one_run.specs.Causes.{HasItsCause, faults_of}
-use Rattle.one_run.specs.Runs.{Accepts, Broke, Done, Ended, IsAheadOf, Leaves, Meaning, Texts, World, bytes_for, faults_in}
+use Rattle.one_run.specs.Runs.{Accepts, IsBroken, IsDone, Ended, IsAheadOf, Leaves, Meaning, Texts, World, bytes_for, faults_in}
 use Rattle.one_run.specs.Ends.{EndedBy, fault_status, status_of}
 use Rattle.one_run.proofs.Prefixes.{no_prefix}
 
@@ -94,10 +94,10 @@ pub text_of : {C S T U : Type 0} (m : Meaning C) (b a : World S T U) (r : Result
 text_of m b a (Ok counts) done = taken_all _ _ done.taken _ done.consumes done.end done.text
 text_of m b a (Err fault) broke = tt
 
-pub told_of : {C S T U : Type 0} (m : Meaning C) (b a : World S T U) (r : Result C BridgeFault) → Ended m b a r
+pub outcome_of : {C S T U : Type 0} (m : Meaning C) (b a : World S T U) (r : Result C BridgeFault) → Ended m b a r
     → OnOk r (IfSome (bytes_for m b) (λ bytes. Appends b.reported a.reported (m.whole.report bytes)))
-told_of m b a (Ok counts) done = taken_all _ _ done.taken _ done.consumes done.end done.told
-told_of m b a (Err fault) broke = tt
+outcome_of m b a (Ok counts) done = taken_all _ _ done.taken _ done.consumes done.end done.told
+outcome_of m b a (Err fault) broke = tt
 
 pub counts_of : {C S T U : Type 0} (m : Meaning C) (b a : World S T U) (r : Result C BridgeFault) → Ended m b a r
     → IfOk r (λ counts. IfSome (bytes_for m b) (λ bytes. m.counts bytes ≡ Some counts))
@@ -170,7 +170,7 @@ complete_of {C = C} m b a r ended = if_some _ _ (λ bytes is. by_end r ended byt
 -- ---- a run that ended early
 
 pub broke_by : {C S T U : Type 0} (m : Meaning C) (b a : World S T U) (r : Result C BridgeFault) (fault : BridgeFault) → Ended m b a r → IsErrOf r fault
-    → Broke m b a fault
+    → IsBroken m b a fault
 broke_by m b a r fault ended is = subst (Ended m b a) is ended
 
 -- what was written and reported is a prefix of what the complete input gives
@@ -188,14 +188,14 @@ some_status : (f : BridgeFault) → 0 ≡ fault_status f → ⊥
 some_status f e = search arith
 
 pub by_status : {S T U : Type 0} (m : Meaning (Unit {0})) (b a : World S T U) (status : ℕ) (fault : BridgeFault) → EndedBy m b a status
-    → status ≡ fault_status fault → Broke m b a fault
+    → status ≡ fault_status fault → IsBroken m b a fault
 by_status m b a status fault by is = by_end by.result by.ended (sym by.is ∙ is) where
-  by_end : (r : Result (Unit {0}) BridgeFault) → Ended m b a r → status_of r ≡ fault_status fault → Broke m b a fault
+  by_end : (r : Result (Unit {0}) BridgeFault) → Ended m b a r → status_of r ≡ fault_status fault → IsBroken m b a fault
   by_end (Ok counts) done e = absurd (some_status fault e)
-  by_end (Err other) broke e = subst (λ (f : BridgeFault). Broke m b a f) (one_fault other fault e) broke
+  by_end (Err other) broke e = subst (λ (f : BridgeFault). IsBroken m b a f) (one_fault other fault e) broke
 
-pub done_by : {S T U : Type 0} (m : Meaning (Unit {0})) (b a : World S T U) (status : ℕ) → EndedBy m b a status → status ≡ 0 → Done m b a tt
+pub done_by : {S T U : Type 0} (m : Meaning (Unit {0})) (b a : World S T U) (status : ℕ) → EndedBy m b a status → status ≡ 0 → IsDone m b a tt
 done_by m b a status by is = by_end by.result by.ended (sym by.is ∙ is) where
-  by_end : (r : Result (Unit {0}) BridgeFault) → Ended m b a r → status_of r ≡ 0 → Done m b a tt
+  by_end : (r : Result (Unit {0}) BridgeFault) → Ended m b a r → status_of r ≡ 0 → IsDone m b a tt
   by_end (Ok counts) done e = done
   by_end (Err fault) broke e = absurd (some_status fault (sym e))

@@ -2,7 +2,7 @@
 use Rattle.std.proofs.Common.{◌≡◌, ℕ, List, false, true, Option, None, Some, Result, Ok, Err, refl, sym, ap, subst}
 use Rattle.std.specs.Prelude.{IfErr, IfSome, IsSome, IsOkAnd, MatchResult, OnErr, option_map}
 use Rattle.one_run.specs.Ends.{giving, status_of, uncounted}
-use Rattle.one_run.specs.Runs.{Broke, Done, Ended, IsAheadOf, Meaning, Says, World, bytes_for}
+use Rattle.one_run.specs.Runs.{IsBroken, IsDone, Ended, IsAheadOf, Meaning, Says, World, bytes_for}
 use Rattle.one_run.proofs.Facts.{ahead_after}
 use Rattle.one_run.specs.declared.fault.BridgeFault.{BridgeFault}
 use Rattle.one_run.specs.declared.fault.BridgeFault.TheVariants.{ReadFault, WriteFault, ReportFault, NotThisForm, TooLong, NoMemory}
@@ -29,7 +29,7 @@ says_given f m taken b a NotThisForm says = (ap (option_map f) says.0, refuses_g
 says_given f m taken b a TooLong says = says
 says_given f m taken b a NoMemory says = (says.0, accepts_given f m.counts _ says.1, says.2)
 
-done_given : {C D S T U : Type 0} (f : C → D) (m : Meaning C) (b a : World S T U) (counts : C) → Done m b a counts → Done (giving f m) b a (f counts)
+done_given : {C D S T U : Type 0} (f : C → D) (m : Meaning C) (b a : World S T U) (counts : C) → IsDone m b a counts → IsDone (giving f m) b a (f counts)
 done_given f m b a counts done = record {
   taken = done.taken;
   consumes = done.consumes;
@@ -44,7 +44,7 @@ done_given f m b a counts done = record {
   reports = done.reports;
 }
 
-broke_given : {C D S T U : Type 0} (f : C → D) (m : Meaning C) (b a : World S T U) (fault : BridgeFault) → Broke m b a fault → Broke (giving f m) b a fault
+broke_given : {C D S T U : Type 0} (f : C → D) (m : Meaning C) (b a : World S T U) (fault : BridgeFault) → IsBroken m b a fault → IsBroken (giving f m) b a fault
 broke_given f m b a fault broke = record {
   taken = broke.taken;
   consumes = broke.consumes;

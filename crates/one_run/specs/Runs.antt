@@ -118,7 +118,7 @@ pub record Leaves {C S T U : Type 0} (m : Meaning C) (before after : World S T U
   pub silent : m.reports ≡ false → after.report ≡ before.report
 
 -- The run is done: the input was read to its end, nothing failed, and its bytes were counted, written and reported.
-pub record Done {C S T U : Type 0} (m : Meaning C) (before after : World S T U) (counts : C) : Type 0 where
+pub record IsDone {C S T U : Type 0} (m : Meaning C) (before after : World S T U) (counts : C) : Type 0 where
   pub taken : List ℕ
   pub consumes : Consumes (bytes_for m before) (bytes_for m after) taken
   pub end : IsAtEnd (bytes_for m after)
@@ -151,7 +151,7 @@ Says m taken before after NoMemory = (m.memory ≡ true) × Accepts m before × 
 -- The run ended early with an error: a prefix of the output of the bytes read was written, and a
 -- prefix of their report, neither less than its least; both are prefixes of what the complete input
 -- gives. Both stop at one place, and counts are reported last. Nothing else failed.
-pub record Broke {C S T U : Type 0} (m : Meaning C) (before after : World S T U) (fault : BridgeFault) : Type 0 where
+pub record IsBroken {C S T U : Type 0} (m : Meaning C) (before after : World S T U) (fault : BridgeFault) : Type 0 where
   pub taken : List ℕ
   pub consumes : Consumes (bytes_for m before) (bytes_for m after) taken
   pub text : AppendsBetween before.written after.written (m.least.output taken) (m.whole.output taken)
@@ -165,8 +165,8 @@ pub record Broke {C S T U : Type 0} (m : Meaning C) (before after : World S T U)
 
 -- how a run of this meaning ended
 abbrev pub Ended : {C S T U : Type 0} → Meaning C → World S T U → World S T U → Result C BridgeFault → Type 0
-Ended m before after (Ok counts) = Done m before after counts
-Ended m before after (Err fault) = Broke m before after fault
+Ended m before after (Ok counts) = IsDone m before after counts
+Ended m before after (Err fault) = IsBroken m before after fault
 
 -- The same by what input, output and report state: the bytes left, whether no read fails, the bytes
 -- written, and the counts of errors; then each object before and after.

@@ -1,6 +1,7 @@
 //! What all runs share: their contract, the lines of report and counts, and why a run ends early.
 //!
-//! - [`BridgeFault`] is why a run ended before it was done, [`Status`] the exit status of a program;
+//! - [`BridgeFault`] is why a run ended before it was done, [`Status`] the exit status of a
+//! program;
 //! - [`report_text`] is a line of a report, and [`append_count`] appends a line of counts;
 //! - [`read_piece`] reads a piece of an input that has a limit;
 //! - [`Text`] is a short text in a buffer of fixed size; no memory is allocated.

@@ -1,7 +1,7 @@
 //! Lines of generated captures, computed by an independent program.
 
-use gnss_week::RefWeek;
-use nav_vectors::{Sats, make_capture};
+use nav_eph::RefWeek;
+use sent_captures::{Sats, make_capture};
 use std::alloc::{AllocError, Global};
 use std::test::Fail;
 

@@ -1,13 +1,12 @@
 use crate::samples;
 use crate::samples::gps;
-use gnss_week::{Moment, Second, Week};
 use nav_bits::{S, U};
 use nav_eph::{
-    Body, GalEph, GalHealth, GalIon, GalWord2, GpsEph, GpsIon, GpsSide, IonContent, IonEph,
-    NavItem, Part, Sat, SentSecond, SentTag, Sisa, Step16, Step60, System, gal_transmission_number,
-    gps_transmission_number,
+    Body, GalEph, GalHealth, GalIon, GalWord2, GpsEph, GpsIon, GpsSide, IonContent, IonEph, Moment,
+    NavItem, Part, Sat, Second, SentSecond, SentTag, Sisa, Step16, Step60, System, Week,
+    gal_transmission_number, gps_transmission_number,
 };
-use nav_samples::{
+use raw_values::{
     galileo_word1, galileo_word2, galileo_word3, galileo_word4, gps_clock, gps_orbit_a, gps_orbit_b,
 };
 

@@ -1,10 +1,9 @@
 //! Parts as they are heard.
 
 use crate::samples::{galileo, gps};
-use gnss_week::Second;
 use nav_bits::{S, U};
-use nav_eph::{Body, GalIon, Part, Sat, SentTag, Sisa, Step16, Step60};
-use nav_samples::{
+use nav_eph::{Body, GalIon, Part, Sat, Second, SentTag, Sisa, Step16, Step60};
+use raw_values::{
     galileo_health, galileo_word1, galileo_word2, galileo_word3, galileo_word4, gps_clock,
     gps_ionosphere, gps_orbit_a, gps_orbit_b, gps_side,
 };
@@ -37,7 +36,7 @@ pub(crate) enum Kind {
 
 // What is heard, and when.
 #[derive(Clone, Copy)]
-pub(crate) struct Heard {
+pub(crate) struct Received {
     pub(crate) stamp: u32,
     pub(crate) kind: Kind,
 }
@@ -126,7 +125,7 @@ fn sender(kind: Kind) -> Option<Sat> {
     }
 }
 
-fn part(heard: &Heard) -> Option<Part> {
+fn part(heard: &Received) -> Option<Part> {
     Some(Part {
         stamp: heard.stamp,
         sat: sender(heard.kind)?,
@@ -135,7 +134,7 @@ fn part(heard: &Heard) -> Option<Part> {
 }
 
 // The parts that are heard, but for those that there are not.
-pub(crate) fn parts_of(alloc: Global, heard: &[Heard]) -> Result<Vec<Part>, AllocError> {
+pub(crate) fn parts_of(alloc: Global, heard: &[Received]) -> Result<Vec<Part>, AllocError> {
     let (_body, _tag): (Option<Body>, Option<SentTag>) = (None, None);
     let mut parts = Vec::new(alloc);
     for heard in heard {

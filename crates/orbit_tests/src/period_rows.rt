@@ -1,7 +1,6 @@
-use crate::parts::{A, B, C, Heard, Kind, parts_of};
+use crate::parts::{A, B, C, Kind, Received, parts_of};
 use crate::runs::{WEEK, WINDOW, gives_a_period_once, letter};
-use gnss_week::RefWeek;
-use nav_eph::{GalEph, GpsEph, IonContent, IonEph, NavItem, Part, SentSecond};
+use nav_eph::{GalEph, GpsEph, IonContent, IonEph, NavItem, Part, RefWeek, SentSecond};
 use nav_laws::PlainAssembly;
 use periods::{Closed, Verdict};
 use slot_assembly::add_periods;
@@ -17,7 +16,7 @@ struct Period {
 // Parts that are heard, in this order, and their periods.
 struct PeriodsRow {
     name: &'static str,
-    heard: &'static [Heard],
+    heard: &'static [Received],
     periods: &'static [Period],
 }
 
@@ -49,118 +48,118 @@ fn makes(alloc: Global, row: &PeriodsRow) -> Result<bool, AllocError> {
 
 // Words of which the last is heard at 7, at 7,207 or at 14,407, and the parts of an ephemeris of
 // GPS, as they are heard first and at three later times.
-const WORD_1: Heard = Heard {
+const WORD_1: Received = Received {
     stamp: 1,
     kind: Kind::Word { number: 1 },
 };
 
-const WORD_2: Heard = Heard {
+const WORD_2: Received = Received {
     stamp: 3,
     kind: Kind::Word { number: 2 },
 };
 
-const WORD_3: Heard = Heard {
+const WORD_3: Received = Received {
     stamp: 5,
     kind: Kind::Word { number: 3 },
 };
 
-const WORD_4: Heard = Heard {
+const WORD_4: Received = Received {
     stamp: 7,
     kind: Kind::Word { number: 4 },
 };
 
-const LATE_WORD_1: Heard = Heard {
+const LATE_WORD_1: Received = Received {
     stamp: 7_201,
     kind: Kind::Word { number: 1 },
 };
 
-const LATE_WORD_2: Heard = Heard {
+const LATE_WORD_2: Received = Received {
     stamp: 7_203,
     kind: Kind::Word { number: 2 },
 };
 
-const LATE_WORD_3: Heard = Heard {
+const LATE_WORD_3: Received = Received {
     stamp: 7_205,
     kind: Kind::Word { number: 3 },
 };
 
-const LATE_WORD_4: Heard = Heard {
+const LATE_WORD_4: Received = Received {
     stamp: 7_207,
     kind: Kind::Word { number: 4 },
 };
 
-const A0: Heard = Heard { stamp: 0, kind: A };
+const A0: Received = Received { stamp: 0, kind: A };
 
-const B0: Heard = Heard { stamp: 6, kind: B };
+const B0: Received = Received { stamp: 6, kind: B };
 
-const C0: Heard = Heard { stamp: 12, kind: C };
+const C0: Received = Received { stamp: 12, kind: C };
 
-const A1: Heard = Heard {
+const A1: Received = Received {
     stamp: 7_213,
     kind: A,
 };
 
-const B1: Heard = Heard {
+const B1: Received = Received {
     stamp: 7_219,
     kind: B,
 };
 
-const C1: Heard = Heard {
+const C1: Received = Received {
     stamp: 7_225,
     kind: C,
 };
 
-const A2: Heard = Heard {
+const A2: Received = Received {
     stamp: 14_414,
     kind: A,
 };
 
-const B2: Heard = Heard {
+const B2: Received = Received {
     stamp: 14_420,
     kind: B,
 };
 
-const C2: Heard = Heard {
+const C2: Received = Received {
     stamp: 14_426,
     kind: C,
 };
 
-const A3: Heard = Heard {
+const A3: Received = Received {
     stamp: 21_628,
     kind: A,
 };
 
-const B3: Heard = Heard {
+const B3: Received = Received {
     stamp: 21_634,
     kind: B,
 };
 
-const C3: Heard = Heard {
+const C3: Received = Received {
     stamp: 21_640,
     kind: C,
 };
 
-const REPEATED_WORD_1: Heard = Heard {
+const REPEATED_WORD_1: Received = Received {
     stamp: 14_401,
     kind: Kind::Word { number: 1 },
 };
 
-const REPEATED_WORD_2: Heard = Heard {
+const REPEATED_WORD_2: Received = Received {
     stamp: 14_403,
     kind: Kind::Word { number: 2 },
 };
 
-const REPEATED_WORD_3: Heard = Heard {
+const REPEATED_WORD_3: Received = Received {
     stamp: 14_405,
     kind: Kind::Word { number: 3 },
 };
 
-const REPEATED_WORD_4: Heard = Heard {
+const REPEATED_WORD_4: Received = Received {
     stamp: 14_407,
     kind: Kind::Word { number: 4 },
 };
 
-const FIRST: Heard = Heard {
+const FIRST: Received = Received {
     stamp: 9,
     kind: Kind::Health { hs_e1b: 0 },
 };
@@ -170,9 +169,9 @@ static PERIODS: [PeriodsRow; 24] = [
     PeriodsRow {
         name: "three parts",
         heard: &[
-            Heard { stamp: 0, kind: A },
-            Heard { stamp: 6, kind: B },
-            Heard { stamp: 12, kind: C },
+            Received { stamp: 0, kind: A },
+            Received { stamp: 6, kind: B },
+            Received { stamp: 12, kind: C },
         ],
         periods: &[Period {
             end: 12,
@@ -182,10 +181,10 @@ static PERIODS: [PeriodsRow; 24] = [
     PeriodsRow {
         name: "three parts in another order",
         heard: &[
-            Heard { stamp: 12, kind: C },
-            Heard { stamp: 0, kind: A },
-            Heard { stamp: 6, kind: B },
-            Heard { stamp: 0, kind: A },
+            Received { stamp: 12, kind: C },
+            Received { stamp: 0, kind: A },
+            Received { stamp: 6, kind: B },
+            Received { stamp: 0, kind: A },
         ],
         periods: &[Period {
             end: 12,
@@ -194,7 +193,10 @@ static PERIODS: [PeriodsRow; 24] = [
     },
     PeriodsRow {
         name: "one part twice",
-        heard: &[Heard { stamp: 6, kind: B }, Heard { stamp: 6, kind: B }],
+        heard: &[
+            Received { stamp: 6, kind: B },
+            Received { stamp: 6, kind: B },
+        ],
         periods: &[Period {
             end: 6,
             verdict: 'p',
@@ -203,10 +205,10 @@ static PERIODS: [PeriodsRow; 24] = [
     PeriodsRow {
         name: "two contents of one kind",
         heard: &[
-            Heard { stamp: 0, kind: A },
-            Heard { stamp: 6, kind: B },
-            Heard { stamp: 12, kind: C },
-            Heard {
+            Received { stamp: 0, kind: A },
+            Received { stamp: 6, kind: B },
+            Received { stamp: 12, kind: C },
+            Received {
                 stamp: 36,
                 kind: Kind::OrbitA { m0: 1 },
             },
@@ -219,12 +221,12 @@ static PERIODS: [PeriodsRow; 24] = [
     PeriodsRow {
         name: "parts as long apart as the window",
         heard: &[
-            Heard { stamp: 0, kind: A },
-            Heard {
+            Received { stamp: 0, kind: A },
+            Received {
                 stamp: 7_200,
                 kind: B,
             },
-            Heard {
+            Received {
                 stamp: 14_400,
                 kind: C,
             },
@@ -237,8 +239,8 @@ static PERIODS: [PeriodsRow; 24] = [
     PeriodsRow {
         name: "parts longer apart than the window",
         heard: &[
-            Heard { stamp: 0, kind: A },
-            Heard {
+            Received { stamp: 0, kind: A },
+            Received {
                 stamp: 7_201,
                 kind: B,
             },
@@ -257,12 +259,12 @@ static PERIODS: [PeriodsRow; 24] = [
     PeriodsRow {
         name: "a part between two others",
         heard: &[
-            Heard { stamp: 0, kind: A },
-            Heard {
+            Received { stamp: 0, kind: A },
+            Received {
                 stamp: 8_000,
                 kind: C,
             },
-            Heard {
+            Received {
                 stamp: 4_000,
                 kind: B,
             },
@@ -275,12 +277,12 @@ static PERIODS: [PeriodsRow; 24] = [
     PeriodsRow {
         name: "parts of two issues",
         heard: &[
-            Heard { stamp: 0, kind: A },
-            Heard {
+            Received { stamp: 0, kind: A },
+            Received {
                 stamp: 6,
                 kind: Kind::OrbitB { iode: 9 },
             },
-            Heard { stamp: 12, kind: B },
+            Received { stamp: 12, kind: B },
         ],
         periods: &[
             Period {
@@ -296,15 +298,15 @@ static PERIODS: [PeriodsRow; 24] = [
     PeriodsRow {
         name: "up to the last stamp",
         heard: &[
-            Heard {
+            Received {
                 stamp: u32::MAX,
                 kind: B,
             },
-            Heard {
+            Received {
                 stamp: u32::MAX - 7_200,
                 kind: A,
             },
-            Heard {
+            Received {
                 stamp: u32::MAX - 1,
                 kind: C,
             },
@@ -322,7 +324,7 @@ static PERIODS: [PeriodsRow; 24] = [
             WORD_2,
             WORD_3,
             WORD_4,
-            Heard {
+            Received {
                 stamp: 9,
                 kind: Kind::Health { hs_e1b: 0 },
             },
@@ -339,7 +341,7 @@ static PERIODS: [PeriodsRow; 24] = [
             WORD_2,
             WORD_3,
             WORD_4,
-            Heard {
+            Received {
                 stamp: 7_207,
                 kind: Kind::Health { hs_e1b: 0 },
             },
@@ -356,7 +358,7 @@ static PERIODS: [PeriodsRow; 24] = [
             WORD_2,
             WORD_3,
             WORD_4,
-            Heard {
+            Received {
                 stamp: 7_208,
                 kind: Kind::Health { hs_e1b: 0 },
             },
@@ -372,7 +374,7 @@ static PERIODS: [PeriodsRow; 24] = [
             WORD_1,
             WORD_2,
             WORD_4,
-            Heard {
+            Received {
                 stamp: 9,
                 kind: Kind::Health { hs_e1b: 0 },
             },
@@ -385,7 +387,7 @@ static PERIODS: [PeriodsRow; 24] = [
     PeriodsRow {
         name: "health a window before the end",
         heard: &[
-            Heard {
+            Received {
                 stamp: 7,
                 kind: Kind::Health { hs_e1b: 0 },
             },
@@ -402,7 +404,7 @@ static PERIODS: [PeriodsRow; 24] = [
     PeriodsRow {
         name: "health earlier than a window before the end",
         heard: &[
-            Heard {
+            Received {
                 stamp: 6,
                 kind: Kind::Health { hs_e1b: 0 },
             },
@@ -438,7 +440,7 @@ static PERIODS: [PeriodsRow; 24] = [
             A0,
             B0,
             C0,
-            Heard {
+            Received {
                 stamp: 7_213,
                 kind: Kind::ClockOfHealth { health: 1 },
             },
@@ -462,7 +464,7 @@ static PERIODS: [PeriodsRow; 24] = [
             A0,
             B0,
             C0,
-            Heard {
+            Received {
                 stamp: 7_213,
                 kind: C,
             },
@@ -495,7 +497,7 @@ static PERIODS: [PeriodsRow; 24] = [
             A1,
             B1,
             C1,
-            Heard {
+            Received {
                 stamp: 14_426,
                 kind: C,
             },
@@ -529,7 +531,7 @@ static PERIODS: [PeriodsRow; 24] = [
             A0,
             B0,
             C0,
-            Heard {
+            Received {
                 stamp: 7_213,
                 kind: Kind::ClockOfHealth { health: 1 },
             },
@@ -567,7 +569,7 @@ static PERIODS: [PeriodsRow; 24] = [
             REPEATED_WORD_2,
             REPEATED_WORD_3,
             REPEATED_WORD_4,
-            Heard {
+            Received {
                 stamp: 14_409,
                 kind: Kind::Health { hs_e1b: 0 },
             },
@@ -595,7 +597,7 @@ static PERIODS: [PeriodsRow; 24] = [
             REPEATED_WORD_2,
             REPEATED_WORD_3,
             REPEATED_WORD_4,
-            Heard {
+            Received {
                 stamp: 14_409,
                 kind: Kind::Health { hs_e1b: 1 },
             },
@@ -614,11 +616,11 @@ static PERIODS: [PeriodsRow; 24] = [
     PeriodsRow {
         name: "an ionosphere again",
         heard: &[
-            Heard {
+            Received {
                 stamp: 18,
                 kind: Kind::Ion { satellite: 5 },
             },
-            Heard {
+            Received {
                 stamp: 7_219,
                 kind: Kind::Ion { satellite: 5 },
             },
@@ -638,19 +640,19 @@ static PERIODS: [PeriodsRow; 24] = [
     PeriodsRow {
         name: "ends alike, in the order of classes",
         heard: &[
-            Heard {
+            Received {
                 stamp: 18,
                 kind: Kind::Ion { satellite: 5 },
             },
-            Heard {
+            Received {
                 stamp: 18,
                 kind: Kind::GalIon,
             },
-            Heard {
+            Received {
                 stamp: 18,
                 kind: Kind::Word { number: 1 },
             },
-            Heard { stamp: 18, kind: A },
+            Received { stamp: 18, kind: A },
         ],
         periods: &[
             Period {
@@ -674,7 +676,7 @@ static PERIODS: [PeriodsRow; 24] = [
 ];
 
 // What is looked at of an item.
-enum Said {
+enum StatedRow {
     // The health of E1-B of an ephemeris of Galileo.
     Health {
         hs_e1b: u64,
@@ -697,9 +699,9 @@ enum Said {
 struct ItemRow {
     name: &'static str,
     week: u32,
-    heard: &'static [Heard],
+    heard: &'static [Received],
     end: Option<u32>,
-    said: Said,
+    said: StatedRow,
 }
 
 static ITEMS: [ItemRow; 13] = [
@@ -709,11 +711,11 @@ static ITEMS: [ItemRow; 13] = [
         name: "two health words of one stamp before the end",
         week: WEEK,
         heard: &[
-            Heard {
+            Received {
                 stamp: 7,
                 kind: Kind::Health { hs_e1b: 1 },
             },
-            Heard {
+            Received {
                 stamp: 7,
                 kind: Kind::Health { hs_e1b: 2 },
             },
@@ -723,17 +725,17 @@ static ITEMS: [ItemRow; 13] = [
             LATE_WORD_4,
         ],
         end: None,
-        said: Said::Health { hs_e1b: 2 },
+        said: StatedRow::Health { hs_e1b: 2 },
     },
     ItemRow {
         name: "two health words of two stamps before the end",
         week: WEEK,
         heard: &[
-            Heard {
+            Received {
                 stamp: 7,
                 kind: Kind::Health { hs_e1b: 2 },
             },
-            Heard {
+            Received {
                 stamp: 8,
                 kind: Kind::Health { hs_e1b: 1 },
             },
@@ -741,13 +743,13 @@ static ITEMS: [ItemRow; 13] = [
             LATE_WORD_2,
             LATE_WORD_3,
             LATE_WORD_4,
-            Heard {
+            Received {
                 stamp: 7_208,
                 kind: Kind::Health { hs_e1b: 3 },
             },
         ],
         end: None,
-        said: Said::Health { hs_e1b: 1 },
+        said: StatedRow::Health { hs_e1b: 1 },
     },
     ItemRow {
         name: "two health words of one stamp behind the end",
@@ -757,17 +759,17 @@ static ITEMS: [ItemRow; 13] = [
             WORD_2,
             WORD_3,
             WORD_4,
-            Heard {
+            Received {
                 stamp: 9,
                 kind: Kind::Health { hs_e1b: 2 },
             },
-            Heard {
+            Received {
                 stamp: 9,
                 kind: Kind::Health { hs_e1b: 1 },
             },
         ],
         end: None,
-        said: Said::Health { hs_e1b: 1 },
+        said: StatedRow::Health { hs_e1b: 1 },
     },
     ItemRow {
         name: "two health words of two stamps behind the end",
@@ -777,24 +779,24 @@ static ITEMS: [ItemRow; 13] = [
             WORD_2,
             WORD_3,
             WORD_4,
-            Heard {
+            Received {
                 stamp: 10,
                 kind: Kind::Health { hs_e1b: 1 },
             },
-            Heard {
+            Received {
                 stamp: 9,
                 kind: Kind::Health { hs_e1b: 2 },
             },
         ],
         end: None,
-        said: Said::Health { hs_e1b: 2 },
+        said: StatedRow::Health { hs_e1b: 2 },
     },
     // Clocks of GPS, before and behind the rest of the orbit.
     ItemRow {
         name: "two clocks, the earlier of the start of the week",
         week: WEEK,
         heard: &[
-            Heard {
+            Received {
                 stamp: 3,
                 kind: Kind::ClockSent {
                     ura: 0,
@@ -802,9 +804,9 @@ static ITEMS: [ItemRow; 13] = [
                     second: 6,
                 },
             },
-            Heard { stamp: 6, kind: B },
-            Heard { stamp: 12, kind: C },
-            Heard {
+            Received { stamp: 6, kind: B },
+            Received { stamp: 12, kind: C },
+            Received {
                 stamp: 0,
                 kind: Kind::ClockSent {
                     ura: 2,
@@ -814,7 +816,7 @@ static ITEMS: [ItemRow; 13] = [
             },
         ],
         end: None,
-        said: Said::Times {
+        said: StatedRow::Times {
             ura: 0,
             toe_week: WEEK,
             sent: SentSecond::At(0),
@@ -824,7 +826,7 @@ static ITEMS: [ItemRow; 13] = [
         name: "two clocks, of two accuracies",
         week: WEEK,
         heard: &[
-            Heard {
+            Received {
                 stamp: 3,
                 kind: Kind::ClockSent {
                     ura: 1,
@@ -832,9 +834,9 @@ static ITEMS: [ItemRow; 13] = [
                     second: 0,
                 },
             },
-            Heard { stamp: 6, kind: B },
-            Heard { stamp: 12, kind: C },
-            Heard {
+            Received { stamp: 6, kind: B },
+            Received { stamp: 12, kind: C },
+            Received {
                 stamp: 3,
                 kind: Kind::ClockSent {
                     ura: 2,
@@ -844,7 +846,7 @@ static ITEMS: [ItemRow; 13] = [
             },
         ],
         end: None,
-        said: Said::Times {
+        said: StatedRow::Times {
             ura: 2,
             toe_week: WEEK,
             sent: SentSecond::At(0),
@@ -854,7 +856,7 @@ static ITEMS: [ItemRow; 13] = [
         name: "two clocks of one stamp",
         week: WEEK,
         heard: &[
-            Heard {
+            Received {
                 stamp: 3,
                 kind: Kind::ClockSent {
                     ura: 2,
@@ -862,15 +864,15 @@ static ITEMS: [ItemRow; 13] = [
                     second: 6,
                 },
             },
-            Heard { stamp: 6, kind: B },
-            Heard { stamp: 12, kind: C },
-            Heard {
+            Received { stamp: 6, kind: B },
+            Received { stamp: 12, kind: C },
+            Received {
                 stamp: 0,
                 kind: Kind::ClockOfToe { ura: 1 },
             },
         ],
         end: None,
-        said: Said::Times {
+        said: StatedRow::Times {
             ura: 2,
             toe_week: WEEK,
             sent: SentSecond::At(6),
@@ -880,19 +882,19 @@ static ITEMS: [ItemRow; 13] = [
         name: "a clock of a toe alone",
         week: WEEK,
         heard: &[
-            Heard {
+            Received {
                 stamp: 3,
                 kind: Kind::ClockOfToe { ura: 0 },
             },
-            Heard { stamp: 6, kind: B },
-            Heard { stamp: 12, kind: C },
-            Heard {
+            Received { stamp: 6, kind: B },
+            Received { stamp: 12, kind: C },
+            Received {
                 stamp: 0,
                 kind: Kind::ClockOfToe { ura: 1 },
             },
         ],
         end: None,
-        said: Said::Times {
+        said: StatedRow::Times {
             ura: 0,
             toe_week: WEEK,
             sent: SentSecond::Unknown,
@@ -903,7 +905,7 @@ static ITEMS: [ItemRow; 13] = [
         name: "a clock of the week before",
         week: 2_294,
         heard: &[
-            Heard {
+            Received {
                 stamp: 0,
                 kind: Kind::ClockSent {
                     ura: 0,
@@ -911,9 +913,9 @@ static ITEMS: [ItemRow; 13] = [
                     second: 604_770,
                 },
             },
-            Heard { stamp: 6, kind: B },
-            Heard { stamp: 12, kind: C },
-            Heard {
+            Received { stamp: 6, kind: B },
+            Received { stamp: 12, kind: C },
+            Received {
                 stamp: 0,
                 kind: Kind::ClockSent {
                     ura: 0,
@@ -923,7 +925,7 @@ static ITEMS: [ItemRow; 13] = [
             },
         ],
         end: None,
-        said: Said::Times {
+        said: StatedRow::Times {
             ura: 0,
             toe_week: 2_295,
             sent: SentSecond::At(-30),
@@ -933,12 +935,12 @@ static ITEMS: [ItemRow; 13] = [
     ItemRow {
         name: "an ionosphere",
         week: WEEK,
-        heard: &[Heard {
+        heard: &[Received {
             stamp: 18,
             kind: Kind::Ion { satellite: 5 },
         }],
         end: Some(18),
-        said: Said::Transmission {
+        said: StatedRow::Transmission {
             satellite: 5,
             moment: 1_388_016_018,
         },
@@ -947,17 +949,17 @@ static ITEMS: [ItemRow; 13] = [
         name: "an ionosphere of two satellites",
         week: WEEK,
         heard: &[
-            Heard {
+            Received {
                 stamp: 18,
                 kind: Kind::Ion { satellite: 7 },
             },
-            Heard {
+            Received {
                 stamp: 18,
                 kind: Kind::Ion { satellite: 5 },
             },
         ],
         end: Some(18),
-        said: Said::Transmission {
+        said: StatedRow::Transmission {
             satellite: 5,
             moment: 1_388_016_018,
         },
@@ -966,17 +968,17 @@ static ITEMS: [ItemRow; 13] = [
         name: "an ionosphere of two stamps",
         week: WEEK,
         heard: &[
-            Heard {
+            Received {
                 stamp: 18,
                 kind: Kind::Ion { satellite: 5 },
             },
-            Heard {
+            Received {
                 stamp: 12,
                 kind: Kind::Ion { satellite: 7 },
             },
         ],
         end: Some(18),
-        said: Said::Transmission {
+        said: StatedRow::Transmission {
             satellite: 7,
             moment: 1_388_016_018,
         },
@@ -984,12 +986,12 @@ static ITEMS: [ItemRow; 13] = [
     ItemRow {
         name: "an ionosphere of Galileo",
         week: WEEK,
-        heard: &[Heard {
+        heard: &[Received {
             stamp: 9,
             kind: Kind::GalIon,
         }],
         end: Some(9),
-        said: Said::Transmission {
+        said: StatedRow::Transmission {
             satellite: 11,
             moment: 1_388_016_008,
         },
@@ -997,12 +999,12 @@ static ITEMS: [ItemRow; 13] = [
 ];
 
 // The item says that.
-fn is_said(item: &NavItem, said: &Said) -> bool {
+fn is_stated(item: &NavItem, said: &StatedRow) -> bool {
     match (item, said) {
-        (NavItem::Gal(eph), Said::Health { hs_e1b }) => eph.health.hs_e1b.value() == *hs_e1b,
+        (NavItem::Gal(eph), StatedRow::Health { hs_e1b }) => eph.health.hs_e1b.value() == *hs_e1b,
         (
             NavItem::Gps(eph),
-            Said::Times {
+            StatedRow::Times {
                 ura,
                 toe_week,
                 sent,
@@ -1010,7 +1012,7 @@ fn is_said(item: &NavItem, said: &Said) -> bool {
         ) => {
             eph.side.ura.value() == *ura && eph.toe_week.value() == *toe_week && eph.sent == *sent
         }
-        (NavItem::Ion(ion), Said::Transmission { satellite, moment }) => {
+        (NavItem::Ion(ion), StatedRow::Transmission { satellite, moment }) => {
             ion.sat.number() == *satellite && ion.moment.value() == *moment
         }
         _ => false,
@@ -1030,7 +1032,7 @@ fn says(alloc: Global, row: &ItemRow) -> Result<bool, AllocError> {
         None => true,
     };
     Ok(match &first.verdict {
-        Verdict::Whole(item) => ends && is_said(item, &row.said),
+        Verdict::Whole(item) => ends && is_stated(item, &row.said),
         _ => false,
     })
 }

@@ -3,7 +3,7 @@
 ghost use Rattle.std.specs.Prelude.{◌≤◌, OnOk};
 ghost use Rattle.slot_assembly.specs.Standing.{Stood};
 
-use crate::parts::{A, B, C, Heard, parts_of};
+use crate::parts::{A, B, C, Received, parts_of};
 use nav_eph::Part;
 use periods::{Closed, Verdict};
 use slot_assembly::Assembly;
@@ -74,9 +74,9 @@ pub(crate) fn gives_a_period_once<T: Assembly>(
     requires { Stood (T.stands_for assembly.old) (λ at. at.watermark ≤ 0) }
 {
     let heard = [
-        Heard { stamp: 0, kind: A },
-        Heard { stamp: 6, kind: B },
-        Heard { stamp: 12, kind: C },
+        Received { stamp: 0, kind: A },
+        Received { stamp: 6, kind: B },
+        Received { stamp: 12, kind: C },
     ];
     let parts = parts_of(alloc, &heard)?;
     let mut given = Vec::new(alloc);

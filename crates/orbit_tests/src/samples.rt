@@ -1,9 +1,8 @@
 //! Values that several tests use. A number is 0 where nothing else is said.
 
-use gnss_week::{Moment, Week};
 use nav_bits::{S, U};
-use nav_eph::{GpsEph, IonContent, IonEph, NavItem, Sat, SentSecond, Step16, System};
-use nav_samples::{gps_clock, gps_ionosphere, gps_orbit_a, gps_orbit_b, gps_side};
+use nav_eph::{GpsEph, IonContent, IonEph, Moment, NavItem, Sat, SentSecond, Step16, System, Week};
+use raw_values::{gps_clock, gps_ionosphere, gps_orbit_a, gps_orbit_b, gps_side};
 
 pub(crate) fn gps(number: u8) -> Option<Sat> {
     Sat::new(System::Gps, number)

@@ -1,7 +1,6 @@
-use crate::parts::{A, B, C, Heard, Kind, parts_of};
+use crate::parts::{A, B, C, Kind, Received, parts_of};
 use crate::runs::{WEEK, WINDOW, gives_a_period_once, run};
-use gnss_week::RefWeek;
-use nav_eph::Part;
+use nav_eph::{Part, RefWeek};
 use nav_laws::PlainAssembly;
 use periods::Closed;
 use slot_assembly::SlotAssembly;
@@ -35,14 +34,14 @@ fn some_kind(number: u64, stamp: u32) -> Kind {
 
 // A small list of parts, some of them more than a window apart.
 fn some_parts(alloc: Global, first: u64) -> Result<Vec<Part>, AllocError> {
-    let mut heard = [Heard { stamp: 0, kind: A }; 24];
+    let mut heard = [Received { stamp: 0, kind: A }; 24];
     let mut seed = first;
     let mut stamp: u32 = 0;
     for place in &mut heard {
         seed = step(seed);
         stamp = stamp.wrapping_add((seed % 3_000) as u32);
         seed = step(seed);
-        *place = Heard {
+        *place = Received {
             stamp,
             kind: some_kind(seed, stamp),
         };

@@ -1,8 +1,8 @@
-use gnss_week::{
+use nav_bits::U;
+use nav_eph::{
     Civil, Moment, RefWeek, Second, Week, WeekFault, civil, gal_week, gps_week, is_near_galileo,
     is_near_gps, moment_of, nearest_moment,
 };
-use nav_bits::U;
 
 // A reference week, the bits of a week in a message, and the week.
 struct WeekRow {

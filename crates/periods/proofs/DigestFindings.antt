@@ -16,8 +16,8 @@ use Rattle.nav_eph.specs.declared.tag.SentTag.{SentTag}
 use Rattle.nav_eph.specs.declared.tag.SentTag.TheVariants.{Sent, Toe}
 use Rattle.nav_eph.specs.declared.part.Part.{Part}
 use Rattle.nav_eph.specs.declared.part.Body.TheVariants.{GpsClock as OfClock}
-use Rattle.periods.specs.declared.key.Key.{Key}
-use Rattle.periods.specs.declared.key.Key.TheVariants.{Gps, Gal, GpsIon, GalIon}
+use Rattle.periods.specs.declared.key.PeriodKey.{PeriodKey}
+use Rattle.periods.specs.declared.key.PeriodKey.TheVariants.{Gps, Gal, GpsIon, GalIon}
 use Rattle.periods.specs.declared.closed.Finding.TheVariants.{Differs}
 use Rattle.periods.specs.declared.digest.Seen.{Seen}
 use Rattle.periods.specs.declared.digest.Seen.TheVariants.{Nothing, One, Different}
@@ -80,7 +80,7 @@ one_agrees : {X : Type 0} (values : X → Type 0) (o : Option X) → IsOne value
 one_agrees values None h d = h d.one d.one_here
 one_agrees values (Some x) h d = only_agrees values x h d
 
-agree : (key : Key) (members : Part → Type 0) → AllByRecursion (Agrees members) (kinds_of key) → IsContradicted key members → ⊥
+agree : (key : PeriodKey) (members : Part → Type 0) → AllByRecursion (Agrees members) (kinds_of key) → IsContradicted key members → ⊥
 agree key members h =
     none_any _ _ (kinds_of key) (λ k a d. one_agrees (HasValue k members) (seen_only a.0) (seen_one (HasValue k members) a.0 a.1 a.2) d) h
 
@@ -181,7 +181,7 @@ gal_item_at r sat issue members before behind (Some x) (Some y) (Some z) (Some u
   w3 = hz;
   w4 = hu;
   heard = h;
-  heard_is = hh;
+  received_is = hh;
   health = refl;
   toe_week = refl;
   sent = refl;
@@ -206,7 +206,7 @@ gal_at r sat issue members before behind d health h hh false e =
     (seen_one (HasValue Word1 members) d.w1 h.w1 q.0) (seen_one (HasValue Word2 members) d.w2 h.w2 s.0)
     (seen_one (HasValue Word3 members) d.w3 h.w3 t.0) (seen_one (HasValue Word4 members) d.w4 h.w4 t.1) hh
 
-pub digest_finding-is : (r : ℕ) (key : Key) (members : Part → Type 0) (before behind : ℕ × GalHealth × SentTag → Type 0) (d : Digest)
+pub digest_finding-is : (r : ℕ) (key : PeriodKey) (members : Part → Type 0) (before behind : ℕ × GalHealth × SentTag → Type 0) (d : Digest)
     (health : Option (ℕ × GalHealth × SentTag)) → IsDigest key members d → IsBestHealth before behind health
     → IsFoundIn r key members before behind (digest_finding r key d health)
 digest_finding-is r (Gps sat issue) members before behind (GpsForm d) health h hh =

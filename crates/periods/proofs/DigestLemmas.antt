@@ -15,8 +15,8 @@ use Rattle.nav_eph.specs.declared.part.Part.{Part}
 use Rattle.nav_eph.specs.declared.part.Body.{Body}
 use Rattle.nav_eph.specs.declared.part.Body.TheVariants.{GpsClock as OfClock, GpsA as OfOrbitA, GpsB as OfOrbitB, GalW1 as OfWord1, GalW2 as OfWord2, GalW3 as OfWord3, GalW4 as OfWord4, GalHealth as OfHealth, GpsIon as OfGpsIon, GalIon as OfGalIon}
 use Rattle.periods.proofs.EndFacts.{Same}
-use Rattle.periods.specs.declared.key.Key.{Key}
-use Rattle.periods.specs.declared.key.Key.TheVariants.{Gps, Gal, GpsIon, GalIon}
+use Rattle.periods.specs.declared.key.PeriodKey.{PeriodKey}
+use Rattle.periods.specs.declared.key.PeriodKey.TheVariants.{Gps, Gal, GpsIon, GalIon}
 use Rattle.periods.specs.declared.key.Transmission.{Transmission}
 use Rattle.periods.specs.declared.digest.Seen.{Seen}
 use Rattle.periods.specs.declared.digest.Seen.TheVariants.{Nothing, One, Different}
@@ -119,15 +119,15 @@ gal_digest-is p = record {
 }
 
 -- the digest of a part of a key is that of the key's form
-digest_is : (p : Part) (key : Key) (d : Digest) → key_of p ≡ Some key → digest_of p ≡ Some d → digest_for (Some key) p ≡ Some d
-digest_is p key d kk dd = sym (ap (λ (o : Option Key). digest_for o p) kk) ∙ dd
+digest_is : (p : Part) (key : PeriodKey) (d : Digest) → key_of p ≡ Some key → digest_of p ≡ Some d → digest_for (Some key) p ≡ Some d
+digest_is p key d kk dd = sym (ap (λ (o : Option PeriodKey). digest_for o p) kk) ∙ dd
 
 ion_form : (p : Part) (o : Option Transmission) (d : Digest) → reading IonTransmission p ≡ o → ion_digest o ≡ Some d
     → (s : Transmission) × (IonForm s ≡ d) × IsFirstBy (IsEarlier transmission_numbers) (HasValue IonTransmission (λ q. q ≡ p)) s
 ion_form p None d e h = absurd (none_some d h)
 ion_form p (Some s) d e h = (s, some_is (IonForm s) d h, just_best IonTransmission (IsEarlier transmission_numbers) (earlier_decides transmission_numbers).irr p (Some s) e)
 
-pub digest_of-is : (p : Part) (key : Key) (d : Digest) → key_of p ≡ Some key → digest_of p ≡ Some d → IsDigest key (λ q. q ≡ p) d
+pub digest_of-is : (p : Part) (key : PeriodKey) (d : Digest) → key_of p ≡ Some key → digest_of p ≡ Some d → IsDigest key (λ q. q ≡ p) d
 digest_of-is p (Gps sat issue) d kk dd =
     subst (λ (x : Digest). IsDigest (Gps sat issue) (λ q. q ≡ p) x) (some_is (GpsForm (gps_digest p)) d (digest_is p (Gps sat issue) d kk dd)) (gps_digest-is p)
 digest_of-is p (Gal sat issue) d kk dd =
@@ -140,7 +140,7 @@ digest_of-is p (GalIon content) d kk dd =
     subst (λ (x : Digest). IsDigest (GalIon content) (λ q. q ≡ p) x) f.1 f.2
 
 -- a part of a key has a digest
-some_digest : (stamp : ℕ) (sat : Satellite) (body : Body) (key : Key) → key_in sat body ≡ Some key → (d : Digest) × (digest_of (part_of stamp sat body) ≡ Some d)
+some_digest : (stamp : ℕ) (sat : Satellite) (body : Body) (key : PeriodKey) → key_in sat body ≡ Some key → (d : Digest) × (digest_of (part_of stamp sat body) ≡ Some d)
 some_digest stamp sat (OfClock c s t) key e = (GpsForm (gps_digest (part_of stamp sat (OfClock c s t))), refl)
 some_digest stamp sat (OfOrbitA o f) key e = (GpsForm (gps_digest (part_of stamp sat (OfOrbitA o f))), refl)
 some_digest stamp sat (OfOrbitB o) key e = (GpsForm (gps_digest (part_of stamp sat (OfOrbitB o))), refl)
@@ -152,12 +152,12 @@ some_digest stamp sat (OfHealth h t) key e = absurd (none_some key e)
 some_digest stamp sat (OfGpsIon i s) key e = (IonForm (record { stamp = stamp; sat = sat; wn = 0; second = s }), refl)
 some_digest stamp sat (OfGalIon i w s) key e = (IonForm (record { stamp = stamp; sat = sat; wn = w; second = s }), refl)
 
-pub digest_some : (p : Part) (key : Key) → key_of p ≡ Some key → (d : Digest) × (digest_of p ≡ Some d)
+pub digest_some : (p : Part) (key : PeriodKey) → key_of p ≡ Some key → (d : Digest) × (digest_of p ≡ Some d)
 digest_some p key e = some_digest p.stamp p.sat p.body key e
 
 -- a part of no key has none
 pub digest_none : (p : Part) → key_of p ≡ None → digest_of p ≡ None
-digest_none p e = ap (λ (o : Option Key). digest_for o p) e
+digest_none p e = ap (λ (o : Option PeriodKey). digest_for o p) e
 
 -- of the union of two sets
 seen_union : (k : Kind) (eq : Value k → Value k → Bool) (exact : IsExact eq) (a b c : Part → Type 0) (x y : Seen (Value k)) → IsUnion a b c
@@ -203,7 +203,7 @@ first_join : (numbers : Transmission → List ℕ) (a b c : Part → Type 0) (x 
 first_join numbers a b c x y u h k =
     chosen (IsEarlier numbers) (HasValue IonTransmission c) x y (earlier numbers y x) (earliest_union IonTransmission numbers a b c (Some x) (Some y) u h k)
 
-pub digest_join-is : (key : Key) (a b c : Part → Type 0) (x y : Digest) → IsUnion a b c → IsDigest key a x → IsDigest key b y → IsDigest key c (digest_join x y)
+pub digest_join-is : (key : PeriodKey) (a b c : Part → Type 0) (x y : Digest) → IsUnion a b c → IsDigest key a x → IsDigest key b y → IsDigest key c (digest_join x y)
 digest_join-is (Gps s i) a b c (GpsForm x) (GpsForm y) u h k = gps_join-is a b c x y u h k
 digest_join-is (Gal s i) a b c (GalForm x) (GalForm y) u h k = gal_join-is a b c x y u h k
 digest_join-is (GpsIon n) a b c (IonForm x) (IonForm y) u h k = first_join transmission_numbers a b c x y u h k
@@ -221,7 +221,7 @@ seen_same k a b x s h = IsSeen-same (HasValue k a) (HasValue k b) x (same_values
 best_same : (k : Kind) (R : Value k → Value k → Type 0) (a b : Part → Type 0) (x : Option (Value k)) → Same a b → IsBest R (HasValue k a) x → IsBest R (HasValue k b) x
 best_same k R a b x s h = let v = same_values k a b s in IsBest-same R (HasValue k a) (HasValue k b) x v.to v.from h
 
-pub IsDigest-same : (key : Key) (a b : Part → Type 0) (d : Digest) → Same a b → IsDigest key a d → IsDigest key b d
+pub IsDigest-same : (key : PeriodKey) (a b : Part → Type 0) (d : Digest) → Same a b → IsDigest key a d → IsDigest key b d
 IsDigest-same (Gps sat issue) a b (GpsForm d) s h = record {
   clock = seen_same Clock a b d.clock s h.clock;
   a = seen_same OrbitA a b d.a s h.a;

@@ -44,10 +44,10 @@ pub between : (w : ℕ) (at : ℕ → Type 0) (e x y : ℕ) → IsEndOf w at e x
 between w at e x y h l k = record { is_end = h.is_end; after = k; first = λ o io m. h.first o io (omega arith) }
 
 -- the stamps have a greatest one, and after each number a next one within the window, or none
-pub record IsKnown (window : ℕ) (heard_at : ℕ → Type 0) : Type 0 where
+pub record IsKnown (window : ℕ) (received_at : ℕ → Type 0) : Type 0 where
   pub greatest : ℕ
-  pub bound : (s : ℕ) → heard_at s → s ≤ greatest
-  pub next : (x : ℕ) → ((y : ℕ) × heard_at y × (x < y) × (y ≤ x + window)) ⊎ ((y : ℕ) → heard_at y → x < y → x + window < y)
+  pub bound : (s : ℕ) → received_at s → s ≤ greatest
+  pub next : (x : ℕ) → ((y : ℕ) × received_at y × (x < y) × (y ≤ x + window)) ⊎ ((y : ℕ) → received_at y → x < y → x + window < y)
 
 pub IsKnown-same : (w : ℕ) (a b : ℕ → Type 0) → Same a b → IsKnown w a → IsKnown w b
 IsKnown-same w a b same k = record {

@@ -13,9 +13,9 @@ use Rattle.nav_eph.specs.declared.part.Body.TheVariants.{GpsClock as OfClock, Gp
 use Rattle.nav_eph.specs.declared.tag.SentTag.TheVariants.{Sent}
 use Rattle.nav_eph.specs.declared.items.SentSecond.TheVariants.{At}
 use Rattle.nav_eph.specs.declared.items.NavItem.TheVariants.{Gps as GpsItem, Ion as IonItem}
-use Rattle.periods.specs.declared.key.Key.TheVariants.{Gps, GpsIon}
+use Rattle.periods.specs.declared.key.PeriodKey.TheVariants.{Gps, GpsIon}
 use Rattle.periods.specs.declared.closed.Verdict.TheVariants.{Whole, Partial}
-use Rattle.gnss_week.specs.Functions.{gps_week_to, moment_near}
+use Rattle.nav_eph.specs.Functions.{gps_week_to, moment_near}
 use Rattle.periods.specs.PeriodsOf.{periods_of}
 
 g05 : Satellite

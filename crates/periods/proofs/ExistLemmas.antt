@@ -6,8 +6,8 @@ use Rattle.std.proofs.lemmas.List.Elements.{All-contains, Contains-append_left, 
 use Rattle.nav_eph.specs.declared.part.Part.{Part}
 use Rattle.periods.proofs.EndFacts.{In, In-from_contains, contains_from_In}
 use Rattle.periods.proofs.EndFacts.{Same}
-use Rattle.periods.specs.declared.key.Key.{Key}
-use Rattle.periods.specs.declared.key.Place.{Place}
+use Rattle.periods.specs.declared.key.PeriodKey.{PeriodKey}
+use Rattle.periods.specs.declared.key.PeriodId.{PeriodId}
 use Rattle.periods.specs.declared.closed.Closed.{Closed}
 use Rattle.nav_eph.specs.Values.{IsPartValue}
 use Rattle.periods.specs.Parts.{key_of}
@@ -35,7 +35,7 @@ insert_all : (P : Closed → Type 0) (c : Closed) (ds : List Closed) → P c →
 insert_all P c [] hc h = (hc, tt)
 insert_all P c (d ∷ ds) hc h = insert_all-at P c d ds (is_before (closed_place c) (closed_place d)) (is_before (closed_place d) (closed_place c)) hc h.0 h.1 (insert_all P c ds hc h.1)
 
-is_before-true : (a b : Place) → is_before a b ≡ true → IsBefore a b
+is_before-true : (a b : PeriodId) → is_before a b ≡ true → IsBefore a b
 is_before-true a b e = is_below-true (place_numbers a) (place_numbers b) e
 
 insert_ascending-at : (c d : Closed) (ds : List Closed) (t u : Bool) → is_before (closed_place c) (closed_place d) ≡ t → is_before (closed_place d) (closed_place c) ≡ u
@@ -61,10 +61,10 @@ insert_keeps c x [] i = absurd i
 insert_keeps c x (d ∷ ds) i = insert_keeps-at c d x ds (is_before (closed_place c) (closed_place d)) (is_before (closed_place d) (closed_place c)) i (λ j. insert_keeps c x ds j)
 
 -- the list has a period at the place
-abbrev pub StandsIn : List Closed → Place → Type 0
+abbrev pub StandsIn : List Closed → PeriodId → Type 0
 StandsIn xs q = (c : Closed) × In xs c × (closed_place c ≡ q)
 
-not_before : (a b : Place) → is_before a b ≡ false → IsBefore a b → ⊥
+not_before : (a b : PeriodId) → is_before a b ≡ false → IsBefore a b → ⊥
 not_before a b e h = both_ways (is_before a b) e (below-is_below (place_numbers a) (place_numbers b) h)
 
 insert_stands-at : (c d : Closed) (ds : List Closed) (t u : Bool) → is_before (closed_place c) (closed_place d) ≡ t → is_before (closed_place d) (closed_place c) ≡ u
@@ -79,35 +79,35 @@ insert_stands c [] vc h = (c, inl refl, refl)
 insert_stands c (d ∷ ds) vc h = insert_stands-at c d ds (is_before (closed_place c) (closed_place d)) (is_before (closed_place d) (closed_place c)) refl refl vc h.0 (insert_stands c ds vc h.1)
 
 -- the place of a part
-place_in-is : (stamp : ℕ) (o : Option Key) (q : Place) → place_in stamp o ≡ Some q → (o ≡ Some q.key) × (stamp ≡ q.end)
+place_in-is : (stamp : ℕ) (o : Option PeriodKey) (q : PeriodId) → place_in stamp o ≡ Some q → (o ≡ Some q.key) × (stamp ≡ q.end)
 place_in-is stamp None q e = absurd (none_some q e)
-place_in-is stamp (Some key) q e = let f = some_is (record { end = stamp; key = key }) q e in (ap (λ (x : Place). Some x.key) f, ap (λ (x : Place). x.end) f)
+place_in-is stamp (Some key) q e = let f = some_is (record { end = stamp; key = key }) q e in (ap (λ (x : PeriodId). Some x.key) f, ap (λ (x : PeriodId). x.end) f)
 
-pub place_at-is : (p : Part) (q : Place) → place_at p ≡ Some q → (key_of p ≡ Some q.key) × (p.stamp ≡ q.end)
+pub place_at-is : (p : Part) (q : PeriodId) → place_at p ≡ Some q → (key_of p ≡ Some q.key) × (p.stamp ≡ q.end)
 place_at-is p q e = place_in-is p.stamp (key_of p) q e
 
-pub is-place_at : (p : Part) (q : Place) → key_of p ≡ Some q.key → p.stamp ≡ q.end → place_at p ≡ Some q
+pub is-place_at : (p : Part) (q : PeriodId) → key_of p ≡ Some q.key → p.stamp ≡ q.end → place_at p ≡ Some q
 is-place_at p q k s = ap (place_in p.stamp) k ∙ ap (λ (x : ℕ). Some (place_with x q.key)) s
   where
-    place_with : ℕ → Key → Place
+    place_with : ℕ → PeriodKey → PeriodId
     place_with x key = record { end = x; key = key }
 
 -- each element of the list is a period of the parts
-all_if : (Is : Closed → Type 0) (r w : ℕ) (parts : List Part) (q : Place) (p : Part) (cs : List Closed) (t : Bool)
-    → ((z : Place) → IsPeriod w (Contains parts) z → Is (closed_with z (verdict_at r w parts z))) → quiet parts w q.key q.end ≡ t → In parts p → place_at p ≡ Some q
+all_if : (Is : Closed → Type 0) (r w : ℕ) (parts : List Part) (q : PeriodId) (p : Part) (cs : List Closed) (t : Bool)
+    → ((z : PeriodId) → IsPeriod w (Contains parts) z → Is (closed_with z (verdict_at r w parts z))) → quiet parts w q.key q.end ≡ t → In parts p → place_at p ≡ Some q
     → AllByRecursion Is cs → AllByRecursion Is (if t then insert (closed_with q (verdict_at r w parts q)) cs else cs)
 all_if Is r w parts q p cs true is et i e h =
     let f = place_at-is p q e in
     insert_all Is (closed_with q (verdict_at r w parts q)) cs (is q (end_from_quiet w parts q.key q.end p (contains_from_In parts p i) f.0 f.1 et)) h
 all_if Is r w parts q p cs false is et i e h = h
 
-all_at : (Is : Closed → Type 0) (r w : ℕ) (parts : List Part) (p : Part) (o : Option Place) (cs : List Closed)
-    → ((z : Place) → IsPeriod w (Contains parts) z → Is (closed_with z (verdict_at r w parts z))) → place_at p ≡ o → In parts p
+all_at : (Is : Closed → Type 0) (r w : ℕ) (parts : List Part) (p : Part) (o : Option PeriodId) (cs : List Closed)
+    → ((z : PeriodId) → IsPeriod w (Contains parts) z → Is (closed_with z (verdict_at r w parts z))) → place_at p ≡ o → In parts p
     → AllByRecursion Is cs → AllByRecursion Is (insert_at r w parts o cs)
 all_at Is r w parts p None cs is e i h = h
 all_at Is r w parts p (Some q) cs is e i h = all_if Is r w parts q p cs (quiet parts w q.key q.end) is refl i e h
 
-ending_all : (Is : Closed → Type 0) (r w : ℕ) (parts ps : List Part) → ((z : Place) → IsPeriod w (Contains parts) z → Is (closed_with z (verdict_at r w parts z)))
+ending_all : (Is : Closed → Type 0) (r w : ℕ) (parts ps : List Part) → ((z : PeriodId) → IsPeriod w (Contains parts) z → Is (closed_with z (verdict_at r w parts z)))
     → ((p : Part) → In ps p → In parts p) → AllByRecursion Is (periods_ending r w parts ps)
 ending_all Is r w parts [] is within = tt
 ending_all Is r w parts (p ∷ ps) is within =
@@ -130,7 +130,7 @@ ascending_if : (c : Closed) (cs : List Closed) (t : Bool) → IsAscending cs →
 ascending_if c cs true h = insert_ascending c cs h
 ascending_if c cs false h = h
 
-ascending_at : (r w : ℕ) (parts : List Part) (o : Option Place) (cs : List Closed) → IsAscending cs → IsAscending (insert_at r w parts o cs)
+ascending_at : (r w : ℕ) (parts : List Part) (o : Option PeriodId) (cs : List Closed) → IsAscending cs → IsAscending (insert_at r w parts o cs)
 ascending_at r w parts None cs h = h
 ascending_at r w parts (Some q) cs h = ascending_if (closed_with q (verdict_at r w parts q)) cs (quiet parts w q.key q.end) h
 
@@ -143,7 +143,7 @@ keeps_if : (c x : Closed) (cs : List Closed) (t : Bool) → In cs x → In (if t
 keeps_if c x cs true i = insert_keeps c x cs i
 keeps_if c x cs false i = i
 
-keeps_at : (r w : ℕ) (parts : List Part) (o : Option Place) (x : Closed) (cs : List Closed) → In cs x → In (insert_at r w parts o cs) x
+keeps_at : (r w : ℕ) (parts : List Part) (o : Option PeriodId) (x : Closed) (cs : List Closed) → In cs x → In (insert_at r w parts o cs) x
 keeps_at r w parts None x cs i = i
 keeps_at r w parts (Some q) x cs i = keeps_if (closed_with q (verdict_at r w parts q)) x cs (quiet parts w q.key q.end) i
 
@@ -151,16 +151,16 @@ stands_if : (c : Closed) (cs : List Closed) (t : Bool) → t ≡ true → IsKeyV
 stands_if c cs true e v h = insert_stands c cs v h
 stands_if c cs false e v h = absurd (both_ways false refl e)
 
-stands_at : (r w : ℕ) (parts : List Part) (q : Place) (o : Option Place) (cs : List Closed) → o ≡ Some q → IsKeyValue q.key → AllByRecursion (λ d. IsKeyValue d.key) cs → quiet parts w q.key q.end ≡ true
+stands_at : (r w : ℕ) (parts : List Part) (q : PeriodId) (o : Option PeriodId) (cs : List Closed) → o ≡ Some q → IsKeyValue q.key → AllByRecursion (λ d. IsKeyValue d.key) cs → quiet parts w q.key q.end ≡ true
     → StandsIn (insert_at r w parts o cs) q
 stands_at r w parts q o cs e v h t =
-    subst (λ (x : Option Place). StandsIn (insert_at r w parts x cs) q) (sym e) (stands_if (closed_with q (verdict_at r w parts q)) cs (quiet parts w q.key q.end) t v h)
+    subst (λ (x : Option PeriodId). StandsIn (insert_at r w parts x cs) q) (sym e) (stands_if (closed_with q (verdict_at r w parts q)) cs (quiet parts w q.key q.end) t v h)
 
 -- the key of a period is one of a part
-pub period_key : (w : ℕ) (parts : Part → Type 0) (q : Place) → ((p : Part) → parts p → IsPartValue p) → IsPeriod w parts q → IsKeyValue q.key
+pub period_key : (w : ℕ) (parts : Part → Type 0) (q : PeriodId) → ((p : Part) → parts p → IsPartValue p) → IsPeriod w parts q → IsKeyValue q.key
 period_key w parts q values h = key_value h.heard.part q.key (values h.heard.part h.heard.here) h.heard.of_key
 
-ending_every : (r w : ℕ) (parts ps : List Part) (q : Place) (p : Part) → ((x : Part) → Contains parts x → IsPartValue x) → ((x : Part) → In ps x → In parts x) → IsPeriod w (Contains parts) q → In ps p
+ending_every : (r w : ℕ) (parts ps : List Part) (q : PeriodId) (p : Part) → ((x : Part) → Contains parts x → IsPartValue x) → ((x : Part) → In ps x → In parts x) → IsPeriod w (Contains parts) q → In ps p
     → key_of p ≡ Some q.key → p.stamp ≡ q.end → StandsIn (periods_ending r w parts ps) q
 ending_every r w parts [] q p values within h i k s = absurd i
 ending_every r w parts (x ∷ xs) q p values within h (inl e) k s =

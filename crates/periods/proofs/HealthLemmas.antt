@@ -7,8 +7,8 @@ use Rattle.nav_eph.specs.declared.tag.SentTag.{SentTag}
 use Rattle.nav_eph.specs.declared.part.Part.{Part}
 use Rattle.periods.proofs.EndFacts.{Same}
 use Rattle.periods.proofs.EndFacts.{In-from_contains, contains_from_In}
-use Rattle.periods.specs.declared.key.Key.{Key}
-use Rattle.periods.specs.declared.key.Key.TheVariants.{Gps, Gal, GpsIon, GalIon}
+use Rattle.periods.specs.declared.key.PeriodKey.{PeriodKey}
+use Rattle.periods.specs.declared.key.PeriodKey.TheVariants.{Gps, Gal, GpsIon, GalIon}
 use Rattle.periods.specs.Values.{IsBest, IsEarlier, IsLater}
 use Rattle.periods.specs.Parts.{HealthOf, health_numbers}
 use Rattle.periods.specs.Readings.{reading}
@@ -64,11 +64,11 @@ best_health before behind None (Some y) h k = inr (h, k)
 best_health before behind (Some x) y h k = inl h
 
 -- keys other than of Galileo ephemerides take no health
-pub no_health : (w : ℕ) (parts : Part → Type 0) (key : Key) (e : ℕ) → ((h : ℕ × GalHealth × SentTag) → HasHealth key parts h → ⊥)
+pub no_health : (w : ℕ) (parts : Part → Type 0) (key : PeriodKey) (e : ℕ) → ((h : ℕ × GalHealth × SentTag) → HasHealth key parts h → ⊥)
     → IsBestHealth (IsUpToEnd w parts key e) (IsBehindEnd w parts key e) None
 no_health w parts key e none = (λ v h. none v h.heard, λ v h. none v h.heard)
 
-pub health_at-is : (window : ℕ) (parts : List Part) (key : Key) (e : ℕ)
+pub health_at-is : (window : ℕ) (parts : List Part) (key : PeriodKey) (e : ℕ)
     → IsBestHealth (IsUpToEnd window (Contains parts) key e) (IsBehindEnd window (Contains parts) key e) (health_at window parts key e)
 health_at-is window parts (Gal sat issue) e =
     let s = up_to_end_set window parts sat issue e in

@@ -14,9 +14,9 @@ use Rattle.nav_eph.specs.contracts.ion.GalIonPartialEq.TheImpl.{eq-value as gal_
 use Rattle.nav_eph.specs.declared.part.Part.{Part}
 use Rattle.nav_eph.specs.declared.part.Body.{Body}
 use Rattle.nav_eph.specs.declared.part.Body.TheVariants.{GpsClock as OfClock, GpsA as OfOrbitA, GpsB as OfOrbitB, GalW1 as OfWord1, GalW2 as OfWord2, GalW3 as OfWord3, GalW4 as OfWord4, GalHealth as OfHealth, GpsIon as OfGpsIon, GalIon as OfGalIon}
-use Rattle.periods.specs.declared.key.Key.{Key}
-use Rattle.periods.specs.declared.key.Key.TheVariants.{Gps, Gal, GpsIon, GalIon}
-use Rattle.periods.specs.declared.key.Place.{Place}
+use Rattle.periods.specs.declared.key.PeriodKey.{PeriodKey}
+use Rattle.periods.specs.declared.key.PeriodKey.TheVariants.{Gps, Gal, GpsIon, GalIon}
+use Rattle.periods.specs.declared.key.PeriodId.{PeriodId}
 use Rattle.nav_eph.specs.Values.{IsPartValue}
 use Rattle.periods.specs.Parts.{key_in, key_of}
 use Rattle.periods.specs.Readings.{same_sat}
@@ -64,7 +64,7 @@ is-same_gal_ion a = (gal_ion_decided a a).1 refl
 false_true : {A : Type 0} → false ≡ true → A
 false_true e = absurd (both_ways false refl e)
 
-pub same_key-is : (a b : Key) → same_key a b ≡ true → a ≡ b
+pub same_key-is : (a b : PeriodKey) → same_key a b ≡ true → a ≡ b
 same_key-is (Gps s i) (Gps t j) h =
     let p = and_parts (same_sat s t) (i == j) h in let e = same_sat-is s t p.0 in let f = eqb-true i j p.1 in λ k. Gps (e k) (f k)
 same_key-is (Gal s i) (Gal t j) h =
@@ -73,39 +73,39 @@ same_key-is (GpsIon a) (GpsIon b) h = ap GpsIon (same_gps_ion a b h)
 same_key-is (GalIon a) (GalIon b) h = ap GalIon (same_gal_ion a b h)
 same_key-is a b h = false_true h
 
-pub is-same_key : (a : Key) → same_key a a ≡ true
+pub is-same_key : (a : PeriodKey) → same_key a a ≡ true
 is-same_key (Gps s i) = and_from (same_sat s s) (i == i) (is-same_sat s) (eq-eqb i i refl)
 is-same_key (Gal s i) = and_from (same_sat s s) (i == i) (is-same_sat s) (eq-eqb i i refl)
 is-same_key (GpsIon a) = is-same_gps_ion a
 is-same_key (GalIon a) = is-same_gal_ion a
 
 -- equality of keys is decidable
-pub cases_key : (a b : Key) → (a ≡ b) ⊎ (a ≡ b → ⊥)
+pub cases_key : (a b : PeriodKey) → (a ≡ b) ⊎ (a ≡ b → ⊥)
 cases_key a b = told (same_key a b) refl
   where
     told : (t : Bool) → same_key a b ≡ t → (a ≡ b) ⊎ (a ≡ b → ⊥)
     told true e = inl (same_key-is a b e)
-    told false e = inr (λ same. both_ways (same_key a b) e (subst (λ (k : Key). same_key a k ≡ true) same (is-same_key a)))
+    told false e = inr (λ same. both_ways (same_key a b) e (subst (λ (k : PeriodKey). same_key a k ≡ true) same (is-same_key a)))
 
-is_key-is : (o : Option Key) (key : Key) → is_key o key ≡ true → o ≡ Some key
+is_key-is : (o : Option PeriodKey) (key : PeriodKey) → is_key o key ≡ true → o ≡ Some key
 is_key-is None key h = false_true h
 is_key-is (Some k) key h = ap Some (same_key-is k key h)
 
 -- the test of a part's key
-pub is_of-is : (key : Key) (p : Part) → is_of key p ≡ true → key_of p ≡ Some key
+pub is_of-is : (key : PeriodKey) (p : Part) → is_of key p ≡ true → key_of p ≡ Some key
 is_of-is key p h = is_key-is (key_of p) key h
 
-pub is-is_of : (key : Key) (p : Part) → key_of p ≡ Some key → is_of key p ≡ true
-is-is_of key p e = subst (λ (o : Option Key). is_key o key ≡ true) (sym e) (is-same_key key)
+pub is-is_of : (key : PeriodKey) (p : Part) → key_of p ≡ Some key → is_of key p ≡ true
+is-is_of key p e = subst (λ (o : Option PeriodKey). is_key o key ≡ true) (sym e) (is-same_key key)
 
 -- the content of an ionosphere key is within its ranges
-abbrev pub IsKeyValue : Key → Type 0
+abbrev pub IsKeyValue : PeriodKey → Type 0
 IsKeyValue (Gps s i) = Unit {0}
 IsKeyValue (Gal s i) = Unit {0}
 IsKeyValue (GpsIon a) = IsGpsIon a
 IsKeyValue (GalIon a) = IsGalIon a
 
-key_value_in : (sat : Satellite) (body : Body) (key : Key) → IsBodyValue body → key_in sat body ≡ Some key → IsKeyValue key
+key_value_in : (sat : Satellite) (body : Body) (key : PeriodKey) → IsBodyValue body → key_in sat body ≡ Some key → IsKeyValue key
 key_value_in sat (OfClock c s t) key v e = subst IsKeyValue (some_is _ key e) tt
 key_value_in sat (OfOrbitA o f) key v e = subst IsKeyValue (some_is _ key e) tt
 key_value_in sat (OfOrbitB o) key v e = subst IsKeyValue (some_is _ key e) tt
@@ -117,11 +117,11 @@ key_value_in sat (OfHealth h t) key v e = absurd (none_some key e)
 key_value_in sat (OfGpsIon i s) key v e = subst IsKeyValue (some_is (GpsIon i) key e) v.0
 key_value_in sat (OfGalIon i w s) key v e = subst IsKeyValue (some_is (GalIon i) key e) v.0
 
-pub key_value : (p : Part) (key : Key) → IsPartValue p → key_of p ≡ Some key → IsKeyValue key
+pub key_value : (p : Part) (key : PeriodKey) → IsPartValue p → key_of p ≡ Some key → IsKeyValue key
 key_value p key v e = key_value_in p.sat p.body key v.body e
 
 -- keys with the same numbers are equal
-same_numbers_key : (a b : Key) → IsKeyValue a → IsKeyValue b → key_numbers a ≡ key_numbers b → a ≡ b
+same_numbers_key : (a b : PeriodKey) → IsKeyValue a → IsKeyValue b → key_numbers a ≡ key_numbers b → a ≡ b
 same_numbers_key (Gps s i) (Gps t j) v w h =
     let e = satellite_is s t (same_system s.system t.system (heads (tails h))) (heads (tails (tails h))) in let f = heads (tails (tails (tails h))) in λ k. Gps (e k) (f k)
 same_numbers_key (Gal s i) (Gal t j) v w h =
@@ -131,7 +131,7 @@ same_numbers_key (GalIon a) (GalIon b) v w h = ap GalIon (one_galileo_ionosphere
 same_numbers_key a b v w h = absurd (let z = heads h in omega arith)
 
 -- of two places one is before the other, or they are the same
-pub cases_place : (a b : Place) → IsKeyValue a.key → IsKeyValue b.key → IsBefore a b ⊎ ((a ≡ b) ⊎ IsBefore b a)
+pub cases_place : (a b : PeriodId) → IsKeyValue a.key → IsKeyValue b.key → IsBefore a b ⊎ ((a ≡ b) ⊎ IsBefore b a)
 cases_place a b v w = elim (trichotomy (place_numbers a) (place_numbers b)) [
   | inl l ↦ inl l
   | inr o ↦ elim o [
@@ -140,7 +140,7 @@ cases_place a b v w = elim (trichotomy (place_numbers a) (place_numbers b)) [
   ]
 ]
 
-pub same_place : (a b : Place) → IsKeyValue a.key → IsKeyValue b.key → (IsBefore a b → ⊥) → (IsBefore b a → ⊥) → a ≡ b
+pub same_place : (a b : PeriodId) → IsKeyValue a.key → IsKeyValue b.key → (IsBefore a b → ⊥) → (IsBefore b a → ⊥) → a ≡ b
 same_place a b v w none nor = elim (cases_place a b v w) [
   | inl l ↦ absurd (none l)
   | inr o ↦ elim o [ inl e ↦ e | inr g ↦ absurd (nor g) ]

@@ -11,8 +11,8 @@ use Rattle.nav_eph.specs.declared.galileo.GalWord2.{GalWord2}
 use Rattle.nav_eph.specs.declared.galileo.GalWord3.{GalWord3}
 use Rattle.nav_eph.specs.declared.galileo.GalWord4.{GalWord4}
 use Rattle.nav_eph.specs.declared.tag.SentTag.{SentTag}
-use Rattle.periods.specs.declared.key.Key.{Key}
-use Rattle.periods.specs.declared.key.Key.TheVariants.{Gps, Gal, GpsIon, GalIon}
+use Rattle.periods.specs.declared.key.PeriodKey.{PeriodKey}
+use Rattle.periods.specs.declared.key.PeriodKey.TheVariants.{Gps, Gal, GpsIon, GalIon}
 use Rattle.periods.specs.declared.closed.Finding.{Finding}
 use Rattle.periods.specs.declared.closed.Finding.TheVariants.{Differs, Misses}
 use Rattle.periods.specs.declared.digest.Seen.{Seen}
@@ -50,7 +50,7 @@ missing : (b w : Bool) (f : Finding) → (if b then false else w) ≡ true → (
 missing true w f e h = absurd (cc)
 missing false w f e h = h e
 
-pub gps_lacking : (d : GpsDigest) → gps_lacks d ≡ true → (r : ℕ) (key : Key) (health : Option (ℕ × GalHealth × SentTag)) → digest_finding r key (GpsForm d) health ≡ Misses
+pub gps_lacking : (d : GpsDigest) → gps_lacks d ≡ true → (r : ℕ) (key : PeriodKey) (health : Option (ℕ × GalHealth × SentTag)) → digest_finding r key (GpsForm d) health ≡ Misses
 gps_lacking d e r (Gps sat issue) health =
     missing (seen_differs d.clock || (seen_differs d.a || seen_differs d.b)) (seen_nothing d.clock || (seen_nothing d.a || seen_nothing d.b)) _ e
     (gps_misses r sat d.clock d.a d.b d.side d.fit (or_else d.sent d.toe))
@@ -58,7 +58,7 @@ gps_lacking d e r (Gal sat issue) health = refl
 gps_lacking d e r (GpsIon content) health = refl
 gps_lacking d e r (GalIon content) health = refl
 
-pub gal_lacking : (d : GalDigest) → gal_lacks d ≡ true → (r : ℕ) (key : Key) (health : Option (ℕ × GalHealth × SentTag)) → digest_finding r key (GalForm d) health ≡ Misses
+pub gal_lacking : (d : GalDigest) → gal_lacks d ≡ true → (r : ℕ) (key : PeriodKey) (health : Option (ℕ × GalHealth × SentTag)) → digest_finding r key (GalForm d) health ≡ Misses
 gal_lacking d e r (Gal sat issue) health =
     missing (seen_differs d.w1 || (seen_differs d.w2 || (seen_differs d.w3 || seen_differs d.w4))) (seen_nothing d.w1 || (seen_nothing d.w2 || (seen_nothing d.w3 || seen_nothing d.w4))) _ e
     (gal_misses r sat d.w1 d.w2 d.w3 d.w4 health)

@@ -5,9 +5,9 @@ use Rattle.nav_eph.specs.Items.{IsAlike}
 use Rattle.nav_eph.specs.declared.items.NavItem.{NavItem}
 use Rattle.nav_eph.specs.declared.part.Part.{Part}
 use Rattle.periods.proofs.EndFacts.{In-from_contains, contains_from_In}
-use Rattle.periods.specs.declared.key.Key.{Key}
-use Rattle.periods.specs.declared.key.Key.TheVariants.{Gps, Gal, GpsIon, GalIon}
-use Rattle.periods.specs.declared.key.Place.{Place}
+use Rattle.periods.specs.declared.key.PeriodKey.{PeriodKey}
+use Rattle.periods.specs.declared.key.PeriodKey.TheVariants.{Gps, Gal, GpsIon, GalIon}
+use Rattle.periods.specs.declared.key.PeriodId.{PeriodId}
 use Rattle.periods.specs.declared.closed.Finding.{Finding}
 use Rattle.periods.specs.declared.closed.Finding.TheVariants.{Differs, Misses, LacksHealth, Complete}
 use Rattle.periods.specs.declared.closed.Verdict.TheVariants.{Whole, Again}
@@ -32,19 +32,19 @@ complete_has LacksHealth e = absurd (both_ways false refl e)
 complete_has (Complete item) e = (item, refl)
 
 -- a complete period of the key that ends below another end
-pub record IsCompleteBelow (r w : ℕ) (parts : Part → Type 0) (key : Key) (e s : ℕ) : Type 0 where
+pub record IsCompleteBelow (r w : ℕ) (parts : Part → Type 0) (key : PeriodKey) (e s : ℕ) : Type 0 where
   pub item : NavItem
   pub complete : IsComplete r w parts key s item
   pub below : s < e
 
 -- the finding of a complete period is its item
-found_item : (r w : ℕ) (parts : List Part) (key : Key) (s : ℕ) (item : NavItem) → ((p : Part) → Contains parts p → IsPartValue p)
+found_item : (r w : ℕ) (parts : List Part) (key : PeriodKey) (s : ℕ) (item : NavItem) → ((p : Part) → Contains parts p → IsPartValue p)
     → IsComplete r w (Contains parts) key s item → finding_at r w parts (end_place key s) ≡ Complete item
 found_item r w parts key s item values h =
     IsFound-one r w (Contains parts) (end_place key s) (finding_at r w parts (end_place key s)) (Complete item) values
     (finding_at-is r w parts (end_place key s) h.period) h.found
 
-passing_complete : (r w : ℕ) (parts : List Part) (key : Key) (e s : ℕ)
+passing_complete : (r w : ℕ) (parts : List Part) (key : PeriodKey) (e s : ℕ)
     → Passing (stamp_of key) (complete_below r w parts key e) parts s → IsCompleteBelow r w (Contains parts) key e s
 passing_complete r w parts key e s h =
     let f = stamp_of-is key h.element s h.is in
@@ -61,7 +61,7 @@ passing_complete r w parts key e s h =
       below = ltb-true s e u.0;
     }
 
-complete_passing : (r w : ℕ) (parts : List Part) (key : Key) (e s : ℕ) → ((p : Part) → Contains parts p → IsPartValue p)
+complete_passing : (r w : ℕ) (parts : List Part) (key : PeriodKey) (e s : ℕ) → ((p : Part) → Contains parts p → IsPartValue p)
     → IsCompleteBelow r w (Contains parts) key e s → Passing (stamp_of key) (complete_below r w parts key e) parts s
 complete_passing r w parts key e s values h =
     let p = h.complete.period.heard in
@@ -74,7 +74,7 @@ complete_passing r w parts key e s values h =
           (ap is_complete (found_item r w parts key s h.item values h.complete));
     }
 
-complete_before-is : (r w : ℕ) (parts : List Part) (key : Key) (e : ℕ) → ((p : Part) → Contains parts p → IsPartValue p)
+complete_before-is : (r w : ℕ) (parts : List Part) (key : PeriodKey) (e : ℕ) → ((p : Part) → Contains parts p → IsPartValue p)
     → IsBest IsAbove (IsCompleteBelow r w (Contains parts) key e) (complete_before r w parts key e)
 complete_before-is r w parts key e values =
     IsBest-same IsAbove (Passing (stamp_of key) (complete_below r w parts key e) parts) (IsCompleteBelow r w (Contains parts) key e) (complete_before r w parts key e)
@@ -82,11 +82,11 @@ complete_before-is r w parts key e values =
     (best_among-is (stamp_of key) (complete_below r w parts key e) (λ a b. nat_lt b a) IsAbove above_decides parts)
 
 -- the item of the key's last complete period before, or none
-abbrev pub IsKnownBefore : ℕ → ℕ → (Part → Type 0) → Key → ℕ → Option NavItem → Type 0
+abbrev pub IsKnownBefore : ℕ → ℕ → (Part → Type 0) → PeriodKey → ℕ → Option NavItem → Type 0
 IsKnownBefore r w parts key e None = (s : ℕ) (item : NavItem) → IsComplete r w parts key s item → s < e → ⊥
 IsKnownBefore r w parts key e (Some item) = IsLastBefore r w parts key e item
 
-known_at : (r w : ℕ) (parts : List Part) (key : Key) (e : ℕ) (o : Option ℕ) → ((p : Part) → Contains parts p → IsPartValue p)
+known_at : (r w : ℕ) (parts : List Part) (key : PeriodKey) (e : ℕ) (o : Option ℕ) → ((p : Part) → Contains parts p → IsPartValue p)
     → IsBest IsAbove (IsCompleteBelow r w (Contains parts) key e) o → IsKnownBefore r w (Contains parts) key e (item_at r w parts key o)
 known_at r w parts key e None values b = λ s item c l. b s (record { item = item; complete = c; below = l })
 known_at r w parts key e (Some s) values b =
@@ -100,7 +100,7 @@ known_at r w parts key e (Some s) values b =
       ];
     })
 
-pub last_item-is : (r w : ℕ) (parts : List Part) (key : Key) (e : ℕ) → ((p : Part) → Contains parts p → IsPartValue p)
+pub last_item-is : (r w : ℕ) (parts : List Part) (key : PeriodKey) (e : ℕ) → ((p : Part) → Contains parts p → IsPartValue p)
     → IsKnownBefore r w (Contains parts) key e (last_item r w parts key e)
 last_item-is r w parts key e values =
     known_at r w parts key e (complete_before r w parts key e) values (complete_before-is r w parts key e values)
@@ -110,7 +110,7 @@ abbrev pub Compares : (NavItem → Type 0) → Option NavItem → Type 0
 Compares repeats None = (item : NavItem) → repeats item → ⊥
 Compares repeats (Some before) = (item : NavItem) → repeats item ↔ IsAlike before item
 
-pub compares_known : (r w : ℕ) (parts : Part → Type 0) (key : Key) (e : ℕ) (o : Option NavItem) → ((p : Part) → parts p → IsPartValue p)
+pub compares_known : (r w : ℕ) (parts : Part → Type 0) (key : PeriodKey) (e : ℕ) (o : Option NavItem) → ((p : Part) → parts p → IsPartValue p)
     → IsOfEphemeris key → IsKnownBefore r w parts key e o → Compares (Repeats r w parts (end_place key e)) o
 compares_known r w parts key e None values eph h = λ item k. h k.is_before.at k.before k.is_before.complete k.is_before.earlier
 compares_known r w parts key e (Some before) values eph h = λ item. (
@@ -118,7 +118,7 @@ compares_known r w parts key e (Some before) values eph h = λ item. (
   λ alike. record { ephemeris = eph; before = before; is_before = h; alike = alike },
 )
 
-compares_before : (r w : ℕ) (parts : List Part) (key : Key) (e : ℕ) → ((p : Part) → Contains parts p → IsPartValue p)
+compares_before : (r w : ℕ) (parts : List Part) (key : PeriodKey) (e : ℕ) → ((p : Part) → Contains parts p → IsPartValue p)
     → Compares (Repeats r w (Contains parts) (end_place key e)) (item_before r w parts key e)
 compares_before r w parts (Gps sat i) e values =
     compares_known r w (Contains parts) (Gps sat i) e (last_item r w parts (Gps sat i) e) values tt (last_item-is r w parts (Gps sat i) e values)
@@ -140,7 +140,7 @@ judged_by repeats o LacksHealth h = refl
 judged_by repeats None (Complete item) h = inr (h item, refl)
 judged_by repeats (Some before) (Complete item) h = judged_item repeats before item (is_alike before item) refl (h item)
 
-pub verdict_at-is : (r w : ℕ) (parts : List Part) (q : Place) → ((p : Part) → Contains parts p → IsPartValue p)
+pub verdict_at-is : (r w : ℕ) (parts : List Part) (q : PeriodId) → ((p : Part) → Contains parts p → IsPartValue p)
     → IsPeriod w (Contains parts) q → IsVerdict r w (Contains parts) q (verdict_at r w parts q)
 verdict_at-is r w parts q values hq = record {
   finding = finding_at r w parts q;

@@ -7,7 +7,7 @@ use Rattle.nav_eph.specs.declared.items.NavItem.{NavItem}
 use Rattle.nav_eph.specs.declared.part.Part.{Part}
 use Rattle.periods.proofs.EndFacts.{In, In-from_contains, contains_from_In}
 use Rattle.periods.proofs.EndFacts.{Same}
-use Rattle.periods.specs.declared.key.Place.{Place}
+use Rattle.periods.specs.declared.key.PeriodId.{PeriodId}
 use Rattle.periods.specs.declared.closed.Closed.{Closed}
 use Rattle.nav_eph.specs.Values.{IsPartValue}
 use Rattle.periods.specs.Periods.{IsPeriod, IsBefore, place_numbers}
@@ -18,14 +18,14 @@ use Rattle.periods.proofs.PeriodLemmas.{IsPeriod-same}
 use Rattle.periods.proofs.VerdictLemmas.{IsClosed-same, IsClosed-one}
 use Rattle.periods.proofs.EndFacts.{same_sym}
 
-pub before_irr : (a : Place) → IsBefore a a → ⊥
+pub before_irr : (a : PeriodId) → IsBefore a a → ⊥
 before_irr a h = irreflexive (place_numbers a) h
 
-pub before_trans : (a b c : Place) → IsBefore a b → IsBefore b c → IsBefore a c
+pub before_trans : (a b c : PeriodId) → IsBefore a b → IsBefore b c → IsBefore a c
 before_trans a b c h k = transitive (place_numbers a) (place_numbers b) (place_numbers c) h k
 
 -- the first of two places ends no later
-pub before_end : (a b : Place) → IsBefore a b → a.end ≤ b.end
+pub before_end : (a b : PeriodId) → IsBefore a b → a.end ≤ b.end
 before_end a b (inl l) = omega arith
 before_end a b (inr e) = omega (arith, e.0)
 
@@ -63,9 +63,9 @@ ascending_one (x ∷ xs) (y ∷ ys) ax ay to from =
     λ i. e i ∷ rest i
 
 -- two lists of exactly the same periods have the same elements
-one_of_kind : (Here : Place → Type 0) (Is : Closed → Type 0) (xs ys : List Closed) → ((c d : Closed) → closed_place c ≡ closed_place d → Is c → Is d → c ≡ d)
+one_of_kind : (Here : PeriodId → Type 0) (Is : Closed → Type 0) (xs ys : List Closed) → ((c d : Closed) → closed_place c ≡ closed_place d → Is c → Is d → c ≡ d)
     → ((c : Closed) → Contains xs c → Is c × Here (closed_place c)) → ((c : Closed) → Contains ys c → Is c)
-    → ((q : Place) → Here q → (d : Closed) × Contains ys d × (closed_place d ≡ q)) → (c : Closed) → In xs c → In ys c
+    → ((q : PeriodId) → Here q → (d : Closed) × Contains ys d × (closed_place d ≡ q)) → (c : Closed) → In xs c → In ys c
 one_of_kind Here Is xs ys one each other every c i =
     let e = each c (contains_from_In xs c i) in
     let d = every (closed_place c) e.1 in
@@ -79,7 +79,7 @@ ArePeriods-one r w parts xs ys values hx hy =
     (one_of_kind (IsPeriod w parts) (IsClosed r w parts) ys xs one (λ c i. let k = hy.each c i in (k, k.period)) hx.each hx.every)
 
 -- a period that is closed
-abbrev pub IsLow : ℕ → (Part → Type 0) → ℕ → Place → Type 0
+abbrev pub IsLow : ℕ → (Part → Type 0) → ℕ → PeriodId → Type 0
 IsLow w parts watermark q = IsPeriod w parts q × (q.end + w < watermark)
 
 pub AreClosed-one : (r w : ℕ) (parts : Part → Type 0) (watermark : ℕ) (xs ys : List Closed) → ((p : Part) → parts p → IsPartValue p) → AreClosed r w parts watermark xs → AreClosed r w parts watermark ys → xs ≡ ys
@@ -140,7 +140,7 @@ closed_at-are r w parts watermark xs h =
       low = λ c i. ltb-true (c.end + w) watermark (filter_in t xs c (In-from_contains (filter t xs) c i)).1;
       every = λ q p l.
           let f = h.every q p in
-          (f.0, contains_from_In (filter t xs) f.0 (in_filter t xs f.0 (In-from_contains xs f.0 f.1) (lt-ltb (f.0.end + w) watermark (subst (λ (z : Place). z.end + w < watermark) (sym f.2) l))), f.2);
+          (f.0, contains_from_In (filter t xs) f.0 (in_filter t xs f.0 (In-from_contains xs f.0 f.1) (lt-ltb (f.0.end + w) watermark (subst (λ (z : PeriodId). z.end + w < watermark) (sym f.2) l))), f.2);
     }
 
 -- where the first is not closed, none is

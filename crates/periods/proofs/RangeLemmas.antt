@@ -1,8 +1,8 @@
 -- An item has its fields within their widths in bits where its members have.
 use Rattle.std.proofs.Common.{◌≡◌, ℕ, ◌+◌, ◌*◌, ◌^◌, ◌<◌, ◌≤◌, inl, inr, Some, sym, subst, ◌∙◌, arith}
-use Rattle.gnss_week.specs.Weeks.{IsMoment, IsReference, IsSecond, IsWeek}
-use Rattle.gnss_week.specs.Functions.{gps_week_to, galileo_week_to}
-use Rattle.gnss_week.proofs.Surface.{moment_near-nearest}
+use Rattle.nav_eph.specs.Weeks.{IsMoment, IsReference, IsSecond, IsWeek}
+use Rattle.nav_eph.specs.Functions.{gps_week_to, galileo_week_to}
+use Rattle.nav_eph.proofs.Surface.{moment_near-nearest}
 use Rattle.nav_eph.specs.Satellite.{Satellite, IsSat}
 use Rattle.nav_eph.specs.Conditions.{wn_of}
 use Rattle.nav_eph.specs.Bodies.{IsGalHealth, IsGalIon, IsGpsIon, IsIonContent, IsSentTag}
@@ -19,8 +19,8 @@ use Rattle.nav_eph.specs.declared.items.NavItem.TheVariants.{Gps as GpsItem, Gal
 use Rattle.nav_eph.specs.declared.part.Part.{Part}
 use Rattle.nav_eph.specs.declared.part.Body.{Body}
 use Rattle.nav_eph.specs.declared.part.Body.TheVariants.{GpsClock as OfClock, GpsA as OfOrbitA, GpsB as OfOrbitB, GalW1 as OfWord1, GalW2 as OfWord2, GalW3 as OfWord3, GalW4 as OfWord4, GalHealth as OfHealth, GpsIon as OfGpsIon, GalIon as OfGalIon}
-use Rattle.periods.specs.declared.key.Key.{Key}
-use Rattle.periods.specs.declared.key.Key.TheVariants.{Gps, Gal, GpsIon, GalIon}
+use Rattle.periods.specs.declared.key.PeriodKey.{PeriodKey}
+use Rattle.periods.specs.declared.key.PeriodKey.TheVariants.{Gps, Gal, GpsIon, GalIon}
 use Rattle.periods.specs.declared.key.Transmission.{Transmission}
 use Rattle.periods.specs.declared.closed.Closed.{Closed}
 use Rattle.periods.specs.declared.closed.Finding.{Finding}
@@ -119,7 +119,7 @@ gal_ion_moment_is r s reference small =
 -- ---- the item
 
 -- the members are of the key; each has a satellite of its system and fields within their widths in bits
-record AreRanged (key : Key) (members : Part → Type 0) : Type 0 where
+record AreRanged (key : PeriodKey) (members : Part → Type 0) : Type 0 where
   of_key : (p : Part) → members p → key_of p ≡ Some key
   has : (p : Part) → members p → HasPartRanges p
   is_value : (p : Part) → members p → IsPartValue p
@@ -138,7 +138,7 @@ health_ranges before behind v first second h = elim h [
   | inr k ↦ second v k.1.here
 ]
 
-item_ranges : (r : ℕ) (key : Key) (members : Part → Type 0) (before behind : ℕ × GalHealth × SentTag → Type 0) (item : NavItem)
+item_ranges : (r : ℕ) (key : PeriodKey) (members : Part → Type 0) (before behind : ℕ × GalHealth × SentTag → Type 0) (item : NavItem)
     → IsReference r → AreRanged key members
     → ((h : ℕ × GalHealth × SentTag) → before h → IsHealthValue h) → ((h : ℕ × GalHealth × SentTag) → behind h → IsHealthValue h)
     → IsItemOf r key members before behind item → HasRanges item
@@ -166,7 +166,7 @@ item_ranges r (Gal s issue) members before behind (GalItem e) reference are firs
     let u = h.w4.here in
     let x_has = are.has x.part x.here in
     let x_is : IsGalWord1 e.w1 = subst HasBodyRanges x.says x_has.body in
-    let health = health_ranges before behind h.heard first second h.heard_is in
+    let health = health_ranges before behind h.heard first second h.received_is in
     record {
       sat = subst IsRanged (sym h.sat) (gal_satellite x.part.sat x.part.body s issue x_has.sat (are.of_key x.part x.here));
       w1 = x_is;

@@ -6,12 +6,12 @@ use Rattle.nav_eph.specs.declared.part.Part.{Part}
 use Rattle.periods.specs.Ends.{IsEnd, IsEndOf}
 use Rattle.periods.proofs.EndFacts.{In, In-from_contains, contains_from_In}
 use Rattle.periods.proofs.EndFacts.{Same, own_end}
-use Rattle.periods.specs.declared.key.Key.{Key}
-use Rattle.periods.specs.declared.key.Place.{Place}
+use Rattle.periods.specs.declared.key.PeriodKey.{PeriodKey}
+use Rattle.periods.specs.declared.key.PeriodId.{PeriodId}
 use Rattle.periods.specs.declared.digest.Digest.{Digest}
 use Rattle.periods.specs.Values.{IsBest}
 use Rattle.periods.specs.Parts.{key_of}
-use Rattle.periods.specs.Periods.{IsHeardAt, IsPeriod, IsMember}
+use Rattle.periods.specs.Periods.{IsReceivedAt, IsPeriod, IsMember}
 use Rattle.periods.specs.Digests.{IsDigest}
 use Rattle.periods.specs.Verdicts.{IsFound, IsUpToEnd, IsBehindEnd}
 use Rattle.periods.specs.DigestsOf.{digest_of, health_at}
@@ -26,7 +26,7 @@ use Rattle.periods.proofs.DigestFindings.{digest_finding-is}
 use Rattle.periods.proofs.HealthLemmas.{health_at-is}
 
 -- the part is not a part of the key in the window after a stamp
-quiet_at-says : (w : ℕ) (key : Key) (e : ℕ) (p : Part) → quiet_at w key e p ≡ true → key_of p ≡ Some key → e < p.stamp → e + w < p.stamp
+quiet_at-says : (w : ℕ) (key : PeriodKey) (e : ℕ) (p : Part) → quiet_at w key e p ≡ true → key_of p ≡ Some key → e < p.stamp → e + w < p.stamp
 quiet_at-says w key e p h k l = elim (or_cases (not (is_of key p)) (nat_le p.stamp e || nat_lt (e + w) p.stamp) h) [
   | inl n ↦ absurd (both_ways (is_of key p) (not-true (is_of key p) n) (is-is_of key p k))
   | inr o ↦ elim (or_cases (nat_le p.stamp e) (nat_lt (e + w) p.stamp) o) [
@@ -35,7 +35,7 @@ quiet_at-says w key e p h k l = elim (or_cases (not (is_of key p)) (nat_le p.sta
   ]
 ]
 
-quiet_at-by : (w : ℕ) (key : Key) (e : ℕ) (p : Part) (t : Bool) → is_of key p ≡ t → (key_of p ≡ Some key → e < p.stamp → e + w < p.stamp) → quiet_at w key e p ≡ true
+quiet_at-by : (w : ℕ) (key : PeriodKey) (e : ℕ) (p : Part) (t : Bool) → is_of key p ≡ t → (key_of p ≡ Some key → e < p.stamp → e + w < p.stamp) → quiet_at w key e p ≡ true
 quiet_at-by w key e p false et h = or_left (not (is_of key p)) (nat_le p.stamp e || nat_lt (e + w) p.stamp) (not_from_false (is_of key p) et)
 quiet_at-by w key e p true et h = or_right (not (is_of key p)) (nat_le p.stamp e || nat_lt (e + w) p.stamp) (elim (cases_lt e p.stamp) [
   | inl l ↦ or_right (nat_le p.stamp e) (nat_lt (e + w) p.stamp) (lt-ltb (e + w) p.stamp (h (is_of-is key p et) l))
@@ -52,32 +52,32 @@ all_by t [] h = refl
 all_by t (q ∷ qs) h = and_from (t q) (list_all t qs) (h q (inl refl)) (all_by t qs (λ p i. h p (inr i)))
 
 -- a stamp of the key is an end exactly where no part of the key is in the window after it
-pub end_from_quiet : (w : ℕ) (parts : List Part) (key : Key) (e : ℕ) (p : Part) → Contains parts p → key_of p ≡ Some key → p.stamp ≡ e → quiet parts w key e ≡ true
-    → IsEnd w (IsHeardAt (Contains parts) key) e
+pub end_from_quiet : (w : ℕ) (parts : List Part) (key : PeriodKey) (e : ℕ) (p : Part) → Contains parts p → key_of p ≡ Some key → p.stamp ≡ e → quiet parts w key e ≡ true
+    → IsEnd w (IsReceivedAt (Contains parts) key) e
 end_from_quiet w parts key e p i k s h = record {
   heard = record { part = p; here = i; of_key = k; at_stamp = s };
   quiet = λ x hx l. subst (λ (z : ℕ). e + w < z) hx.at_stamp
       (quiet_at-says w key e hx.part (all_says (quiet_at w key e) parts hx.part h (In-from_contains parts hx.part hx.here)) hx.of_key (subst (λ (z : ℕ). e < z) (sym hx.at_stamp) l));
 }
 
-pub quiet_from_end : (w : ℕ) (parts : List Part) (key : Key) (e : ℕ) → IsEnd w (IsHeardAt (Contains parts) key) e → quiet parts w key e ≡ true
+pub quiet_from_end : (w : ℕ) (parts : List Part) (key : PeriodKey) (e : ℕ) → IsEnd w (IsReceivedAt (Contains parts) key) e → quiet parts w key e ≡ true
 quiet_from_end w parts key e h = all_by (quiet_at w key e) parts (λ p i. quiet_at-by w key e p (is_of key p) refl
     (λ k l. h.quiet p.stamp (record { part = p; here = contains_from_In parts p i; of_key = k; at_stamp = refl }) l))
 
 -- the stamps of a key
-stamp_where : (key : Key) (p : Part) (s : ℕ) (t : Bool) → is_of key p ≡ t → (if t then Some p.stamp else None) ≡ Some s → (key_of p ≡ Some key) × (p.stamp ≡ s)
+stamp_where : (key : PeriodKey) (p : Part) (s : ℕ) (t : Bool) → is_of key p ≡ t → (if t then Some p.stamp else None) ≡ Some s → (key_of p ≡ Some key) × (p.stamp ≡ s)
 stamp_where key p s true et e = (is_of-is key p et, some_is p.stamp s e)
 stamp_where key p s false et e = absurd (none_some s e)
 
-pub stamp_of-is : (key : Key) (p : Part) (s : ℕ) → stamp_of key p ≡ Some s → (key_of p ≡ Some key) × (p.stamp ≡ s)
+pub stamp_of-is : (key : PeriodKey) (p : Part) (s : ℕ) → stamp_of key p ≡ Some s → (key_of p ≡ Some key) × (p.stamp ≡ s)
 stamp_of-is key p s e = stamp_where key p s (is_of key p) refl e
 
-pub is-stamp_of : (key : Key) (p : Part) → key_of p ≡ Some key → stamp_of key p ≡ Some p.stamp
+pub is-stamp_of : (key : PeriodKey) (p : Part) → key_of p ≡ Some key → stamp_of key p ≡ Some p.stamp
 is-stamp_of key p k = subst (λ (t : Bool). (if t then Some p.stamp else None) ≡ Some p.stamp) (sym (is-is_of key p k)) refl
 
 -- an end of the key below another
-pub record IsEndBelow (w : ℕ) (parts : Part → Type 0) (key : Key) (e s : ℕ) : Type 0 where
-  pub is_end : IsEnd w (IsHeardAt parts key) s
+pub record IsEndBelow (w : ℕ) (parts : Part → Type 0) (key : PeriodKey) (e s : ℕ) : Type 0 where
+  pub is_end : IsEnd w (IsReceivedAt parts key) s
   pub below : s < e
 
 abbrev pub IsAbove : ℕ → ℕ → Type 0
@@ -92,7 +92,7 @@ above_decides = record {
   between = λ w a b h. elim (cases_lt b w) [ inl l ↦ inl l | inr l ↦ inr (omega arith) ];
 }
 
-pub end_before-is : (w : ℕ) (parts : List Part) (key : Key) (e : ℕ) → IsBest IsAbove (IsEndBelow w (Contains parts) key e) (end_before parts w key e)
+pub end_before-is : (w : ℕ) (parts : List Part) (key : PeriodKey) (e : ℕ) → IsBest IsAbove (IsEndBelow w (Contains parts) key e) (end_before parts w key e)
 end_before-is w parts key e = IsBest-same IsAbove (Passing (stamp_of key) (end_below parts w key e) parts) (IsEndBelow w (Contains parts) key e) (end_before parts w key e)
     (λ s h.
     let f = stamp_of-is key h.element s h.is in
@@ -109,8 +109,8 @@ end_before-is w parts key e = IsBest-same IsAbove (Passing (stamp_of key) (end_b
     (best_among-is (stamp_of key) (end_below parts w key e) (λ a b. nat_lt b a) IsAbove above_decides parts)
 
 -- the members are the key's parts after the end before and up to the end
-ends_from : (w : ℕ) (parts : Part → Type 0) (q : Place) (before : Option ℕ) (s : ℕ) → IsPeriod w parts q → IsBest IsAbove (IsEndBelow w parts q.key q.end) before
-    → is_above before s ≡ true → s ≤ q.end → IsEndOf w (IsHeardAt parts q.key) q.end s
+ends_from : (w : ℕ) (parts : Part → Type 0) (q : PeriodId) (before : Option ℕ) (s : ℕ) → IsPeriod w parts q → IsBest IsAbove (IsEndBelow w parts q.key q.end) before
+    → is_above before s ≡ true → s ≤ q.end → IsEndOf w (IsReceivedAt parts q.key) q.end s
 ends_from w parts q None s hq b a l = record {
   is_end = hq;
   after = l;
@@ -125,8 +125,8 @@ ends_from w parts q (Some x) s hq b a l = record {
   ];
 }
 
-above_from : (w : ℕ) (parts : Part → Type 0) (q : Place) (before : Option ℕ) (s : ℕ) → IsBest IsAbove (IsEndBelow w parts q.key q.end) before
-    → IsEndOf w (IsHeardAt parts q.key) q.end s → is_above before s ≡ true
+above_from : (w : ℕ) (parts : Part → Type 0) (q : PeriodId) (before : Option ℕ) (s : ℕ) → IsBest IsAbove (IsEndBelow w parts q.key q.end) before
+    → IsEndOf w (IsReceivedAt parts q.key) q.end s → is_above before s ≡ true
 above_from w parts q None s b h = refl
 above_from w parts q (Some x) s b h = lt-ltb x s (elim (cases_lt x s) [
   | inl l ↦ l
@@ -134,10 +134,10 @@ above_from w parts q (Some x) s b h = lt-ltb x s (elim (cases_lt x s) [
 ])
 
 -- the parts that pass the test of members
-abbrev pub Tested : Key → ℕ → Option ℕ → List Part → Part → Type 0
+abbrev pub Tested : PeriodKey → ℕ → Option ℕ → List Part → Part → Type 0
 Tested key e before parts p = In parts p × (is_member key e before p ≡ true)
 
-pub tested_members : (w : ℕ) (parts : List Part) (q : Place) (before : Option ℕ) → IsPeriod w (Contains parts) q → IsBest IsAbove (IsEndBelow w (Contains parts) q.key q.end) before
+pub tested_members : (w : ℕ) (parts : List Part) (q : PeriodId) (before : Option ℕ) → IsPeriod w (Contains parts) q → IsBest IsAbove (IsEndBelow w (Contains parts) q.key q.end) before
     → Same (Tested q.key q.end before parts) (IsMember w (Contains parts) q)
 tested_members w parts q before hq b = record {
   to = λ p h.
@@ -156,19 +156,19 @@ tested_members w parts q before hq b = record {
 }
 
 -- the digest of a set, or none where it has no part
-abbrev pub IsSomeDigest : Key → (Part → Type 0) → Option Digest → Type 0
+abbrev pub IsSomeDigest : PeriodKey → (Part → Type 0) → Option Digest → Type 0
 IsSomeDigest key members None = (p : Part) → members p → ⊥
 IsSomeDigest key members (Some d) = IsDigest key members d
 
-IsSomeDigest-same : (key : Key) (a b : Part → Type 0) (o : Option Digest) → Same a b → IsSomeDigest key a o → IsSomeDigest key b o
+IsSomeDigest-same : (key : PeriodKey) (a b : Part → Type 0) (o : Option Digest) → Same a b → IsSomeDigest key a o → IsSomeDigest key b o
 IsSomeDigest-same key a b None s h = λ p i. h p (s.from p i)
 IsSomeDigest-same key a b (Some d) s h = IsDigest-same key a b d s h
 
-join_some-is : (key : Key) (a b c : Part → Type 0) (o : Option Digest) (d : Digest) → IsUnion a b c → IsSomeDigest key a o → IsDigest key b d → IsSomeDigest key c (join_some o (Some d))
+join_some-is : (key : PeriodKey) (a b c : Part → Type 0) (o : Option Digest) (d : Digest) → IsUnion a b c → IsSomeDigest key a o → IsDigest key b d → IsSomeDigest key c (join_some o (Some d))
 join_some-is key a b c None d u h k = IsDigest-same key b c d (record { to = u.right; from = λ p i. elim (u.cases p i) [ inl x ↦ absurd (h p x) | inr x ↦ x ] }) k
 join_some-is key a b c (Some x) d u h k = digest_join-is key a b c x d u h k
 
-members_step : (key : Key) (e : ℕ) (before : Option ℕ) (p : Part) (so_far : Part → Type 0) (all : Option Digest) (t : Bool) → is_member key e before p ≡ t → IsSomeDigest key so_far all
+members_step : (key : PeriodKey) (e : ℕ) (before : Option ℕ) (p : Part) (so_far : Part → Type 0) (all : Option Digest) (t : Bool) → is_member key e before p ≡ t → IsSomeDigest key so_far all
     → IsSomeDigest key (λ q. so_far q ⊎ ((p ≡ q) × (is_member key e before q ≡ true))) (if t then join_some all (digest_of p) else all)
 members_step key e before p so_far all true et h =
     let k : key_of p ≡ Some key = is_of-is key p (and_parts (is_of key p) (is_above before p.stamp && nat_le p.stamp e) et).0 in
@@ -184,7 +184,7 @@ members_step key e before p so_far all false et h = IsSomeDigest-same key so_far
   from = λ q i. elim i [ inl x ↦ x | inr x ↦ absurd (both_ways (is_member key e before p) et (subst (λ (y : Part). is_member key e before y ≡ true) (sym x.0) x.1)) ];
 }) h
 
-members_more : (key : Key) (e : ℕ) (before : Option ℕ) (parts : List Part) (so_far : Part → Type 0) (all : Option Digest) → IsSomeDigest key so_far all
+members_more : (key : PeriodKey) (e : ℕ) (before : Option ℕ) (parts : List Part) (so_far : Part → Type 0) (all : Option Digest) → IsSomeDigest key so_far all
     → IsSomeDigest key (λ q. so_far q ⊎ Tested key e before parts q) (members_digest key e before parts all)
 members_more key e before [] so_far all h = IsSomeDigest-same key so_far _ all (record { to = λ q i. inl i; from = λ q i. elim i [ inl x ↦ x | inr x ↦ absurd x.0 ] }) h
 members_more key e before (p ∷ ps) so_far all h =
@@ -202,21 +202,21 @@ members_more key e before (p ∷ ps) so_far all h =
     (members_more key e before ps (λ q. so_far q ⊎ ((p ≡ q) × (is_member key e before q ≡ true))) (if is_member key e before p then join_some all (digest_of p) else all)
     (members_step key e before p so_far all (is_member key e before p) refl h))
 
-pub members_digest-is : (key : Key) (e : ℕ) (before : Option ℕ) (parts : List Part) → IsSomeDigest key (Tested key e before parts) (members_digest key e before parts None)
+pub members_digest-is : (key : PeriodKey) (e : ℕ) (before : Option ℕ) (parts : List Part) → IsSomeDigest key (Tested key e before parts) (members_digest key e before parts None)
 members_digest-is key e before parts = IsSomeDigest-same key (λ q. ⊥ ⊎ Tested key e before parts q) (Tested key e before parts) (members_digest key e before parts None)
     (record { to = λ q i. elim i [ inl x ↦ absurd x | inr x ↦ x ]; from = λ q i. inr i }) (members_more key e before parts (λ q. ⊥) None (λ p i. i))
 
 -- the digest of the members, with the health near the end, gives the period's finding
-finding_with-is : (r w : ℕ) (parts : List Part) (q : Place) (o : Option Digest) → IsPeriod w (Contains parts) q → IsSomeDigest q.key (IsMember w (Contains parts) q) o
+finding_with-is : (r w : ℕ) (parts : List Part) (q : PeriodId) (o : Option Digest) → IsPeriod w (Contains parts) q → IsSomeDigest q.key (IsMember w (Contains parts) q) o
     → IsFound r w (Contains parts) q (finding_with r w parts q o)
 finding_with-is r w parts q None hq h =
     let p = hq.heard in
-    absurd (h p.part (record { here = p.here; of_key = p.of_key; ends = subst (λ (s : ℕ). IsEndOf w (IsHeardAt (Contains parts) q.key) q.end s) (sym p.at_stamp) (own_end w (IsHeardAt (Contains parts) q.key) q.end hq) }))
+    absurd (h p.part (record { here = p.here; of_key = p.of_key; ends = subst (λ (s : ℕ). IsEndOf w (IsReceivedAt (Contains parts) q.key) q.end s) (sym p.at_stamp) (own_end w (IsReceivedAt (Contains parts) q.key) q.end hq) }))
 finding_with-is r w parts q (Some d) hq h =
     digest_finding-is r q.key (IsMember w (Contains parts) q) (IsUpToEnd w (Contains parts) q.key q.end) (IsBehindEnd w (Contains parts) q.key q.end) d (health_at w parts q.key q.end) h
     (health_at-is w parts q.key q.end)
 
-pub finding_at-is : (r w : ℕ) (parts : List Part) (q : Place) → IsPeriod w (Contains parts) q → IsFound r w (Contains parts) q (finding_at r w parts q)
+pub finding_at-is : (r w : ℕ) (parts : List Part) (q : PeriodId) → IsPeriod w (Contains parts) q → IsFound r w (Contains parts) q (finding_at r w parts q)
 finding_at-is r w parts q hq =
     let before = end_before parts w q.key q.end in
     finding_with-is r w parts q (members_digest q.key q.end before parts None) hq

@@ -2,7 +2,7 @@
 use Rattle.std.proofs.Common.{◌≡◌, ℕ, ◌*◌, inl, inr, ◌==◌, List, ◌∷◌, sym, ap, subst, refl, ◌∙◌, eq-eqb}
 use Rattle.std.specs.List.{AllByRecursion}
 use Rattle.std.proofs.lemmas.Bool.{and_from}
-use Rattle.gnss_week.specs.Weeks.{IsSecond}
+use Rattle.nav_eph.specs.Weeks.{IsSecond}
 use Rattle.nav_eph.specs.Satellite.{Satellite, place_of}
 use Rattle.nav_eph.specs.Bodies.{IsGpsSide, IsSentTag, IsGalHealth}
 use Rattle.nav_eph.specs.declared.gps.GpsSide.{GpsSide}
@@ -18,8 +18,8 @@ use Rattle.nav_eph.specs.declared.items.NavItem.TheVariants.{Gps as GpsItem, Gal
 use Rattle.nav_eph.specs.declared.part.Part.{Part}
 use Rattle.nav_eph.proofs.Surface.{one_side, one_tag, one_health, one_transmission}
 use Rattle.periods.proofs.EndFacts.{Same, same_sym}
-use Rattle.periods.specs.declared.key.Key.{Key}
-use Rattle.periods.specs.declared.key.Key.TheVariants.{Gps, Gal, GpsIon, GalIon}
+use Rattle.periods.specs.declared.key.PeriodKey.{PeriodKey}
+use Rattle.periods.specs.declared.key.PeriodKey.TheVariants.{Gps, Gal, GpsIon, GalIon}
 use Rattle.periods.specs.declared.key.Transmission.{Transmission}
 use Rattle.periods.specs.declared.closed.Finding.{Finding}
 use Rattle.periods.specs.declared.closed.Finding.TheVariants.{Differs, Misses, LacksHealth, Complete}
@@ -143,7 +143,7 @@ one_gal_item r sat members before behind e f x y h k =
     let w2 : e.w2 ≡ f.w2 = one_only (HasValue Word2 members) e.w2 f.w2 h.w2 k.w2 in
     let w3 : e.w3 ≡ f.w3 = one_only (HasValue Word3 members) e.w3 f.w3 h.w3 k.w3 in
     let w4 : e.w4 ≡ f.w4 = one_only (HasValue Word4 members) e.w4 f.w4 h.w4 k.w4 in
-    let heard = one_health_of before behind h.heard k.heard x y h.heard_is k.heard_is in
+    let heard = one_health_of before behind h.heard k.heard x y h.received_is k.received_is in
     let tag : h.heard.2 ≡ k.heard.2 = heard.1 in
     let health : e.health ≡ f.health = h.health ∙ heard.0 ∙ sym k.health in
     let week : e.toe_week ≡ f.toe_week = h.toe_week ∙ (λ i. toe_week_of (gal_moment r (tag i)) (60 * (w1 i).toe)) ∙ sym k.toe_week in
@@ -159,7 +159,7 @@ one_ion_item moment_of said members e f are h k =
     let moment : e.moment ≡ f.moment = h.moment ∙ (λ i. moment_of (transmission i)) ∙ sym k.moment in
     λ i. record { sat = sat i; moment = moment i; content = content i }
 
-one_item : (r : ℕ) (key : Key) (members : Part → Type 0) (before behind : ℕ × GalHealth × SentTag → Type 0) (e f : NavItem)
+one_item : (r : ℕ) (key : PeriodKey) (members : Part → Type 0) (before behind : ℕ × GalHealth × SentTag → Type 0) (e f : NavItem)
     → ((p : Part) → members p → IsPartValue p) → ((h : ℕ × GalHealth × SentTag) → before h → IsHealthValue h) → ((h : ℕ × GalHealth × SentTag) → behind h → IsHealthValue h)
     → IsItemOf r key members before behind e → IsItemOf r key members before behind f → e ≡ f
 one_item r (Gps sat issue) members before behind (GpsItem e) (GpsItem f) are x y h k = ap GpsItem (one_gps_item r sat members e f are h k)
@@ -173,7 +173,7 @@ one_item r (GalIon content) members before behind (IonItem e) f are x y h k = ab
 one_item r key members before behind e f are x y h k = absurd h
 
 -- where there is an item, the members agree, and each kind and health are there
-only_each : (r : ℕ) (key : Key) (members : Part → Type 0) (before behind : ℕ × GalHealth × SentTag → Type 0) (e : NavItem)
+only_each : (r : ℕ) (key : PeriodKey) (members : Part → Type 0) (before behind : ℕ × GalHealth × SentTag → Type 0) (e : NavItem)
     → IsItemOf r key members before behind e → AllByRecursion (λ k. (v : Value k) × IsOnly (HasValue k members) v) (kinds_of key)
 only_each r (Gps sat issue) members before behind (GpsItem e) h = ((e.clock, h.clock), ((e.a, h.a), ((e.b, h.b), tt)))
 only_each r (Gal sat issue) members before behind (GalItem e) h = ((e.w1, h.w1), ((e.w2, h.w2), ((e.w3, h.w3), ((e.w4, h.w4), tt))))
@@ -181,12 +181,12 @@ only_each r (GpsIon content) members before behind e h = tt
 only_each r (GalIon content) members before behind e h = tt
 only_each r key members before behind e h = absurd h
 
-item_agrees : (r : ℕ) (key : Key) (members : Part → Type 0) (before behind : ℕ × GalHealth × SentTag → Type 0) (e : NavItem)
+item_agrees : (r : ℕ) (key : PeriodKey) (members : Part → Type 0) (before behind : ℕ × GalHealth × SentTag → Type 0) (e : NavItem)
     → IsItemOf r key members before behind e → IsContradicted key members → ⊥
 item_agrees r key members before behind e h =
     none_any _ _ (kinds_of key) (λ k o d. only_agrees (HasValue k members) o.0 o.1 d) (only_each r key members before behind e h)
 
-item_whole : (r : ℕ) (key : Key) (members : Part → Type 0) (before behind : ℕ × GalHealth × SentTag → Type 0) (e : NavItem)
+item_whole : (r : ℕ) (key : PeriodKey) (members : Part → Type 0) (before behind : ℕ × GalHealth × SentTag → Type 0) (e : NavItem)
     → IsItemOf r key members before behind e → IsPartial key members → ⊥
 item_whole r key members before behind e h =
     none_any _ _ (kinds_of key) (λ k o d. only_there (HasValue k members) o.0 o.1 d) (only_each r key members before behind e h)
@@ -195,15 +195,15 @@ health_there : (before behind : ℕ × GalHealth × SentTag → Type 0) (v : ℕ
 health_there before behind v (inl h) none = none.0 v h.here
 health_there before behind v (inr h) none = none.1 v h.1.here
 
-item_healthy : (r : ℕ) (key : Key) (members : Part → Type 0) (before behind : ℕ × GalHealth × SentTag → Type 0) (e : NavItem)
+item_healthy : (r : ℕ) (key : PeriodKey) (members : Part → Type 0) (before behind : ℕ × GalHealth × SentTag → Type 0) (e : NavItem)
     → IsItemOf r key members before behind e → IsWithoutHealth key before behind → ⊥
 item_healthy r (Gps sat issue) members before behind e h d = d
-item_healthy r (Gal sat issue) members before behind (GalItem e) h d = health_there before behind h.heard h.heard_is d
+item_healthy r (Gal sat issue) members before behind (GalItem e) h d = health_there before behind h.heard h.received_is d
 item_healthy r (GpsIon content) members before behind e h d = d
 item_healthy r (GalIon content) members before behind e h d = d
 item_healthy r key members before behind e h d = absurd h
 
-pub IsFoundIn-one : (r : ℕ) (key : Key) (members : Part → Type 0) (before behind : ℕ × GalHealth × SentTag → Type 0) (f g : Finding)
+pub IsFoundIn-one : (r : ℕ) (key : PeriodKey) (members : Part → Type 0) (before behind : ℕ × GalHealth × SentTag → Type 0) (f g : Finding)
     → ((p : Part) → members p → IsPartValue p) → ((h : ℕ × GalHealth × SentTag) → before h → IsHealthValue h) → ((h : ℕ × GalHealth × SentTag) → behind h → IsHealthValue h)
     → IsFoundIn r key members before behind f → IsFoundIn r key members before behind g → f ≡ g
 IsFoundIn-one r key members before behind Differs Differs are x y h k = refl
@@ -224,13 +224,13 @@ IsFoundIn-one r key members before behind (Complete i) LacksHealth are x y h k =
 IsFoundIn-one r key members before behind (Complete i) (Complete j) are x y h k = ap Complete (one_item r key members before behind i j are x y h k)
 
 -- findings of equal sets
-contradicted_same : (key : Key) (a b : Part → Type 0) → Same a b → IsContradicted key a → IsContradicted key b
+contradicted_same : (key : PeriodKey) (a b : Part → Type 0) → Same a b → IsContradicted key a → IsContradicted key b
 contradicted_same key a b s = any_same _ _ (kinds_of key) (λ k. Differ-same (HasValue k a) (HasValue k b) (same_values k a b s))
 
-partial_same : (key : Key) (a b : Part → Type 0) → Same a b → IsPartial key a → IsPartial key b
+partial_same : (key : PeriodKey) (a b : Part → Type 0) → Same a b → IsPartial key a → IsPartial key b
 partial_same key a b s = any_same _ _ (kinds_of key) (λ k. IsEmpty-same (HasValue k a) (HasValue k b) (same_values k a b s))
 
-without_same : (key : Key) (before behind before' behind' : ℕ × GalHealth × SentTag → Type 0) → Same before before' → Same behind behind'
+without_same : (key : PeriodKey) (before behind before' behind' : ℕ × GalHealth × SentTag → Type 0) → Same before before' → Same behind behind'
     → IsWithoutHealth key before behind → IsWithoutHealth key before' behind'
 without_same (Gps sat issue) before behind before' behind' s t d = d
 without_same (Gal sat issue) before behind before' behind' s t d = (IsEmpty-same before before' s d.0, IsEmpty-same behind behind' t d.1)
@@ -241,7 +241,7 @@ ion_same : (moment_of : Transmission → ℕ) (said : IonContent) (a b : Part �
 ion_same moment_of said a b e s h =
     record { content = h.content; transmission = h.transmission; first = first_same IonTransmission (IsEarlier transmission_numbers) a b h.transmission s h.first; sat = h.sat; moment = h.moment }
 
-item_same : (r : ℕ) (key : Key) (a b : Part → Type 0) (before behind before' behind' : ℕ × GalHealth × SentTag → Type 0) (e : NavItem)
+item_same : (r : ℕ) (key : PeriodKey) (a b : Part → Type 0) (before behind before' behind' : ℕ × GalHealth × SentTag → Type 0) (e : NavItem)
     → Same a b → Same before before' → Same behind behind' → IsItemOf r key a before behind e → IsItemOf r key b before' behind' e
 item_same r (Gps sat issue) a b before behind before' behind' (GpsItem e) s t u h = record {
   sat = h.sat;
@@ -265,7 +265,7 @@ item_same r (Gal sat issue) a b before behind before' behind' (GalItem e) s t u 
   w3 = only_same Word3 a b e.w3 s h.w3;
   w4 = only_same Word4 a b e.w4 s h.w4;
   heard = h.heard;
-  heard_is = IsFirstOrElse-same (IsLater health_numbers) (IsEarlier health_numbers) before before' behind behind' h.heard t u h.heard_is;
+  received_is = IsFirstOrElse-same (IsLater health_numbers) (IsEarlier health_numbers) before before' behind behind' h.heard t u h.received_is;
   health = h.health;
   toe_week = h.toe_week;
   sent = h.sent;
@@ -274,7 +274,7 @@ item_same r (GpsIon content) a b before behind before' behind' (IonItem e) s t u
 item_same r (GalIon content) a b before behind before' behind' (IonItem e) s t u h = ion_same (gal_ion_moment r) (OfGal content) a b e s h
 item_same r key a b before behind before' behind' e s t u h = absurd h
 
-pub IsFoundIn-same : (r : ℕ) (key : Key) (a b : Part → Type 0) (before behind before' behind' : ℕ × GalHealth × SentTag → Type 0) (f : Finding)
+pub IsFoundIn-same : (r : ℕ) (key : PeriodKey) (a b : Part → Type 0) (before behind before' behind' : ℕ × GalHealth × SentTag → Type 0) (f : Finding)
     → Same a b → Same before before' → Same behind behind' → IsFoundIn r key a before behind f → IsFoundIn r key b before' behind' f
 IsFoundIn-same r key a b before behind before' behind' Differs s t u h = contradicted_same key a b s h
 IsFoundIn-same r key a b before behind before' behind' Misses s t u h =

@@ -2,9 +2,9 @@
 -- their ranges.
 use Rattle.std.proofs.Common.{◌≡◌, ℕ, ◌+◌, ◌*◌, ◌/◌, ◌^◌, ◌<◌, ◌≤◌, Some, pos, neg_ℤ, ◌-ℤ◌, ◌≤ℤ◌, refl, sym, ap, subst, ◌∙◌, arith}
 use Rattle.std.proofs.lemmas.Int.{ints}
-use Rattle.gnss_week.specs.Weeks.{IsReference, IsSecond, IsWeek, week_of}
-use Rattle.gnss_week.specs.Functions.{gps_week_to, galileo_week_to, moment_near}
-use Rattle.gnss_week.proofs.Surface.{moment_near-nearest}
+use Rattle.nav_eph.specs.Weeks.{IsReference, IsSecond, IsWeek, week_of}
+use Rattle.nav_eph.specs.Functions.{gps_week_to, galileo_week_to, moment_near}
+use Rattle.nav_eph.proofs.Surface.{moment_near-nearest}
 use Rattle.nav_eph.specs.Satellite.{Satellite}
 use Rattle.nav_eph.specs.Conditions.{IsPart, wn_of}
 use Rattle.nav_eph.specs.Items.{IsSentSecond, content_system}
@@ -25,8 +25,8 @@ use Rattle.nav_eph.specs.declared.items.NavItem.TheVariants.{Gps as GpsItem, Gal
 use Rattle.nav_eph.specs.declared.part.Part.{Part}
 use Rattle.nav_eph.specs.declared.part.Body.{Body}
 use Rattle.nav_eph.specs.declared.part.Body.TheVariants.{GpsClock as OfClock, GpsA as OfOrbitA, GpsB as OfOrbitB, GalW1 as OfWord1, GalW2 as OfWord2, GalW3 as OfWord3, GalW4 as OfWord4, GalHealth as OfHealth, GpsIon as OfGpsIon, GalIon as OfGalIon}
-use Rattle.periods.specs.declared.key.Key.{Key}
-use Rattle.periods.specs.declared.key.Key.TheVariants.{Gps, Gal, GpsIon, GalIon}
+use Rattle.periods.specs.declared.key.PeriodKey.{PeriodKey}
+use Rattle.periods.specs.declared.key.PeriodKey.TheVariants.{Gps, Gal, GpsIon, GalIon}
 use Rattle.periods.specs.declared.key.Transmission.{Transmission}
 use Rattle.nav_eph.specs.Values.{IsPartValue}
 use Rattle.periods.specs.Parts.{key_in, key_of}
@@ -36,7 +36,7 @@ use Rattle.periods.proofs.Folds.{none_some}
 use Rattle.periods.proofs.ValueFindings.{transmission_value}
 
 -- the members are of the key, and each is of a satellite of the right system
-pub record AreParts (key : Key) (members : Part → Type 0) : Type 0 where
+pub record AreParts (key : PeriodKey) (members : Part → Type 0) : Type 0 where
   pub of_key : (p : Part) → members p → key_of p ≡ Some key
   pub is_part : (p : Part) → members p → IsPart p.sat p.body
   pub is_value : (p : Part) → members p → IsPartValue p
@@ -141,7 +141,7 @@ sent_is : (tag : SentTag) (moment second week : ℕ) (sent : SentSecond) → wee
 sent_is tag moment second week sent e f h = subst IsSentSecond (sym (f ∙ ap (λ (w : ℕ). sent_second tag moment w) e)) h
 
 -- an ionosphere is of its satellite's system, and its week is in range
-ion_fits : (r : ℕ) (key : Key) (moment_of : Transmission → ℕ) (said : IonContent) (members : Part → Type 0) (e : IonEph) → AreParts key members → HasRanges (IonItem e)
+ion_fits : (r : ℕ) (key : PeriodKey) (moment_of : Transmission → ℕ) (said : IonContent) (members : Part → Type 0) (e : IonEph) → AreParts key members → HasRanges (IonItem e)
     → IsIonItemOf moment_of said members e
     → ((p : Part) → key_of p ≡ Some key → IsPart p.sat p.body → p.sat.system ≡ content_system said)
     → ((s : Transmission) → s.stamp < 2 ^ 32 → IsSecond s.second → IsWeek (week_of (moment_of s))) → FitsTogether (IonItem e)
@@ -157,7 +157,7 @@ ion_fits r key moment_of said members e are ranges h system week =
       };
     }
 
-pub item_fits : (r : ℕ) (key : Key) (members : Part → Type 0) (before behind : ℕ × GalHealth × SentTag → Type 0) (item : NavItem)
+pub item_fits : (r : ℕ) (key : PeriodKey) (members : Part → Type 0) (before behind : ℕ × GalHealth × SentTag → Type 0) (item : NavItem)
     → IsReference r → AreParts key members → HasRanges item → IsItemOf r key members before behind item → FitsTogether item
 item_fits r (Gps s issue) members before behind (GpsItem e) reference are ranges h =
     let c = h.clock.here in

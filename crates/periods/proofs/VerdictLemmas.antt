@@ -1,12 +1,12 @@
 -- Verdicts: the same for equal sets, kept by later parts where the period is closed, and unique.
 use Rattle.std.proofs.Common.{◌≡◌, ℕ, ◌+◌, ◌<◌, inl, inr, sym, ap, subst, ◌∙◌}
 use Rattle.periods.proofs.EndFacts.{Same, same_sym}
-use Rattle.gnss_week.specs.Weeks.{IsReference}
+use Rattle.nav_eph.specs.Weeks.{IsReference}
 use Rattle.nav_eph.specs.Conditions.{IsPart}
 use Rattle.nav_eph.specs.Ranges.{HasRanges, IsItem}
 use Rattle.nav_eph.specs.declared.items.NavItem.{NavItem}
 use Rattle.nav_eph.specs.declared.part.Part.{Part}
-use Rattle.periods.specs.declared.key.Place.{Place}
+use Rattle.periods.specs.declared.key.PeriodId.{PeriodId}
 use Rattle.periods.specs.declared.closed.Finding.{Finding}
 use Rattle.periods.specs.declared.closed.Finding.TheVariants.{Differs, Misses, LacksHealth, Complete}
 use Rattle.periods.specs.declared.closed.Verdict.{Verdict}
@@ -19,7 +19,7 @@ use Rattle.periods.proofs.ValueItems.{item_fits}
 use Rattle.periods.proofs.PeriodLemmas.{AreLater, IsPeriod-same, IsPeriod-keeps, IsFound-same, IsFound-keeps, IsFound-one}
 use Rattle.periods.proofs.AgainLemmas.{Repeats-same, Repeats-keeps, Repeats-was, IsJudged-same, IsJudged-one}
 
-pub IsVerdict-same : (r w : ℕ) (a b : Part → Type 0) (q : Place) (v : Verdict) → Same a b → IsVerdict r w a q v → IsVerdict r w b q v
+pub IsVerdict-same : (r w : ℕ) (a b : Part → Type 0) (q : PeriodId) (v : Verdict) → Same a b → IsVerdict r w a q v → IsVerdict r w b q v
 IsVerdict-same r w a b q v s h = record {
   finding = h.finding;
   found = IsFound-same r w a b q h.finding s h.found;
@@ -31,7 +31,7 @@ pub IsClosed-same : (r w : ℕ) (a b : Part → Type 0) (c : Closed) → Same a 
 IsClosed-same r w a b c s h = record { period = IsPeriod-same w a b (closed_place c) s h.period; verdict = IsVerdict-same r w a b (closed_place c) c.verdict s h.verdict }
 
 -- a closed period keeps its verdict
-pub IsVerdict-keeps : (r w watermark : ℕ) (old new : Part → Type 0) (q : Place) (v : Verdict)
+pub IsVerdict-keeps : (r w watermark : ℕ) (old new : Part → Type 0) (q : PeriodId) (v : Verdict)
     → AreLater watermark old new → q.end + w < watermark → IsVerdict r w old q v → IsVerdict r w new q v
 IsVerdict-keeps r w watermark old new q v l low h = record {
   finding = h.finding;
@@ -49,7 +49,7 @@ IsClosed-keeps r w watermark old new c l low h = record {
 }
 
 -- a period has one verdict
-pub IsVerdict-one : (r w : ℕ) (parts : Part → Type 0) (q : Place) (u v : Verdict)
+pub IsVerdict-one : (r w : ℕ) (parts : Part → Type 0) (q : PeriodId) (u v : Verdict)
     → ((p : Part) → parts p → IsPartValue p) → IsVerdict r w parts q u → IsVerdict r w parts q v → u ≡ v
 IsVerdict-one r w parts q u v values h k =
     let same : h.finding ≡ k.finding = IsFound-one r w parts q h.finding k.finding values h.found k.found in
@@ -57,9 +57,9 @@ IsVerdict-one r w parts q u v values h k =
 
 pub IsClosed-one : (r w : ℕ) (parts : Part → Type 0) (c d : Closed) → ((p : Part) → parts p → IsPartValue p) → closed_place c ≡ closed_place d → IsClosed r w parts c → IsClosed r w parts d → c ≡ d
 IsClosed-one r w parts c d values e h k =
-    let v : c.verdict ≡ d.verdict = IsVerdict-one r w parts (closed_place d) c.verdict d.verdict values (subst (λ (q : Place). IsVerdict r w parts q c.verdict) e h.verdict) k.verdict in
-    let f : c.end ≡ d.end = ap (λ (q : Place). q.end) e in
-    let g : c.key ≡ d.key = ap (λ (q : Place). q.key) e in
+    let v : c.verdict ≡ d.verdict = IsVerdict-one r w parts (closed_place d) c.verdict d.verdict values (subst (λ (q : PeriodId). IsVerdict r w parts q c.verdict) e h.verdict) k.verdict in
+    let f : c.end ≡ d.end = ap (λ (q : PeriodId). q.end) e in
+    let g : c.key ≡ d.key = ap (λ (q : PeriodId). q.key) e in
     λ i. record { end = f i; key = g i; verdict = v i }
 
 -- the item of a period with the verdict `Whole` is that of its finding

@@ -3,8 +3,8 @@ use Rattle.std.specs.Prelude.{ℕ, Option, None, Some}
 use Rattle.nav_eph.specs.declared.galileo.GalHealth.{GalHealth}
 use Rattle.nav_eph.specs.declared.tag.SentTag.{SentTag}
 use Rattle.nav_eph.specs.declared.part.Part.{Part}
-use Rattle.periods.specs.declared.key.Key.{Key}
-use Rattle.periods.specs.declared.key.Key.TheVariants.{Gps, Gal, GpsIon, GalIon}
+use Rattle.periods.specs.declared.key.PeriodKey.{PeriodKey}
+use Rattle.periods.specs.declared.key.PeriodKey.TheVariants.{Gps, Gal, GpsIon, GalIon}
 use Rattle.periods.specs.declared.digest.Seen.{Seen}
 use Rattle.periods.specs.declared.digest.Seen.TheVariants.{Nothing, One, Different}
 use Rattle.periods.specs.declared.digest.GpsDigest.{GpsDigest}
@@ -39,7 +39,7 @@ pub record IsGalDigest (members : Part → Type 0) (d : GalDigest) : Type 0 wher
   pub w4 : IsSeen (HasValue Word4 members) d.w4
 
 -- the digest of the members of a key
-abbrev pub IsDigest : Key → (Part → Type 0) → Digest → Type 0
+abbrev pub IsDigest : PeriodKey → (Part → Type 0) → Digest → Type 0
 IsDigest (Gps sat issue) members (GpsForm d) = IsGpsDigest members d
 IsDigest (Gal sat issue) members (GalForm d) = IsGalDigest members d
 IsDigest (GpsIon content) members (IonForm s) = IsFirstBy (IsEarlier transmission_numbers) (HasValue IonTransmission members) s

@@ -23,8 +23,8 @@ use Rattle.nav_eph.specs.contracts.galileo.GalWord1PartialEq.TheImpl.{eq-value a
 use Rattle.nav_eph.specs.contracts.galileo.GalWord2PartialEq.TheImpl.{eq-value as word2_eq}
 use Rattle.nav_eph.specs.contracts.galileo.GalWord3PartialEq.TheImpl.{eq-value as word3_eq}
 use Rattle.nav_eph.specs.contracts.galileo.GalWord4PartialEq.TheImpl.{eq-value as word4_eq}
-use Rattle.periods.specs.declared.key.Key.{Key}
-use Rattle.periods.specs.declared.key.Key.TheVariants.{Gps, Gal, GpsIon, GalIon}
+use Rattle.periods.specs.declared.key.PeriodKey.{PeriodKey}
+use Rattle.periods.specs.declared.key.PeriodKey.TheVariants.{Gps, Gal, GpsIon, GalIon}
 use Rattle.periods.specs.declared.key.Transmission.{Transmission}
 use Rattle.periods.specs.declared.closed.Finding.{Finding}
 use Rattle.periods.specs.declared.closed.Finding.TheVariants.{Differs, Misses, LacksHealth, Complete}
@@ -62,7 +62,7 @@ ion_digest None = None
 ion_digest (Some s) = Some (IonForm s)
 
 -- the digest of one part, by its key
-abbrev pub digest_for : Option Key → Part → Option Digest
+abbrev pub digest_for : Option PeriodKey → Part → Option Digest
 digest_for None p = None
 digest_for (Some (Gps sat issue)) p = Some (GpsForm (gps_digest p))
 digest_for (Some (Gal sat issue)) p = Some (GalForm (gal_digest p))
@@ -135,7 +135,7 @@ gal_finding r satellite d health =
     else gal_item r satellite (seen_only d.w1) (seen_only d.w2) (seen_only d.w3) (seen_only d.w4) health
 
 -- the finding of a digest and the health near the end
-abbrev pub digest_finding : ℕ → Key → Digest → Option (ℕ × GalHealth × SentTag) → Finding
+abbrev pub digest_finding : ℕ → PeriodKey → Digest → Option (ℕ × GalHealth × SentTag) → Finding
 digest_finding r (Gps sat issue) (GpsForm d) health = gps_finding r sat d
 digest_finding r (Gal sat issue) (GalForm d) health = gal_finding r sat d health
 digest_finding r (GpsIon content) (IonForm s) health = Complete (IonItem (record { sat = s.sat; moment = gps_ion_moment r s; content = OfGps content }))
@@ -176,7 +176,7 @@ satellite_health window parts satellite e =
     (best_among (reading (HealthOf satellite)) (behind_end window e) (earlier health_numbers) parts None)
 
 -- the health that a period takes; none unless its key is of a Galileo ephemeris
-abbrev pub health_at : ℕ → List Part → Key → ℕ → Option (ℕ × GalHealth × SentTag)
+abbrev pub health_at : ℕ → List Part → PeriodKey → ℕ → Option (ℕ × GalHealth × SentTag)
 health_at window parts (Gal satellite issue) e = satellite_health window parts satellite e
 health_at window parts (Gps satellite issue) e = None
 health_at window parts (GpsIon content) e = None

@@ -1,7 +1,7 @@
 -- The item that the members of a period make.
 use Rattle.std.specs.Prelude.{◌≡◌, ℕ, ◌+◌, ◌*◌, pos, ◌-ℤ◌}
-use Rattle.gnss_week.specs.Weeks.{week_of}
-use Rattle.gnss_week.specs.Functions.{gps_week_to, galileo_week_to, moment_near}
+use Rattle.nav_eph.specs.Weeks.{week_of}
+use Rattle.nav_eph.specs.Functions.{gps_week_to, galileo_week_to, moment_near}
 use Rattle.nav_eph.specs.Satellite.{Satellite}
 use Rattle.nav_eph.specs.Conditions.{wn_of}
 use Rattle.nav_eph.specs.declared.galileo.GalHealth.{GalHealth}
@@ -73,7 +73,7 @@ pub record IsGalItemOf (r : ℕ) (satellite : Satellite) (members : Part → Typ
   pub w3 : IsOnly (HasValue Word3 members) e.w3
   pub w4 : IsOnly (HasValue Word4 members) e.w4
   pub heard : ℕ × GalHealth × SentTag
-  pub heard_is : IsHealth before behind heard
+  pub received_is : IsHealth before behind heard
   pub health : e.health ≡ heard.1
   pub toe_week : e.toe_week ≡ toe_week_of (gal_moment r heard.2) (60 * e.w1.toe)
   pub sent : e.sent ≡ sent_second heard.2 (gal_moment r heard.2) e.toe_week

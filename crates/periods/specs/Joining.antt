@@ -9,10 +9,10 @@ pub record IsWith (old new : ℕ → Type 0) (stamp : ℕ) : Type 0 where
   pub only : (s : ℕ) → new s → old s ⊎ (stamp ≡ s)
 
 -- a time tag with the end e lies within the window of the new time tag, on either side
-pub record IsTouchedEnd (window : ℕ) (heard_at : ℕ → Type 0) (stamp e : ℕ) : Type 0 where
+pub record IsTouchedEnd (window : ℕ) (received_at : ℕ → Type 0) (stamp e : ℕ) : Type 0 where
   pub member : ℕ
-  pub heard : heard_at member
-  pub ends : IsEndOf window heard_at e member
+  pub heard : received_at member
+  pub ends : IsEndOf window received_at e member
   pub not_far_after : member ≤ stamp + window
   pub not_far_before : stamp ≤ member + window
 

@@ -18,13 +18,13 @@ use Rattle.nav_eph.specs.declared.tag.SentTag.TheVariants.{Sent, Toe}
 use Rattle.nav_eph.specs.declared.part.Part.{Part}
 use Rattle.nav_eph.specs.declared.part.Body.{Body}
 use Rattle.nav_eph.specs.declared.part.Body.TheVariants.{GpsClock as OfClock, GpsA as OfOrbitA, GpsB as OfOrbitB, GalW1 as OfWord1, GalW2 as OfWord2, GalW3 as OfWord3, GalW4 as OfWord4, GalHealth as OfHealth, GpsIon as OfGpsIon, GalIon as OfGalIon}
-use Rattle.periods.specs.declared.key.Key.{Key}
-use Rattle.periods.specs.declared.key.Key.TheVariants.{Gps, Gal, GpsIon, GalIon}
+use Rattle.periods.specs.declared.key.PeriodKey.{PeriodKey}
+use Rattle.periods.specs.declared.key.PeriodKey.TheVariants.{Gps, Gal, GpsIon, GalIon}
 use Rattle.periods.specs.declared.key.Transmission.{Transmission}
 
 -- the key of a satellite and body: the satellite with the low eight bits of IODC, with IODE or with IODnav; the content of an
 -- ionosphere; none for health (IS-GPS-200, 20.3.3.3.1.5 and 20.3.4.4; Galileo OS SIS ICD, 5.1.9.2)
-abbrev pub key_in : Satellite → Body → Option Key
+abbrev pub key_in : Satellite → Body → Option PeriodKey
 key_in sat (OfClock clock side tag) = Some (Gps sat (clock.iodc % 256))
 key_in sat (OfOrbitA orbit fit) = Some (Gps sat orbit.iode)
 key_in sat (OfOrbitB orbit) = Some (Gps sat orbit.iode)
@@ -37,7 +37,7 @@ key_in sat (OfGpsIon ionosphere second) = Some (GpsIon ionosphere)
 key_in sat (OfGalIon ionosphere wn second) = Some (GalIon ionosphere)
 
 -- the key of a part
-abbrev pub key_of : Part → Option Key
+abbrev pub key_of : Part → Option PeriodKey
 key_of p = key_in p.sat p.body
 
 -- the kinds of values that parts carry: contents, and values that are sent along with a content
@@ -97,7 +97,7 @@ pub record HasValue (k : Kind) (set : Part → Type 0) (v : Value k) : Type 0 wh
   pub says : Says k part v
 
 -- the kinds of contents that make an item of the key; none for an ionosphere, whose content is the key
-abbrev pub kinds_of : Key → List Kind
+abbrev pub kinds_of : PeriodKey → List Kind
 kinds_of (Gps sat issue) = Clock ∷ OrbitA ∷ OrbitB ∷ []
 kinds_of (Gal sat issue) = Word1 ∷ Word2 ∷ Word3 ∷ Word4 ∷ []
 kinds_of (GpsIon content) = []

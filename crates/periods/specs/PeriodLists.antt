@@ -3,7 +3,7 @@ use Rattle.std.specs.Prelude.{◌≡◌, ℕ, ◌+◌, ◌<◌, nat_lt, List, []
 use Rattle.std.specs.List.{AllByRecursion}
 use Rattle.nav_eph.specs.declared.items.NavItem.{NavItem}
 use Rattle.nav_eph.specs.declared.part.Part.{Part}
-use Rattle.periods.specs.declared.key.Place.{Place}
+use Rattle.periods.specs.declared.key.PeriodId.{PeriodId}
 use Rattle.periods.specs.declared.closed.Closed.{Closed}
 use Rattle.periods.specs.declared.closed.Verdict.{Verdict}
 use Rattle.periods.specs.declared.closed.Verdict.TheVariants.{Whole, Partial, Contradicted, NoHealth, Again}
@@ -19,14 +19,14 @@ IsAscending (c ∷ cs) = AllByRecursion (λ d. IsBefore (closed_place c) (closed
 pub record ArePeriods (r window : ℕ) (parts : Part → Type 0) (periods : List Closed) : Type 0 where
   pub ascending : IsAscending periods
   pub each : (c : Closed) → Contains periods c → IsClosed r window parts c
-  pub every : (place : Place) → IsPeriod window parts place → (c : Closed) × Contains periods c × (closed_place c ≡ place)
+  pub every : (place : PeriodId) → IsPeriod window parts place → (c : Closed) × Contains periods c × (closed_place c ≡ place)
 
 -- the list, strictly ascending, of exactly the periods whose end plus the window is below the watermark
 pub record AreClosed (r window : ℕ) (parts : Part → Type 0) (watermark : ℕ) (periods : List Closed) : Type 0 where
   pub ascending : IsAscending periods
   pub each : (c : Closed) → Contains periods c → IsClosed r window parts c
   pub low : (c : Closed) → Contains periods c → c.end + window < watermark
-  pub every : (place : Place) → IsPeriod window parts place → place.end + window < watermark → (c : Closed) × Contains periods c × (closed_place c ≡ place)
+  pub every : (place : PeriodId) → IsPeriod window parts place → place.end + window < watermark → (c : Closed) × Contains periods c × (closed_place c ≡ place)
 
 -- the periods of a list whose end plus the window is below the watermark
 abbrev pub closed_at : ℕ → ℕ → List Closed → List Closed

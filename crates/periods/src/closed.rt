@@ -1,4 +1,4 @@
-use crate::key::{Key, Place};
+use crate::key::{PeriodId, PeriodKey};
 use nav_eph::NavItem;
 
 /// What the parts of a period come to, without a look at earlier periods.
@@ -36,7 +36,7 @@ pub struct Closed {
     /// The time tag of its last part.
     pub end: u32,
     /// The key of its parts.
-    pub key: Key,
+    pub key: PeriodKey,
     /// The verdict on it.
     pub verdict: Verdict,
 }

@@ -1,30 +1,30 @@
 ghost use Rattle.std.specs.Prelude.{◌≡◌, ◌+◌, ◌*◌, ◌≤◌, ℕ, Option};
 ghost use Rattle.std.specs.Prelude.{pos, ◌-ℤ◌, None, Some, true};
-ghost use Rattle.gnss_week.specs.Functions.{galileo_week_to};
-ghost use Rattle.gnss_week.specs.Weeks.{week_of};
+ghost use Rattle.nav_eph.specs.Functions.{galileo_week_to};
+ghost use Rattle.nav_eph.specs.Weeks.{week_of};
 ghost use Rattle.periods.specs.Items.{gps_ion_moment, gps_moment, sent_second, tag_second};
 ghost use Rattle.periods.specs.Items.{toe_week_of};
 ghost use Rattle.periods.specs.DigestsOf.{digest_finding, gal_finding, gal_item, gps_finding};
 ghost use Rattle.periods.specs.DigestsOf.{gps_item};
 ghost use Rattle.periods.specs.Mirrors.{gal_lacks, gps_lacks, or_else, seen_differs};
 ghost use Rattle.periods.specs.Mirrors.{seen_nothing, seen_only};
-ghost use Rattle.periods.specs.declared.key.Key.{Key};
+ghost use Rattle.periods.specs.declared.key.PeriodKey.{PeriodKey};
 ghost use Rattle.periods.specs.declared.closed.Finding.TheVariants.{Misses};
 ghost use Rattle.nav_eph.specs.declared.galileo.GalHealth.{GalHealth};
 ghost use Rattle.nav_eph.specs.declared.tag.SentTag.{SentTag};
 ghost use Rattle.periods.specs.declared.digest.Digest.TheVariants.{Ion as IonForm};
-ghost use Rattle.periods.specs.declared.key.Key.TheVariants.{GpsIon as OfGpsIon};
-ghost use Rattle.periods.specs.declared.key.Key.TheVariants.{GalIon as OfGalIon};
+ghost use Rattle.periods.specs.declared.key.PeriodKey.TheVariants.{GpsIon as OfGpsIon};
+ghost use Rattle.periods.specs.declared.key.PeriodKey.TheVariants.{GalIon as OfGalIon};
 ghost use Rattle.nav_eph.specs.Conditions.{wn_of};
 
 use crate::closed::Finding;
 use crate::digest::{Digest, GalDigest, GpsDigest, Seen};
-use crate::key::{Key, Transmission};
-use gnss_week::{Moment, RefWeek, Second, Week, gal_week, gps_week, nearest_moment};
+use crate::key::{PeriodKey, Transmission};
 use nav_bits::U;
 use nav_eph::{
     GalEph, GalHealth, GalIon, GalWord1, GalWord2, GalWord3, GalWord4, GpsClock, GpsEph, GpsIon,
-    GpsOrbitA, GpsOrbitB, GpsSide, IonContent, IonEph, NavItem, Sat, SentSecond, SentTag,
+    GpsOrbitA, GpsOrbitB, GpsSide, IonContent, IonEph, Moment, NavItem, RefWeek, Sat, Second,
+    SentSecond, SentTag, Week, gal_week, gps_week, nearest_moment,
 };
 
 // Seconds in a week.
@@ -300,7 +300,8 @@ impl Digest {
     /// A kind of part is missing and none differs: the finding is `Misses`, whatever the health. It
     /// costs less than the finding itself.
     pub fn lacks_parts(&self) -> bool
-        ensures { result ≡ true → (r : ℕ) (key : Key) (health : Option (ℕ × GalHealth × SentTag))
+        ensures { result ≡ true
+            → (r : ℕ) (key : PeriodKey) (health : Option (ℕ × GalHealth × SentTag))
             → digest_finding r key self.now health ≡ Misses }
     {
         match self {
@@ -313,21 +314,26 @@ impl Digest {
     /// The finding of a period from the digest of its members and the health near its end; week
     /// numbers are resolved near the reference week `r`. `Misses` if the key is of another kind
     /// than the digest.
-    pub fn finding(self, r: RefWeek, key: Key, health: Option<(u32, GalHealth, SentTag)>) -> Finding
+    pub fn finding(
+        self,
+        r: RefWeek,
+        key: PeriodKey,
+        health: Option<(u32, GalHealth, SentTag)>,
+    ) -> Finding
         ensures { result ≡ digest_finding r key self health }
     {
         match self {
             Digest::Gps(d) => match key {
-                Key::Gps(sat, _) => find_gps(r, sat, d),
+                PeriodKey::Gps(sat, _) => find_gps(r, sat, d),
                 _ => Finding::Misses,
             },
             Digest::Gal(d) => match key {
-                Key::Gal(sat, _) => find_gal(r, sat, d, health),
+                PeriodKey::Gal(sat, _) => find_gal(r, sat, d, health),
                 _ => Finding::Misses,
             },
             Digest::Ion(transmission) => match key {
-                Key::GpsIon(content) => gps_ionosphere(r, transmission, content),
-                Key::GalIon(content) => gal_ionosphere(r, transmission, content),
+                PeriodKey::GpsIon(content) => gps_ionosphere(r, transmission, content),
+                PeriodKey::GalIon(content) => gal_ionosphere(r, transmission, content),
                 _ => Finding::Misses,
             },
         }

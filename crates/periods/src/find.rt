@@ -11,11 +11,10 @@ ghost use Rattle.periods.specs.PeriodsOf.{last_item, members_digest, verdict_at}
 use crate::closed::{Finding, Verdict};
 use crate::digest::Digest;
 use crate::health::health_near;
-use crate::key::{Key, Place};
+use crate::key::{PeriodId, PeriodKey};
 use crate::order::{is_part_of, stamp_in};
 use crate::search::{is_later, is_quiet, last_end_before};
-use gnss_week::RefWeek;
-use nav_eph::{NavItem, Part};
+use nav_eph::{NavItem, Part, RefWeek};
 
 // The stamp is after the key's previous end, if there is one.
 fn is_behind_end(before: Option<u32>, stamp: u32) -> bool
@@ -28,7 +27,7 @@ fn is_behind_end(before: Option<u32>, stamp: u32) -> bool
 }
 
 // The part is of the key, after its previous end and up to its end.
-fn belongs(key: &Key, end: u32, before: Option<u32>, part: &Part) -> bool
+fn belongs(key: &PeriodKey, end: u32, before: Option<u32>, part: &Part) -> bool
     ensures { result ≡ is_member key.now end before part.now }
 {
     is_part_of(key, part) && (is_behind_end(before, part.stamp) && part.stamp <= end)
@@ -49,7 +48,7 @@ fn joined(all: Option<Digest>, one: Option<Digest>) -> Option<Digest>
 fn joined_with(
     all: Option<Digest>,
     part: &Part,
-    key: &Key,
+    key: &PeriodKey,
     end: u32,
     before: Option<u32>,
 ) -> Option<Digest>
@@ -64,7 +63,7 @@ fn joined_with(
 }
 
 // The digest of the members of the period.
-fn digest_members(parts: &[Part], key: &Key, end: u32, before: Option<u32>) -> Option<Digest>
+fn digest_members(parts: &[Part], key: &PeriodKey, end: u32, before: Option<u32>) -> Option<Digest>
     ensures { result ≡ members_digest key.now end before parts.now None }
 {
     let mut all: Option<Digest> = None;
@@ -76,7 +75,7 @@ fn digest_members(parts: &[Part], key: &Key, end: u32, before: Option<u32>) -> O
 
 /// What the period at a place comes to by itself; week numbers are resolved near the reference week
 /// `r`.
-pub fn finding_on(parts: &[Part], r: RefWeek, window: u32, place: &Place) -> Finding
+pub fn finding_on(parts: &[Part], r: RefWeek, window: u32, place: &PeriodId) -> Finding
     ensures { result ≡ finding_at r window parts.now place.now }
 {
     let before = last_end_before(parts, window, &place.key, place.end);
@@ -141,13 +140,13 @@ fn is_complete_below(
     parts: &[Part],
     r: RefWeek,
     window: u32,
-    key: &Key,
+    key: &PeriodKey,
     end: u32,
     stamp: u32,
 ) -> bool
     ensures { result ≡ complete_below r window parts.now key.now end stamp }
 {
-    let place = Place {
+    let place = PeriodId {
         end: stamp,
         key: *key,
     };
@@ -162,7 +161,7 @@ fn complete_with(
     parts: &[Part],
     r: RefWeek,
     window: u32,
-    key: &Key,
+    key: &PeriodKey,
     end: u32,
 ) -> Option<u32>
     ensures { result
@@ -182,7 +181,7 @@ fn complete_with(
 }
 
 // The end of the key's last complete period below `end`.
-fn last_complete(parts: &[Part], r: RefWeek, window: u32, key: &Key, end: u32) -> Option<u32>
+fn last_complete(parts: &[Part], r: RefWeek, window: u32, key: &PeriodKey, end: u32) -> Option<u32>
     ensures { result ≡ complete_before r window parts.now key.now end }
 {
     let mut best: Option<u32> = None;
@@ -193,13 +192,13 @@ fn last_complete(parts: &[Part], r: RefWeek, window: u32, key: &Key, end: u32) -
 }
 
 // The item of the key's last complete period below `end`.
-fn last_known(parts: &[Part], r: RefWeek, window: u32, key: &Key, end: u32) -> Option<NavItem>
+fn last_known(parts: &[Part], r: RefWeek, window: u32, key: &PeriodKey, end: u32) -> Option<NavItem>
     ensures { result ≡ last_item r window parts.now key.now end }
 {
     match last_complete(parts, r, window, key, end) {
         None => None,
         Some(stamp) => {
-            let place = Place {
+            let place = PeriodId {
                 end: stamp,
                 key: *key,
             };
@@ -209,19 +208,19 @@ fn last_known(parts: &[Part], r: RefWeek, window: u32, key: &Key, end: u32) -> O
 }
 
 // The earlier item that the period's item is compared with; `None` for an ionosphere.
-fn known_before(parts: &[Part], r: RefWeek, window: u32, place: &Place) -> Option<NavItem>
+fn known_before(parts: &[Part], r: RefWeek, window: u32, place: &PeriodId) -> Option<NavItem>
     ensures { result ≡ item_before r window parts.now place.now.key place.now.end }
 {
     match place.key {
-        Key::Gps(_, _) => last_known(parts, r, window, &place.key, place.end),
-        Key::Gal(_, _) => last_known(parts, r, window, &place.key, place.end),
-        Key::GpsIon(_) => None,
-        Key::GalIon(_) => None,
+        PeriodKey::Gps(_, _) => last_known(parts, r, window, &place.key, place.end),
+        PeriodKey::Gal(_, _) => last_known(parts, r, window, &place.key, place.end),
+        PeriodKey::GpsIon(_) => None,
+        PeriodKey::GalIon(_) => None,
     }
 }
 
 /// The verdict on the period at a place; week numbers are resolved near the reference week `r`.
-pub fn verdict_on(parts: &[Part], r: RefWeek, window: u32, place: &Place) -> Verdict
+pub fn verdict_on(parts: &[Part], r: RefWeek, window: u32, place: &PeriodId) -> Verdict
     ensures { result ≡ verdict_at r window parts.now place.now }
 {
     let finding = finding_on(parts, r, window, place);

@@ -6,7 +6,7 @@ ghost use Rattle.periods.specs.Mirrors.{behind_end, best_among, best_with, earli
 ghost use Rattle.periods.specs.DigestsOf.{satellite_health};
 ghost use Rattle.periods.specs.Mirrors.{is_better, later, up_to_end};
 
-use crate::key::Key;
+use crate::key::PeriodKey;
 use crate::order::is_same_sat;
 use nav_eph::{Body, GalHealth, Part, Sat, SentTag};
 
@@ -144,13 +144,13 @@ fn sat_health(parts: &[Part], window: u32, sat: Sat, end: u32) -> Option<(u32, G
 pub(crate) fn health_near(
     parts: &[Part],
     window: u32,
-    key: Key,
+    key: PeriodKey,
     end: u32,
 ) -> Option<(u32, GalHealth, SentTag)>
     ensures { result ≡ health_at window parts.now key end }
 {
     match key {
-        Key::Gal(sat, _) => sat_health(parts, window, sat, end),
+        PeriodKey::Gal(sat, _) => sat_health(parts, window, sat, end),
         _ => None,
     }
 }

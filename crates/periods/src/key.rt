@@ -1,10 +1,9 @@
-use gnss_week::Second;
 use nav_bits::U;
-use nav_eph::{GalIon, GpsIon, Sat};
+use nav_eph::{GalIon, GpsIon, Sat, Second};
 
 /// What a part belongs to: an issue of a satellite's ephemeris, or a content of the ionosphere.
 #[derive(Clone, Copy, PartialEq, Eq)]
-pub enum Key {
+pub enum PeriodKey {
     /// A GPS satellite and its issue of data: the IODE of subframes 2 and 3, equal to the low eight
     /// bits of the IODC of subframe 1 (IS-GPS-200, 20.3.4.4).
     Gps(Sat, U<8>),
@@ -18,11 +17,11 @@ pub enum Key {
 
 /// What identifies a period: its end and its key. A key has at most one period with a given end.
 #[derive(Clone, Copy)]
-pub struct Place {
+pub struct PeriodId {
     /// The time tag of the last part of the period.
     pub end: u32,
     /// The key of its parts.
-    pub key: Key,
+    pub key: PeriodKey,
 }
 
 /// The transmission of an ionosphere: by which satellite, and when.

@@ -3,13 +3,13 @@
 ghost use Rattle.std.specs.Prelude.{◌≡◌, ◌+◌, ◌*◌, ◌<◌, ◌≤◌};
 ghost use Rattle.std.specs.Prelude.{◌∷◌, ◌++◌, ◌↔◌, ◌⊎◌, ℕ, List, []};
 ghost use Rattle.std.specs.Prelude.{Option, Some, true, All, Contains};
-ghost use Rattle.gnss_week.specs.Weeks.{IsReference};
+ghost use Rattle.nav_eph.specs.Weeks.{IsReference};
 ghost use Rattle.nav_eph.specs.Conditions.{IsPart};
 ghost use Rattle.nav_eph.specs.Ranges.{IsItem};
 ghost use Rattle.nav_eph.specs.declared.items.NavItem.{NavItem};
 ghost use Rattle.nav_eph.specs.declared.part.Part.{Part};
-ghost use Rattle.periods.specs.declared.key.Key.{Key};
-ghost use Rattle.periods.specs.declared.key.Place.{Place};
+ghost use Rattle.periods.specs.declared.key.PeriodKey.{PeriodKey};
+ghost use Rattle.periods.specs.declared.key.PeriodId.{PeriodId};
 ghost use Rattle.periods.specs.declared.closed.Closed.{Closed};
 ghost use Rattle.periods.specs.declared.closed.Verdict.TheVariants.{Whole, Again};
 ghost use Rattle.periods.specs.declared.closed.Finding.{Finding};
@@ -64,13 +64,13 @@ pub fn closed_stays()
 /// One more part: the periods of its key within the window of it, at most two, become one period
 /// with it; all others stay.
 pub fn one_more_part()
-    ensures one { (window : ℕ) (parts : List Part) (part : Part) (key : Key)
-        → key_of part ≡ Some key → (place : Place)
+    ensures one { (window : ℕ) (parts : List Part) (part : Part) (key : PeriodKey)
+        → key_of part ≡ Some key → (place : PeriodId)
         × IsJoined window (Contains parts) part (Contains (parts ++ part ∷ [])) place }
-    ensures at_most_two { (window : ℕ) (parts : List Part) (part : Part) (a b c : Place)
+    ensures at_most_two { (window : ℕ) (parts : List Part) (part : Part) (a b c : PeriodId)
         → IsTouched window (Contains parts) part a → IsTouched window (Contains parts) part b
         → IsTouched window (Contains parts) part c → a.end < b.end → b.end < c.end → ⊥ }
-    ensures rest { (window : ℕ) (parts : List Part) (part : Part) (place : Place)
+    ensures rest { (window : ℕ) (parts : List Part) (part : Part) (place : PeriodId)
         → IsPeriod window (Contains parts) place
         → (IsTouched window (Contains parts) part place → ⊥)
         → Stays window (Contains parts) (Contains (parts ++ part ∷ [])) place }
@@ -80,17 +80,17 @@ pub fn one_more_part()
 /// the periods of both together are those of either, with the same findings. Verdicts may differ,
 /// since a period may repeat an earlier one.
 pub fn parts_far_apart()
-    ensures periods { (window watermark : ℕ) (some more : List Part) (place : Place)
+    ensures periods { (window watermark : ℕ) (some more : List Part) (place : PeriodId)
         → All (λ p. p.stamp + window < watermark) some → All (λ p. watermark ≤ p.stamp) more
         → IsPeriod window (Contains (some ++ more)) place
         ↔ (IsPeriod window (Contains some) place ⊎ IsPeriod window (Contains more) place) }
-    ensures first { (r window watermark : ℕ) (some more : List Part) (place : Place)
+    ensures first { (r window watermark : ℕ) (some more : List Part) (place : PeriodId)
         (finding : Finding) → All (λ p. p.stamp + window < watermark) some
         → All (λ p. watermark ≤ p.stamp) more
         → IsPeriod window (Contains some) place
         → IsFound r window (Contains (some ++ more)) place finding
         ↔ IsFound r window (Contains some) place finding }
-    ensures second { (r window watermark : ℕ) (some more : List Part) (place : Place)
+    ensures second { (r window watermark : ℕ) (some more : List Part) (place : PeriodId)
         (finding : Finding) → All (λ p. p.stamp + window < watermark) some
         → All (λ p. watermark ≤ p.stamp) more
         → IsPeriod window (Contains more) place
@@ -101,26 +101,26 @@ pub fn parts_far_apart()
 /// The computed digests and findings are the specified ones: for one part, for the union of two
 /// sets of parts, and for the members of a period with the health near its end.
 pub fn digests_are()
-    ensures one { (part : Part) (key : Key) (d : Digest)
+    ensures one { (part : Part) (key : PeriodKey) (d : Digest)
         → key_of part ≡ Some key → digest_of part ≡ Some d
         → IsDigest key (Contains (part ∷ [])) d }
-    ensures joined { (key : Key) (some more : List Part) (x y : Digest)
+    ensures joined { (key : PeriodKey) (some more : List Part) (x y : Digest)
         → IsDigest key (Contains some) x → IsDigest key (Contains more) y
         → IsDigest key (Contains (some ++ more)) (digest_join x y) }
-    ensures finding { (r window : ℕ) (parts : List Part) (place : Place) (d : Digest)
+    ensures finding { (r window : ℕ) (parts : List Part) (place : PeriodId) (d : Digest)
         → IsDigest place.key (IsMember window (Contains parts) place) d
         → IsFound r window (Contains parts) place
         (digest_finding r place.key d (health_at window parts place.key place.end)) }
 {}
 
 /// The test `is_of` holds exactly if the key is that of the part.
-pub fn keys_are_told()
-    ensures { (key : Key) (part : Part)
+pub fn keys_are_decided()
+    ensures { (key : PeriodKey) (part : Part)
         → (is_of key part ≡ true) ↔ (key_of part ≡ Some key) }
 {}
 
 /// Only the period of an ephemeris has the verdict `Again`, never that of an ionosphere.
-pub fn only_ephemerides_are_said_again()
+pub fn only_ephemerides_are_repeated()
     ensures { (r window : ℕ) (parts : List Part) (c : Closed)
         → IsClosed r window (Contains parts) c → c.verdict ≡ Again → IsOfEphemeris c.key }
 {}

@@ -6,7 +6,7 @@ ghost use Rattle.periods.specs.Periods.{key_numbers};
 ghost use Rattle.periods.specs.KeyTests.{is_of, same_key};
 ghost use Rattle.periods.specs.PeriodsOf.{is_before, place_at, stamp_of};
 
-use crate::key::{Key, Place};
+use crate::key::{PeriodId, PeriodKey};
 use nav_bits::U;
 use nav_eph::{Body, Part, Sat, System};
 
@@ -18,40 +18,40 @@ pub fn is_same_sat(a: &Sat, b: &Sat) -> bool
 }
 
 // Both keys are the same.
-fn is_same_key(a: &Key, b: &Key) -> bool
+fn is_same_key(a: &PeriodKey, b: &PeriodKey) -> bool
     ensures { result ≡ same_key a.now b.now }
 {
     match (a, b) {
-        (Key::Gps(s, i), Key::Gps(t, j)) => is_same_sat(s, t) && i.value() == j.value(),
-        (Key::Gal(s, i), Key::Gal(t, j)) => is_same_sat(s, t) && i.value() == j.value(),
-        (Key::GpsIon(c), Key::GpsIon(d)) => *c == *d,
-        (Key::GalIon(c), Key::GalIon(d)) => *c == *d,
+        (PeriodKey::Gps(s, i), PeriodKey::Gps(t, j)) => is_same_sat(s, t) && i.value() == j.value(),
+        (PeriodKey::Gal(s, i), PeriodKey::Gal(t, j)) => is_same_sat(s, t) && i.value() == j.value(),
+        (PeriodKey::GpsIon(c), PeriodKey::GpsIon(d)) => *c == *d,
+        (PeriodKey::GalIon(c), PeriodKey::GalIon(d)) => *c == *d,
         _ => false,
     }
 }
 
 /// The key of a part; `None` for health, which belongs to every issue of its satellite.
-pub fn key_of_part(part: &Part) -> Option<Key>
+pub fn key_of_part(part: &Part) -> Option<PeriodKey>
     ensures { result ≡ key_of part.now }
 {
     match &part.body {
         Body::GpsClock(clock, _, _) => {
-            Some(Key::Gps(part.sat, U::from_bits(clock.iodc.value() % 256)))
+            Some(PeriodKey::Gps(part.sat, U::from_bits(clock.iodc.value() % 256)))
         }
-        Body::GpsA(orbit, _) => Some(Key::Gps(part.sat, orbit.iode)),
-        Body::GpsB(orbit) => Some(Key::Gps(part.sat, orbit.iode)),
-        Body::GalW1(word) => Some(Key::Gal(part.sat, word.iodnav)),
-        Body::GalW2(word) => Some(Key::Gal(part.sat, word.iodnav)),
-        Body::GalW3(word) => Some(Key::Gal(part.sat, word.iodnav)),
-        Body::GalW4(word) => Some(Key::Gal(part.sat, word.iodnav)),
+        Body::GpsA(orbit, _) => Some(PeriodKey::Gps(part.sat, orbit.iode)),
+        Body::GpsB(orbit) => Some(PeriodKey::Gps(part.sat, orbit.iode)),
+        Body::GalW1(word) => Some(PeriodKey::Gal(part.sat, word.iodnav)),
+        Body::GalW2(word) => Some(PeriodKey::Gal(part.sat, word.iodnav)),
+        Body::GalW3(word) => Some(PeriodKey::Gal(part.sat, word.iodnav)),
+        Body::GalW4(word) => Some(PeriodKey::Gal(part.sat, word.iodnav)),
         Body::GalHealth(_, _) => None,
-        Body::GpsIon(ionosphere, _) => Some(Key::GpsIon(*ionosphere)),
-        Body::GalIon(ionosphere, _, _) => Some(Key::GalIon(*ionosphere)),
+        Body::GpsIon(ionosphere, _) => Some(PeriodKey::GpsIon(*ionosphere)),
+        Body::GalIon(ionosphere, _, _) => Some(PeriodKey::GalIon(*ionosphere)),
     }
 }
 
 /// The part is of the key.
-pub fn is_part_of(key: &Key, part: &Part) -> bool
+pub fn is_part_of(key: &PeriodKey, part: &Part) -> bool
     ensures { result ≡ is_of key.now part.now }
 {
     match key_of_part(part) {
@@ -61,7 +61,7 @@ pub fn is_part_of(key: &Key, part: &Part) -> bool
 }
 
 // The stamp of a part of the key; `None` for other parts.
-pub(crate) fn stamp_in(key: &Key, part: &Part) -> Option<u32>
+pub(crate) fn stamp_in(key: &PeriodKey, part: &Part) -> Option<u32>
     ensures { result ≡ stamp_of key.now part.now }
 {
     if is_part_of(key, part) {
@@ -72,12 +72,12 @@ pub(crate) fn stamp_in(key: &Key, part: &Part) -> Option<u32>
 }
 
 /// The end and key of a period that ends with the part; `None` for health, which has no key.
-pub fn place_of_part(part: &Part) -> Option<Place>
+pub fn place_of_part(part: &Part) -> Option<PeriodId>
     ensures { result ≡ place_at part.now }
 {
     match key_of_part(part) {
         None => None,
-        Some(key) => Some(Place {
+        Some(key) => Some(PeriodId {
             end: part.stamp,
             key,
         }),
@@ -96,19 +96,19 @@ pub fn system_number(system: System) -> u8
 
 // The numbers by which keys are ordered: class, system, satellite number, and issue of data or
 // content.
-fn numbers(key: &Key) -> (u8, u8, u8, u64)
+fn numbers(key: &PeriodKey) -> (u8, u8, u8, u64)
     ensures { key_numbers key.now ≡ result.0 ∷ result.1 ∷ result.2 ∷ result.3 ∷ [] }
 {
     match key {
-        Key::Gps(sat, issue) => (0, system_number(sat.system()), sat.number(), issue.value()),
-        Key::Gal(sat, issue) => (1, system_number(sat.system()), sat.number(), issue.value()),
-        Key::GpsIon(content) => (2, 0, 0, content.number()),
-        Key::GalIon(content) => (3, 0, 0, content.number()),
+        PeriodKey::Gps(sat, issue) => (0, system_number(sat.system()), sat.number(), issue.value()),
+        PeriodKey::Gal(sat, issue) => (1, system_number(sat.system()), sat.number(), issue.value()),
+        PeriodKey::GpsIon(content) => (2, 0, 0, content.number()),
+        PeriodKey::GalIon(content) => (3, 0, 0, content.number()),
     }
 }
 
 /// Period `a` comes before `b`: by end, then by key.
-pub fn comes_before(a: &Place, b: &Place) -> bool
+pub fn comes_before(a: &PeriodId, b: &PeriodId) -> bool
     ensures { result ≡ is_before a.now b.now }
 {
     if a.end != b.end {

@@ -4,12 +4,12 @@ ghost use Rattle.std.specs.Prelude.{◌≡◌, ◌<◌, None, nat_lt};
 ghost use Rattle.periods.specs.Mirrors.{best_among, best_with, is_better};
 ghost use Rattle.periods.specs.PeriodsOf.{quiet_at, quiet, end_below, end_before, stamp_of};
 
-use crate::key::Key;
+use crate::key::PeriodKey;
 use crate::order::{is_part_of, stamp_in};
 use nav_eph::Part;
 
 // The part is not a part of the key in the window after the stamp `end`.
-fn is_quiet_at(window: u32, key: &Key, end: u32, part: &Part) -> bool
+fn is_quiet_at(window: u32, key: &PeriodKey, end: u32, part: &Part) -> bool
     ensures { result ≡ quiet_at window key.now end part.now }
 {
     !is_part_of(key, part)
@@ -17,7 +17,7 @@ fn is_quiet_at(window: u32, key: &Key, end: u32, part: &Part) -> bool
 }
 
 /// No part of the key has a time tag in the window after `end`.
-pub fn is_quiet(parts: &[Part], window: u32, key: &Key, end: u32) -> bool
+pub fn is_quiet(parts: &[Part], window: u32, key: &PeriodKey, end: u32) -> bool
     ensures { result ≡ quiet parts.now window key.now end }
 {
     parts.iter().all(|part| is_quiet_at(window, key, end, part))
@@ -39,7 +39,7 @@ fn end_with(
     stamp: Option<u32>,
     parts: &[Part],
     window: u32,
-    key: &Key,
+    key: &PeriodKey,
     end: u32,
 ) -> Option<u32>
     ensures { result
@@ -58,7 +58,7 @@ fn end_with(
 }
 
 // The key's last end below `end`.
-pub(crate) fn last_end_before(parts: &[Part], window: u32, key: &Key, end: u32) -> Option<u32>
+pub(crate) fn last_end_before(parts: &[Part], window: u32, key: &PeriodKey, end: u32) -> Option<u32>
     ensures { result ≡ end_before parts.now window key.now end }
 {
     let mut best: Option<u32> = None;

@@ -5,9 +5,9 @@ use Rattle.std.proofs.Common.{append_assoc, drop, length-append}
 use Rattle.std.proofs.lemmas.Bool.{both_ways, le-leb, lt-leb}
 use Rattle.std.specs.Prelude.{Option, Some, None, if◌then◌else◌}
 use Rattle.std.specs.Option.{is_some}
-use Rattle.receiver_messages.specs.declared.said.Content.{Content}
-use Rattle.receiver_messages.specs.declared.said.Said.{Said}
-use Rattle.receiver_messages.specs.declared.said.Said.TheVariants.{Other, Time, Heard, Dated}
+use Rattle.receiver_log.specs.declared.content.LogContent.{LogContent}
+use Rattle.receiver_log.specs.declared.content.LogMessage.{LogMessage}
+use Rattle.receiver_log.specs.declared.content.LogMessage.TheVariants.{Other, Time, Received, Dated}
 use Rattle.receiver_log.specs.declared.queue.Pending.{Pending}
 use Rattle.receiver_log.specs.Log.{one_more}
 use Rattle.receiver_log.specs.Mirrors.{QueueState, behind_time, decision, stamped, to_come}
@@ -33,25 +33,25 @@ between_crowded first (Some second) parts many =
     rw (few, and3_false (nat_le first (second + 1)) (nat_le second (first + 60))) refl
 
 -- with too many between, there is no time
-pub decision_crowded : (more : Bool) (first : ℕ) (says : List Said) (parts : ℕ) → 1024 < parts
+pub decision_crowded : (more : Bool) (first : ℕ) (says : List LogMessage) (parts : ℕ) → 1024 < parts
     → decision more (Some first) says parts ≡ Some None
 decision_crowded more first says parts many =
     let few : nat_le parts 1024 ≡ false = lt-leb parts 1024 many in
     rw (between_crowded first (nearest says) parts many, few, and_false (not (has_time says))) refl
 
 -- a time message decides
-pub decision_time : (more : Bool) (time next : Option ℕ) (says : List Said) (parts : ℕ)
+pub decision_time : (more : Bool) (time next : Option ℕ) (says : List LogMessage) (parts : ℕ)
     → decision more time (Time next ∷ says) parts ≡ Some (between time next parts)
 decision_time more None next says parts = refl
 decision_time more (Some first) next says parts = refl
 
 -- a subframe or a page is counted
-decision_heard : (more : Bool) (time : Option ℕ) (content : Content) (says : List Said) (parts : ℕ)
-    → decision more time (Heard content ∷ says) parts ≡ decision more time says parts
+decision_heard : (more : Bool) (time : Option ℕ) (content : LogContent) (says : List LogMessage) (parts : ℕ)
+    → decision more time (Received content ∷ says) parts ≡ decision more time says parts
 decision_heard more None content says parts = refl
 decision_heard more (Some first) content says parts = refl
 
-pub decision_other : (more : Bool) (time : Option ℕ) (says : List Said) (parts : ℕ)
+pub decision_other : (more : Bool) (time : Option ℕ) (says : List LogMessage) (parts : ℕ)
     → decision more time (Other ∷ says) parts ≡ decision more time says parts
 decision_other more None says parts = refl
 decision_other more (Some first) says parts = refl
@@ -81,12 +81,12 @@ stamped_append (Some time) (x ∷ xs) ys = ap
 -- ---- messages behind a time message
 
 -- without a time before, it is nothing how many there were
-behind_none : (more : Bool) (p q n : ℕ) (says : List Said)
+behind_none : (more : Bool) (p q n : ℕ) (says : List LogMessage)
     → behind_time more None p n says ≡ behind_time more None q n says
 behind_none more p q n [] = refl
 behind_none more p q n (Other ∷ says) = behind_none more p q (one_more n) says
 behind_none more p q n (Time next ∷ says) = refl
-behind_none more p q n (Heard content ∷ says) = ap
+behind_none more p q n (Received content ∷ says) = ap
     (λ t. record { number = one_more n; time = None; content = content } ∷ t)
     (behind_none more (p + 1) (q + 1) (one_more n) says)
 behind_none more p q n (Dated own content ∷ says) = ap
@@ -94,13 +94,13 @@ behind_none more p q n (Dated own content ∷ says) = ap
     (behind_none more (p + 1) (q + 1) (one_more n) says)
 
 -- too many behind a time are as those behind none
-behind_crowded : (more : Bool) (first p q n : ℕ) (says : List Said) → 1024 < p
+behind_crowded : (more : Bool) (first p q n : ℕ) (says : List LogMessage) → 1024 < p
     → behind_time more (Some first) p n says ≡ behind_time more None q n says
 behind_crowded more first p q n [] many = refl
 behind_crowded more first p q n (Other ∷ says) many =
     behind_crowded more first p q (one_more n) says many
 behind_crowded more first p q n (Time next ∷ says) many = refl
-behind_crowded more first p q n (Heard content ∷ says) many =
+behind_crowded more first p q n (Received content ∷ says) many =
     let x : Pending = record { number = one_more n; content = content } in
     ap (λ d. stamped d (x ∷ []) ++ behind_time more (Some first) (p + 1) (one_more n) says)
     (decision_crowded more first says (p + 1 + parts_to says) (omega (arith, many)))
@@ -113,7 +113,7 @@ behind_crowded more first p q n (Dated own content ∷ says) many = ap
 -- ---- the queue
 
 -- a message of another type
-pub other_comes : (more : Bool) (q : QueueState) (n : ℕ) (says : List Said) → q.settled ≡ None
+pub other_comes : (more : Bool) (q : QueueState) (n : ℕ) (says : List LogMessage) → q.settled ≡ None
     → to_come more q n (Other ∷ says) ≡ to_come more q (one_more n) says
 other_comes more q n says unset =
     rw unset (ap (λ d. stamped d q.waiting
@@ -122,7 +122,7 @@ other_comes more q n says unset =
 
 -- a time message
 pub time_comes : (more : Bool) (waiting : List Pending) (time next at : Option ℕ) (n : ℕ)
-    (says : List Said)
+    (says : List LogMessage)
     → at ≡ between time next (length waiting)
     → to_come more (record { waiting = waiting; time = time; settled = None }) n (Time next ∷ says)
     ≡ to_come more (record { waiting = waiting; time = next; settled = Some at }) (one_more n) says
@@ -136,14 +136,14 @@ time_comes more waiting time next at n says is =
 
 -- one more waits, with a time before
 heard_waits : (more : Bool) (waiting : List Pending) (x : Pending) (time : Option ℕ) (n : ℕ)
-    (says : List Said) (d : Option (Option ℕ))
+    (says : List LogMessage) (d : Option (Option ℕ))
     → x.number ≡ one_more n
     → decision more time says (length waiting + 1 + parts_to says) ≡ d
     → to_come more (record { waiting = waiting; time = time; settled = None }) n
-    (Heard x.content ∷ says)
+    (Received x.content ∷ says)
     ≡ stamped d (waiting ++ x ∷ []) ++ behind_time more time (length waiting + 1) (one_more n) says
 heard_waits more waiting x time n says d number is =
-    let here : decision more time (Heard x.content ∷ says) (length waiting + (parts_to says + 1)) ≡ d =
+    let here : decision more time (Received x.content ∷ says) (length waiting + (parts_to says + 1)) ≡ d =
     decision_heard more time x.content says (length waiting + (parts_to says + 1))
     ∙ ap (λ k. decision more time says k) (moved (length waiting) (parts_to says)) ∙ is in
     let rest = behind_time more time (length waiting + 1) (one_more n) says in
@@ -161,10 +161,10 @@ heard_waits more waiting x time n says d number is =
     moved a b = omega arith
 
 pub part_waits : (more : Bool) (waiting : List Pending) (x : Pending) (time : Option ℕ) (n : ℕ)
-    (says : List Said)
+    (says : List LogMessage)
     → x.number ≡ one_more n
     → to_come more (record { waiting = waiting; time = time; settled = None }) n
-    (Heard x.content ∷ says)
+    (Received x.content ∷ says)
     ≡ to_come more (record { waiting = waiting ++ x ∷ []; time = time; settled = None }) x.number says
 part_waits more waiting x time n says number =
     let more_wait : length (waiting ++ x ∷ []) ≡ length waiting + 1 = length-append waiting (x ∷ []) in
@@ -175,10 +175,10 @@ part_waits more waiting x time n says number =
     (waiting ++ x ∷ []) ++ behind_time more time (length (waiting ++ x ∷ [])) k says) (sym number)
 
 -- one comes without a time before
-pub part_untimed : (more : Bool) (waiting : List Pending) (x : Pending) (n : ℕ) (says : List Said)
+pub part_untimed : (more : Bool) (waiting : List Pending) (x : Pending) (n : ℕ) (says : List LogMessage)
     → x.number ≡ one_more n
     → to_come more (record { waiting = waiting; time = None; settled = None }) n
-    (Heard x.content ∷ says)
+    (Received x.content ∷ says)
     ≡ to_come more (record { waiting = waiting ++ x ∷ []; time = None; settled = Some None })
     x.number says
 part_untimed more waiting x n says number =
@@ -189,10 +189,10 @@ part_untimed more waiting x n says number =
 
 -- too many wait
 pub part_crowded : (more : Bool) (waiting : List Pending) (x : Pending) (first n : ℕ)
-    (says : List Said)
+    (says : List LogMessage)
     → x.number ≡ one_more n → 1024 ≤ length waiting
     → to_come more (record { waiting = waiting; time = Some first; settled = None }) n
-    (Heard x.content ∷ says)
+    (Received x.content ∷ says)
     ≡ to_come more (record { waiting = waiting ++ x ∷ []; time = None; settled = Some None })
     x.number says
 part_crowded more waiting x first n says number many =
@@ -203,7 +203,7 @@ part_crowded more waiting x first n says number many =
     ∙ ap (λ k. stamped (Some None) (waiting ++ x ∷ []) ++ behind_time more None 0 k says) (sym number)
 
 -- one comes with its own time
-pub dated_comes : (more : Bool) (x : Pending) (own : Option ℕ) (n : ℕ) (says : List Said)
+pub dated_comes : (more : Bool) (x : Pending) (own : Option ℕ) (n : ℕ) (says : List LogMessage)
     → x.number ≡ one_more n
     → to_come more (record { waiting = []; time = None; settled = None }) n
     (Dated own x.content ∷ says)
@@ -247,46 +247,46 @@ queue_is q items taken time settled view unset zero =
     (ap (λ p. p.settled) view ∙ unset)
 
 module _ (more : Bool) (q : QueueState) (items new : List Pending) (taken : ℕ) (time : Option ℕ)
-    (x : Pending) (n : ℕ) (says : List Said)
+    (x : Pending) (n : ℕ) (says : List LogMessage)
     (is : q ≡ record { waiting = items; time = time; settled = None }) (zero : taken ≡ 0)
     (new_is : new ≡ items ++ x ∷ []) (number : x.number ≡ one_more n) where
   over_by : (t : Option ℕ) → 1024 ≤ length items
-      → to_come more (record { waiting = items; time = t; settled = None }) n (Heard x.content ∷ says)
+      → to_come more (record { waiting = items; time = t; settled = None }) n (Received x.content ∷ says)
       ≡ to_come more (record { waiting = items ++ x ∷ []; time = None; settled = Some None })
       x.number says
   over_by None many = part_untimed more items x n says number
   over_by (Some first) many = part_crowded more items x first n says number many
 
   pub put_over : 1024 < length new
-      → to_come more q n (Heard x.content ∷ says)
+      → to_come more q n (Received x.content ∷ says)
       ≡ stamped (Some None) (drop taken new) ++ behind_time more None 0 x.number says
   put_over many =
       let size : length new ≡ length items + 1 = ap length new_is ∙ length-append items (x ∷ []) in
-      ap (λ p. to_come more p n (Heard x.content ∷ says)) is
+      ap (λ p. to_come more p n (Received x.content ∷ says)) is
       ∙ over_by time (omega (arith, many, size))
       ∙ sym (ap (λ t. stamped (Some None) (drop t new) ++ behind_time more None 0 x.number says) zero
       ∙ ap (λ t. stamped (Some None) t ++ behind_time more None 0 x.number says) new_is)
 
   untimed_by : (t : Option ℕ) → is_some t ≡ false
-      → to_come more (record { waiting = items; time = t; settled = None }) n (Heard x.content ∷ says)
+      → to_come more (record { waiting = items; time = t; settled = None }) n (Received x.content ∷ says)
       ≡ stamped (Some None) (items ++ x ∷ []) ++ behind_time more t 0 x.number says
   untimed_by None none = part_untimed more items x n says number
   untimed_by (Some first) none = absurd (both_ways _ none refl)
 
   pub put_untimed : is_some time ≡ false
-      → to_come more q n (Heard x.content ∷ says)
+      → to_come more q n (Received x.content ∷ says)
       ≡ stamped (Some None) (drop taken new) ++ behind_time more time 0 x.number says
   put_untimed none =
-      ap (λ p. to_come more p n (Heard x.content ∷ says)) is ∙ untimed_by time none
+      ap (λ p. to_come more p n (Received x.content ∷ says)) is ∙ untimed_by time none
       ∙ sym (ap (λ t. stamped (Some None) (drop t new) ++ behind_time more time 0 x.number says) zero
       ∙ ap (λ t. stamped (Some None) t ++ behind_time more time 0 x.number says) new_is)
 
   pub put_waits : (settled : Option (Option ℕ)) → settled ≡ None
-      → to_come more q n (Heard x.content ∷ says)
+      → to_come more q n (Received x.content ∷ says)
       ≡ to_come more (record { waiting = drop taken new; time = time; settled = settled })
       x.number says
   put_waits settled unset =
-      ap (λ p. to_come more p n (Heard x.content ∷ says)) is
+      ap (λ p. to_come more p n (Received x.content ∷ says)) is
       ∙ part_waits more items x time n says number
       ∙ sym (ap (λ t. to_come more (record { waiting = drop t new; time = time; settled = settled })
       x.number says) zero
@@ -318,7 +318,7 @@ number_more k = omega arith
 number_next : (k : ℕ) → min (suc k) (2 ^ 64 - 1) ≡ one_more (min k (2 ^ 64 - 1))
 number_next k = omega arith
 
-pub comes_as_defined : (more : Bool) (before says : List Said)
+pub comes_as_defined : (more : Bool) (before says : List LogMessage)
     → received_from more before says
     ≡ behind_time more (nearest before) (parts_to before) (min (length before) (2 ^ 64 - 1)) says
 comes_as_defined more before [] = refl
@@ -338,12 +338,12 @@ comes_as_defined more before (Dated own content ∷ says) =
     ∙ ap (λ k. record { number = k; time = own; content = content }
     ∷ behind_time more (nearest before) (parts_to before + 1)
     (one_more (min (length before) (2 ^ 64 - 1))) says) (sym (number_more (length before)))
-comes_as_defined more before (Heard content ∷ says) =
+comes_as_defined more before (Received content ∷ says) =
     let parts = parts_to before + 1 + parts_to says in
     let rest = behind_time more (nearest before) (parts_to before + 1)
     (one_more (min (length before) (2 ^ 64 - 1))) says in
-    ap (λ t. received more before (Heard content) says ++ t)
-    (comes_as_defined more (Heard content ∷ before) says
+    ap (λ t. received more before (Received content) says ++ t)
+    (comes_as_defined more (Received content ∷ before) says
     ∙ ap (λ k. behind_time more (nearest before) (parts_to before + 1) k says)
     (number_next (length before)))
     ∙ ap (λ t. t ++ rest)
@@ -352,7 +352,7 @@ comes_as_defined more before (Heard content ∷ says) =
     ∙ ap (λ k. stamped (decision more (nearest before) says parts)
     (record { number = k; content = content } ∷ []) ++ rest) (sym (number_more (length before)))
   where
-    chosen : (b : Bool) (time : Option ℕ) (number : ℕ) (content : Content)
+    chosen : (b : Bool) (time : Option ℕ) (number : ℕ) (content : LogContent)
         → (if b then [] else record { number = number; time = time; content = content } ∷ [])
         ≡ stamped (if b then None else Some time) (record { number = number; content = content } ∷ [])
     chosen true time number content = refl

@@ -1,3 +1,6 @@
+mod Packing
+mod Turns
+mod Readings
 mod Comings
 mod Staying
 mod LogSteps

@@ -9,10 +9,10 @@ use Rattle.std.specs.Prelude.{Option, Some, None, Err, IfSome, IsSome}
 use Rattle.std.specs.Io.KnownBytes.{Appends, IsAtEnd}
 use Rattle.nav_io.specs.Causes.{Rose}
 use Rattle.nav_io.specs.Prefix.{AppendsPrefix, IsPrefix}
-use Rattle.receiver_frames.specs.Headings.{Heading, format_of}
-use Rattle.receiver_frames.specs.Messages.{messages, messages_past, decided}
+use Rattle.framing.specs.Headings.{Heading, format_of}
+use Rattle.framing.specs.Messages.{messages, messages_past, decided}
 use Rattle.one_run.specs.Causes.{HasItsCause}
-use Rattle.one_run.specs.Runs.{Accepts, AppendsAll, AppendsBetween, Broke, Done, Says}
+use Rattle.one_run.specs.Runs.{Accepts, AppendsAll, AppendsBetween, IsBroken, IsDone, Says}
 use Rattle.one_run.specs.Runs.{StopAtOnePlace, Texts, World, faults_in}
 use Rattle.one_run.specs.declared.fault.BridgeFault.{BridgeFault}
 use Rattle.one_run.specs.declared.fault.BridgeFault.TheVariants.{ReadFault, WriteFault, ReportFault}
@@ -23,7 +23,7 @@ use Rattle.one_run.proofs.Surface.{ahead_at_end, ahead_by, between_behind, betwe
 use Rattle.one_run.proofs.Surface.{between_within, none_failed, prefix_more, prefix_of, prefix_same}
 use Rattle.one_run.proofs.Surface.{prefix_trans, prefix_within, read_failed, report_failed}
 use Rattle.one_run.proofs.Surface.{with_rest, write_failed}
-use Rattle.receiver_messages.specs.declared.said.Said.{Said}
+use Rattle.receiver_log.specs.declared.content.LogMessage.{LogMessage}
 use Rattle.receiver_log.specs.declared.reception.Reception.{Reception}
 use Rattle.receiver_log.specs.declared.state.LogCounts.{LogCounts}
 use Rattle.receiver_log.specs.Capture.{capture_of, counts_after, counts_of, decided_capture}
@@ -35,26 +35,26 @@ use Rattle.receiver_log.specs.Log.{begun, none_counted}
 use Rattle.receiver_log.specs.Mirrors.{ahead, behind_time, start_of}
 use Rattle.receiver_log.specs.Receptions.{decided_receptions, received_from, receptions_of}
 use Rattle.receiver_log.specs.Report.{counts_report}
-use Rattle.receiver_log.specs.Steps.{Advances, Breaks, Early, Hears, IsIdle, LastPiece}
-use Rattle.receiver_log.specs.Steps.{LogView, OneLast, Passes, Reads, Stops, Tells, fresh}
+use Rattle.receiver_log.specs.Steps.{Advances, Breaks, Early, ReceivesLog, IsIdle, LastPiece}
+use Rattle.receiver_log.specs.Steps.{LogView, OneLast, Passes, Reads, Stops, Reports, fresh}
 use Rattle.receiver_log.proofs.Comings.{comes_as_defined}
 use Rattle.receiver_log.proofs.Staying.{Grows}
 use Rattle.receiver_log.proofs.LogSteps.{Joins, appends_none, between_after, both_told}
 use Rattle.receiver_log.proofs.LogSteps.{hears_nothing, hears_on}
-use Rattle.receiver_log.proofs.LogSteps.{lines_on, reads_none, reads_on, refusals_on, told_by}
+use Rattle.receiver_log.proofs.LogSteps.{lines_on, reads_none, reads_on, refusals_on, decided_by}
 
 -- the receptions that all but the last 16,384 bytes decide
-abbrev pub early_receptions : Heading → (List ℕ → Said) → List ℕ → List Reception
+abbrev pub early_receptions : Heading → (List ℕ → LogMessage) → List ℕ → List Reception
 early_receptions h said bytes =
     decided_receptions said (decided (format_of h) (take (length bytes - 16384) bytes))
 
 -- receptions begin with these
-abbrev pub IsEarly : Heading → (List ℕ → Said) → List ℕ → List Reception → Type 0
+abbrev pub IsEarly : Heading → (List ℕ → LogMessage) → List ℕ → List Reception → Type 0
 IsEarly h said bytes heard =
     (rest : List Reception) × (heard ≡ early_receptions h said bytes ++ rest)
 
 -- the log was read so far, and the lines that came were written
-pub record SoFar (h : Heading) (said : List ℕ → Said)
+pub record SoFar (h : Heading) (said : List ℕ → LogMessage)
     (left left_new written written_new reported reported_new : Option (List ℕ)) (a : LogView) :
     Type 0 where
   pub text : List ℕ
@@ -62,7 +62,7 @@ pub record SoFar (h : Heading) (said : List ℕ → Said)
   pub grew : Appends written written_new text
   pub early : IsEarly h said reads.bytes reads.hears.heard
 
-module _ (h : Heading) (said : List ℕ → Said) where
+module _ (h : Heading) (said : List ℕ → LogMessage) where
   -- ---- what was passed before the last piece
 
   -- the decided receptions to come from the start are those of the definition
@@ -168,7 +168,7 @@ module _ (h : Heading) (said : List ℕ → Said) where
       let first = next_early left l1 l2 w w1 r r1 a b old lines p far m e grows in
       let early = early_receptions h said (far.reads.bytes ++ m.bytes) in (
         first.0 ++ e.rest,
-        ap (λ t. far.reads.hears.heard ++ t) e.heard_are
+        ap (λ t. far.reads.hears.heard ++ t) e.receptions_are
             ∙ sym (append_assoc far.reads.hears.heard e.before e.rest)
             ∙ ap (λ t. t ++ e.rest) first.1 ∙ append_assoc early first.0 e.rest,
       )
@@ -207,7 +207,7 @@ module _ (h : Heading) (said : List ℕ → Said) where
       sym (comes_as_defined false [] (map said (messages_past (format_of h) false bytes 0)))
 
   module _ (a : LogView) (bytes lines : List ℕ) (p : List ℕ → Type 0)
-      (m : Hears h said fresh a bytes [] lines p) where
+      (m : ReceivesLog h said fresh a bytes [] lines p) where
     received : receptions_of said (messages (format_of h) bytes)
         ≡ m.heard ++ ahead h said false a.place []
     received = sym (start_ahead false bytes) ∙ m.passes.stream [] (λ over. refl)
@@ -390,7 +390,7 @@ module _ (h : Heading) (said : List ℕ → Said) where
       → AppendsBetween b.reported a.reported (refusals_from begun done)
       (refusals_from begun m.hears.heard)
       → HasItsCause {T = Unit {0}} (faults_in b) (faults_in a) (Err fault)
-      → Says (log_meaning h said) m.bytes b a fault → Broke (log_meaning h said) b a fault
+      → Says (log_meaning h said) m.bytes b a fault → IsBroken (log_meaning h said) b a fault
   broke b a fault v lines some told p m put least report least_told grows done last heard few upto
       upto_told cause says = record {
         taken = m.bytes;
@@ -440,7 +440,7 @@ module _ (h : Heading) (said : List ℕ → Said) where
   stop_says : {S T U : Type 0} (b a : World S T U) (fault : BridgeFault) (v : LogView)
       (waiting text : List ℕ)
       (m : Reads h said fresh v b.left a.left [] (text ++ waiting)
-      (Tells fault b.reported a.reported))
+      (Reports fault b.reported a.reported))
       → Appends b.written a.written text
       → Stops h said v waiting b.never_fails b.reads_failed a.reads_failed b.reports_failed
       a.reports_failed fault
@@ -511,12 +511,12 @@ module _ (h : Heading) (said : List ℕ → Said) where
       → Breaks h said u v l1 a.left old waiting fault r1 a.reported
       → Stops h said v waiting b.never_fails b.reads_failed a.reads_failed b.reports_failed
       a.reports_failed fault → a.writes_failed ≡ b.writes_failed
-      → Broke (log_meaning h said) b a fault
+      → IsBroken (log_meaning h said) b a fault
   unfolding next behind reads_on hears_on
   stopped b a fault l1 r1 u v old waiting grows far none m stops writes =
       let all = next b.left l1 a.left b.written a.written b.reported r1 u v old waiting
-      (Tells fault r1 a.reported) (Tells fault b.reported a.reported)
-      (told_by fault b.reported r1 a.reported) far none m.reads in
+      (Reports fault r1 a.reported) (Reports fault b.reported a.reported)
+      (decided_by fault b.reported r1 a.reported) far none m.reads in
       let heard = far.reads.hears.heard in
       let e = m.early none in
       let one = m.one none in
@@ -533,21 +533,21 @@ module _ (h : Heading) (said : List ℕ → Said) where
       let some = lines_before b.left l1 b.written a.written b.reported r1 u far
       m.reads.hears.heard one in
       broke b a fault v (far.text ++ waiting) far.text (refusals_from begun (heard ++ e.before))
-      (Tells fault b.reported a.reported) all
+      (Reports fault b.reported a.reported) all
       (between_within b.written a.written far.text far.text far.text (far.text ++ waiting)
       (prefix_same far.text) (prefix_more far.text waiting)
       (between_whole b.written a.written far.text far.grew))
       (least_written b.left l1 a.left b.written a.written b.reported r1 u v old waiting
-      (Tells fault r1 a.reported) far m.reads e grows)
+      (Reports fault r1 a.reported) far m.reads e grows)
       (subst (λ t. AppendsBetween b.reported a.reported t
       (refusals_from begun (heard ++ m.reads.hears.heard))) (sym (on e.before))
       (subst (AppendsBetween b.reported a.reported (first ++ before))
       (sym (on m.reads.hears.heard)) report))
       (least_refusals (far.reads.bytes ++ m.reads.bytes) (heard ++ e.before)
       (next_early b.left l1 a.left b.written a.written b.reported r1 u v old waiting
-      (Tells fault r1 a.reported) far m.reads e grows))
+      (Reports fault r1 a.reported) far m.reads e grows))
       grows (heard ++ one.done) one.last
-      (ap (λ t. heard ++ t) one.heard_are ∙ sym (append_assoc heard one.done one.last)) one.few
+      (ap (λ t. heard ++ t) one.receptions_are ∙ sym (append_assoc heard one.done one.last)) one.few
       (subst (λ t. AppendsBetween b.written a.written t (far.text ++ waiting)) (sym some)
       (between_within b.written a.written far.text far.text far.text (far.text ++ waiting)
       (prefix_same far.text) (prefix_more far.text waiting)
@@ -568,7 +568,7 @@ module _ (h : Heading) (said : List ℕ → Said) where
       → Advances h said u v l1 a.left old lines (Appends r1 a.reported)
       → piece ≡ lines → AppendsPrefix w1 a.written piece → Rose b.writes_failed a.writes_failed
       → a.reads_failed ≡ b.reads_failed → a.reports_failed ≡ b.reports_failed
-      → Broke (log_meaning h said) b a WriteFault
+      → IsBroken (log_meaning h said) b a WriteFault
   unfolding next behind reads_on hears_on
   unwritten b a l1 w1 r1 u v old lines piece grows far none m is put rose reads reports =
       let all = next b.left l1 a.left b.written w1 b.reported r1 u v old lines
@@ -578,7 +578,7 @@ module _ (h : Heading) (said : List ℕ → Said) where
       let one = m.one none in
       let some = lines_before b.left l1 b.written w1 b.reported r1 u far m.reads.hears.heard one in
       let are : heard ++ m.reads.hears.heard ≡ (heard ++ one.done) ++ one.last =
-      ap (λ t. heard ++ t) one.heard_are ∙ sym (append_assoc heard one.done one.last) in
+      ap (λ t. heard ++ t) one.receptions_are ∙ sym (append_assoc heard one.done one.last) in
       let whole = refusals_from begun all.hears.heard in
       broke b a WriteFault v (far.text ++ lines) far.text (refusals_from begun all.hears.heard)
       (Appends b.reported a.reported) all
@@ -628,7 +628,7 @@ module _ (h : Heading) (said : List ℕ → Said) where
 
     pub done : Appends r2 a.reported piece
         → a.reads_failed ≡ b.reads_failed → a.writes_failed ≡ b.writes_failed
-        → a.reports_failed ≡ b.reports_failed → Done (log_meaning h said) b a counts
+        → a.reports_failed ≡ b.reports_failed → IsDone (log_meaning h said) b a counts
     done last reads writes reports =
         let ends = far.reads.end over (λ e. cc e) in
         record {
@@ -650,7 +650,7 @@ module _ (h : Heading) (said : List ℕ → Said) where
     -- the counts were not reported
     pub unreported : Grows h said → AppendsPrefix r2 a.reported piece
         → Rose b.reports_failed a.reports_failed → a.reads_failed ≡ b.reads_failed
-        → a.writes_failed ≡ b.writes_failed → Broke (log_meaning h said) b a ReportFault
+        → a.writes_failed ≡ b.writes_failed → IsBroken (log_meaning h said) b a ReportFault
     unreported grows part rose reads writes =
         let bytes = far.reads.bytes in
         let front = capture_front v bytes far.text _ far.reads.hears bytes _

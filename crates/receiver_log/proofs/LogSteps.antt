@@ -6,22 +6,22 @@ use Rattle.std.proofs.KnownBytes.{Appends-trans, Consumes-trans}
 use Rattle.std.specs.Prelude.{Option, Some, None, IsTrue}
 use Rattle.std.specs.Io.KnownBytes.{Appends, Consumes, IsAtEnd, Keeps}
 use Rattle.nav_io.specs.Prefix.{AppendsPrefix, IsPrefix}
-use Rattle.receiver_frames.specs.Headings.{Heading, format_of}
-use Rattle.receiver_frames.specs.Messages.{messages, messages_past}
+use Rattle.framing.specs.Headings.{Heading, format_of}
+use Rattle.framing.specs.Messages.{messages, messages_past}
 use Rattle.one_run.specs.Runs.{AppendsBetween}
 use Rattle.one_run.proofs.Surface.{between_behind, between_whole, between_within, prefix_after}
 use Rattle.one_run.proofs.Surface.{prefix_behind, prefix_same}
 use Rattle.one_run.specs.declared.fault.BridgeFault.{BridgeFault}
 use Rattle.one_run.specs.declared.fault.BridgeFault.TheVariants.{ReadFault, WriteFault, ReportFault}
 use Rattle.one_run.specs.declared.fault.BridgeFault.TheVariants.{NotThisForm, TooLong, NoMemory}
-use Rattle.receiver_messages.specs.declared.said.Said.{Said}
+use Rattle.receiver_log.specs.declared.content.LogMessage.{LogMessage}
 use Rattle.receiver_log.specs.declared.reception.Reception.{Reception}
 use Rattle.receiver_log.specs.declared.state.LogState.{LogState}
 use Rattle.receiver_log.specs.Capture.{counts_after, given, lines_from, refusal_text, refusals_from}
 use Rattle.receiver_log.specs.Capture.{state_after, too_many}
 use Rattle.receiver_log.specs.Mirrors.{Place, ahead, fed_with, to_come}
-use Rattle.receiver_log.specs.Steps.{Advances, Breaks, BreaksLast, Early, Hears, HearsLast, HearsOne, IsIdle, IsOver, OneLast}
-use Rattle.receiver_log.specs.Steps.{LastPiece, LogView, Passes, Reads, Stops, Tells}
+use Rattle.receiver_log.specs.Steps.{Advances, Breaks, BreaksLast, Early, ReceivesLog, ReceivesLast, ReceivesOne, IsIdle, IsOver, OneLast}
+use Rattle.receiver_log.specs.Steps.{LastPiece, LogView, Passes, Reads, Stops, Reports}
 
 -- ---- known bytes
 
@@ -77,14 +77,14 @@ part_told r r1 r2 t u = prefix_behind r r1 r2 t u
 pub none_told : (p : List ℕ → Type 0) → Joins p (λ u. u ≡ []) p
 none_told p t u told none = subst p (sym (ap (λ v. t ++ v) none ∙ append-nil t)) told
 
-pub told_by : (fault : BridgeFault) (r r1 r2 : Option (List ℕ))
-    → Joins (Appends r r1) (Tells fault r1 r2) (Tells fault r r2)
-told_by ReadFault r r1 r2 t u = Appends-trans r r1 r2 t u
-told_by WriteFault r r1 r2 t u = Appends-trans r r1 r2 t u
-told_by ReportFault r r1 r2 t u = prefix_behind r r1 r2 t u
-told_by NotThisForm r r1 r2 t u = Appends-trans r r1 r2 t u
-told_by TooLong r r1 r2 t u = Appends-trans r r1 r2 t u
-told_by NoMemory r r1 r2 t u = Appends-trans r r1 r2 t u
+pub decided_by : (fault : BridgeFault) (r r1 r2 : Option (List ℕ))
+    → Joins (Appends r r1) (Reports fault r1 r2) (Reports fault r r2)
+decided_by ReadFault r r1 r2 t u = Appends-trans r r1 r2 t u
+decided_by WriteFault r r1 r2 t u = Appends-trans r r1 r2 t u
+decided_by ReportFault r r1 r2 t u = prefix_behind r r1 r2 t u
+decided_by NotThisForm r r1 r2 t u = Appends-trans r r1 r2 t u
+decided_by TooLong r r1 r2 t u = Appends-trans r r1 r2 t u
+decided_by NoMemory r r1 r2 t u = Appends-trans r r1 r2 t u
 
 -- a text, and then a text between two others
 pub between_after : (w w1 w2 : Option (List ℕ)) (xs ys zs : List ℕ) → Appends w w1 xs
@@ -98,7 +98,7 @@ between_after w w1 w2 xs ys zs grew more = record {
 
 -- ---- steps
 
-module _ (h : Heading) (said : List ℕ → Said) where
+module _ (h : Heading) (said : List ℕ → LogMessage) where
   pub passes_on : (a b c : LogView) (x y : List ℕ) (xs ys : List Reception)
       → Passes h said a b x xs → Passes h said b c y ys → Passes h said a c (x ++ y) (xs ++ ys)
   passes_on a b c x y xs ys p q =
@@ -134,7 +134,7 @@ module _ (h : Heading) (said : List ℕ → Said) where
       still = by_end b.ended (λ over. (q.stays over).0)
 
   unfoldable pub hears_nothing : (a : LogView) (lines : List ℕ) (p : List ℕ → Type 0) → p []
-      → Hears h said a a [] lines lines p
+      → ReceivesLog h said a a [] lines lines p
   hears_nothing a lines p told = record {
     heard = [];
     passes = record {
@@ -150,13 +150,13 @@ module _ (h : Heading) (said : List ℕ → Said) where
 
   -- the lines were removed
   pub hears_cleared : (a b : LogView) (lines : List ℕ) (p : List ℕ → Type 0) → b ≡ a → lines ≡ []
-      → p [] → Hears h said a b [] [] lines p
+      → p [] → ReceivesLog h said a b [] [] lines p
   hears_cleared a b lines p same none told = rw (same, none) (hears_nothing a [] p told)
 
   unfoldable pub hears_on : (a b c : LogView) (x y l l1 l2 : List ℕ) (p q r : List ℕ → Type 0)
       → Joins p q r
-      → Hears h said a b x l l1 p → Hears h said b c y l1 l2 q
-      → Hears h said a c (x ++ y) l l2 r
+      → ReceivesLog h said a b x l l1 p → ReceivesLog h said b c y l1 l2 q
+      → ReceivesLog h said a c (x ++ y) l l2 r
   hears_on a b c x y l l1 l2 p q r join m n = record {
     heard = m.heard ++ n.heard;
     passes = passes_on a b c x y m.heard n.heard m.passes n.passes;
@@ -173,7 +173,7 @@ module _ (h : Heading) (said : List ℕ → Said) where
   -- nothing was read
   unfoldable pub reads_none : (a b : LogView) (left : Option (List ℕ)) (l l1 : List ℕ)
       (p : List ℕ → Type 0)
-      → b.taken ≡ a.taken → b.ended ≡ a.ended → Hears h said a b [] l l1 p
+      → b.taken ≡ a.taken → b.ended ≡ a.ended → ReceivesLog h said a b [] l l1 p
       → Reads h said a b left left l l1 p
   reads_none a b left l l1 p taken ended m = record {
     bytes = [];
@@ -198,7 +198,7 @@ module _ (h : Heading) (said : List ℕ → Said) where
   -- messages were taken
   pub reads_took : (a b c : LogView) (left left1 : Option (List ℕ)) (l l1 l2 : List ℕ)
       (p q r : List ℕ → Type 0) → Joins p q r → Reads h said a b left left1 l l1 p
-      → c.taken ≡ b.taken → c.ended ≡ b.ended → Hears h said b c [] l1 l2 q
+      → c.taken ≡ b.taken → c.ended ≡ b.ended → ReceivesLog h said b c [] l1 l2 q
       → Reads h said a c left left1 l l2 r
   reads_took a b c left left1 l l1 l2 p q r join m taken ended n =
       reads_on a b c left left1 left1 l l1 l2 p q r join m
@@ -274,7 +274,7 @@ module _ (h : Heading) (said : List ℕ → Said) where
   fault_told : (fault : BridgeFault) (a : LogView) (never : Bool) (reads reads1 : ℕ)
       (r r1 : Option (List ℕ))
       → Stops h said a [] never reads reads1 0 0 fault
-      → Joins (Appends r r1) (λ u. u ≡ []) (Tells fault r r1)
+      → Joins (Appends r r1) (λ u. u ≡ []) (Reports fault r r1)
   fault_told ReadFault a never reads reads1 r r1 stops = none_told (Appends r r1)
   fault_told WriteFault a never reads reads1 r r1 stops = absurd stops
   fault_told ReportFault a never reads reads1 r r1 stops = absurd (omega (arith, stops.0))
@@ -287,16 +287,16 @@ module _ (h : Heading) (said : List ℕ → Said) where
       → Reads h said a b left left1 l l1 (Appends r r1)
       → Reads h said b c left1 left2 l1 l2 (λ text. text ≡ [])
       → Stops h said c [] never reads reads1 0 0 fault
-      → Reads h said a c left left2 l l2 (Tells fault r r1)
+      → Reads h said a c left left2 l l2 (Reports fault r r1)
   reads_stopped fault a b c left left1 left2 l l1 l2 r r1 never reads reads1 m n stops =
-      reads_on a b c left left1 left2 l l1 l2 (Appends r r1) (λ text. text ≡ []) (Tells fault r r1)
+      reads_on a b c left left1 left2 l l1 l2 (Appends r r1) (λ text. text ≡ []) (Reports fault r r1)
       (fault_told fault c never reads reads1 r r1 stops) m n
 
   -- ---- what was passed before the last piece
 
   -- the report of receptions one after another
   refusals_both : (a b : LogView) (x l l1 : List ℕ) (p : List ℕ → Type 0) (ys : List Reception)
-      → (m : Hears h said a b x l l1 p)
+      → (m : ReceivesLog h said a b x l l1 p)
       → refusals_from a.state (m.heard ++ ys)
       ≡ refusals_from a.state m.heard ++ refusals_from b.state ys
   refusals_both a b x l l1 p ys m =
@@ -306,29 +306,29 @@ module _ (h : Heading) (said : List ℕ → Said) where
   -- ---- receptions, of which none but the last gave lines
 
   no_lines : (a b : LogView) (x l l1 : List ℕ) (p : List ℕ → Type 0)
-      (m : Hears h said a b x l l1 p) → l ≡ [] → l1 ≡ [] → lines_from a.state m.heard ≡ []
+      (m : ReceivesLog h said a b x l l1 p) → l ≡ [] → l1 ≡ [] → lines_from a.state m.heard ≡ []
   no_lines a b x l l1 p m empty none =
       sym (m.lines_are ∙ ap (λ t. t ++ lines_from a.state m.heard) empty) ∙ none
 
   -- none gave any
   pub none_last : (a b : LogView) (x l l1 : List ℕ) (p : List ℕ → Type 0)
-      (m : Hears h said a b x l l1 p) → l ≡ [] → l1 ≡ [] → OneLast a.state m.heard
+      (m : ReceivesLog h said a b x l l1 p) → l ≡ [] → l1 ≡ [] → OneLast a.state m.heard
   none_last a b x l l1 p m empty none = record {
     done = m.heard;
     last = [];
-    heard_are = sym (append-nil m.heard);
+    receptions_are = sym (append-nil m.heard);
     few = omega arith;
     silent = no_lines a b x l l1 p m empty none;
   }
 
   -- and more after some that gave none
   unfoldable one_on : (a b : LogView) (x l l1 : List ℕ) (p : List ℕ → Type 0)
-      (m : Hears h said a b x l l1 p) → l ≡ [] → l1 ≡ [] → (ys : List Reception)
+      (m : ReceivesLog h said a b x l l1 p) → l ≡ [] → l1 ≡ [] → (ys : List Reception)
       → OneLast b.state ys → OneLast a.state (m.heard ++ ys)
   one_on a b x l l1 p m empty none ys o = record {
     done = m.heard ++ o.done;
     last = o.last;
-    heard_are = ap (λ t. m.heard ++ t) o.heard_are ∙ sym (append_assoc m.heard o.done o.last);
+    receptions_are = ap (λ t. m.heard ++ t) o.receptions_are ∙ sym (append_assoc m.heard o.done o.last);
     few = o.few;
     silent = lines_on a.state m.heard o.done
         ∙ ap (λ t. t ++ lines_from (state_after a.state m.heard) o.done)
@@ -344,30 +344,30 @@ module _ (h : Heading) (said : List ℕ → Said) where
       let all = refusals_from s heard in
       let low : IsPrefix (refusals_from s o.done) all = (
         refusals_from (state_after s o.done) o.last,
-        ap (refusals_from s) o.heard_are ∙ refusals_on s o.done o.last,
+        ap (refusals_from s) o.receptions_are ∙ refusals_on s o.done o.last,
       ) in
       between_within r r1 (refusals_from s o.done) all all all low (prefix_same all)
       (between_whole r r1 all told)
 
   -- one reception was passed, or none, where no line waited
   pub take_on : (a b c : LogView) (l1 l2 : List ℕ) (p q r : List ℕ → Type 0) → Joins p q r
-      → Hears h said a b [] [] l1 p → l1 ≡ [] → HearsOne h said b c l1 l2 q
-      → HearsLast h said a c [] l2 r
+      → ReceivesLog h said a b [] [] l1 p → l1 ≡ [] → ReceivesOne h said b c l1 l2 q
+      → ReceivesLast h said a c [] l2 r
   unfolding hears_on
   take_on a b c l1 l2 p q r join m none n = (
     hears_on a b c [] [] [] l1 l2 p q r join m n.0,
     record {
       done = m.heard;
       last = n.0.heard;
-      heard_are = refl;
+      receptions_are = refl;
       few = n.1;
       silent = no_lines a b [] [] l1 p m refl none;
     },
   )
 
   pub take_broken : (a b c : LogView) (l1 l2 : List ℕ) (r r1 r2 : Option (List ℕ))
-      → Hears h said a b [] [] l1 (Appends r r1) → l1 ≡ []
-      → HearsOne h said b c l1 l2 (AppendsPrefix r1 r2) → BreaksLast h said a c [] l2 r r2
+      → ReceivesLog h said a b [] [] l1 (Appends r r1) → l1 ≡ []
+      → ReceivesOne h said b c l1 l2 (AppendsPrefix r1 r2) → BreaksLast h said a c [] l2 r r2
   unfolding hears_on
   take_broken a b c l1 l2 r r1 r2 m none n =
       let first = refusals_from a.state m.heard in (
@@ -376,7 +376,7 @@ module _ (h : Heading) (said : List ℕ → Said) where
         record {
           done = m.heard;
           last = n.0.heard;
-          heard_are = refl;
+          receptions_are = refl;
           few = n.1;
           silent = no_lines a b [] [] l1 (Appends r r1) m refl none;
         },
@@ -394,11 +394,11 @@ module _ (h : Heading) (said : List ℕ → Said) where
     early = λ none. record {
       before = [];
       rest = [];
-      heard_are = refl;
+      receptions_are = refl;
       silent = refl;
       pieces = inl refl;
     };
-    one = λ none. record { done = []; last = []; heard_are = refl; few = omega arith; silent = refl };
+    one = λ none. record { done = []; last = []; receptions_are = refl; few = omega arith; silent = refl };
   }
 
   -- receptions more were passed, and no byte was read
@@ -407,7 +407,7 @@ module _ (h : Heading) (said : List ℕ → Said) where
   early_more a bytes heard more e = record {
     before = e.before;
     rest = e.rest ++ more;
-    heard_are = ap (λ t. t ++ more) e.heard_are ∙ append_assoc e.before e.rest more;
+    receptions_are = ap (λ t. t ++ more) e.receptions_are ∙ append_assoc e.before e.rest more;
     silent = e.silent;
     pieces = subst (λ l. (l ≡ []) ⊎ LastPiece h said a l e.before) (sym (append-nil bytes))
         e.pieces;
@@ -416,11 +416,11 @@ module _ (h : Heading) (said : List ℕ → Said) where
   -- messages were taken, where no line waited
   pub advances_took : (a b c : LogView) (left left1 : Option (List ℕ)) (l l1 l2 : List ℕ)
       (p q r : List ℕ → Type 0) → Joins p q r → l1 ≡ [] → Advances h said a b left left1 l l1 p
-      → c.taken ≡ b.taken → c.ended ≡ b.ended → HearsLast h said b c [] l2 q
+      → c.taken ≡ b.taken → c.ended ≡ b.ended → ReceivesLast h said b c [] l2 q
       → Advances h said a c left left1 l l2 r
   unfolding reads_took reads_none reads_on hears_on early_more
   advances_took a b c left left1 l l1 l2 p q r join none m taken ended n =
-      let more = subst (λ t. HearsLast h said b c t l2 q) (sym none) n in
+      let more = subst (λ t. ReceivesLast h said b c t l2 q) (sym none) n in
       record {
         reads = reads_took a b c left left1 l l1 l2 p q r join m.reads taken ended more.0;
         early = λ empty. early_more a m.reads.bytes m.reads.hears.heard more.0.heard
@@ -447,7 +447,7 @@ module _ (h : Heading) (said : List ℕ → Said) where
       more.told) in
       record {
         reads = reads_took a b c left left1 l l1 l2 (Appends r r1) (AppendsPrefix r1 r2)
-            (Tells ReportFault r r2) (told_by ReportFault r r1 r2) m.reads taken ended more;
+            (Reports ReportFault r r2) (decided_by ReportFault r r1 r2) m.reads taken ended more;
         early = λ empty. early_more a m.reads.bytes m.reads.hears.heard more.heard (m.early empty);
         one = λ empty. one_on a b m.reads.bytes l l1 (Appends r r1) m.reads.hears empty none
             more.heard one;
@@ -461,7 +461,7 @@ module _ (h : Heading) (said : List ℕ → Said) where
             let e = m.early empty in
             let low : IsPrefix (refusals_from a.state e.before) first = (
               refusals_from (state_after a.state e.before) e.rest,
-              ap (refusals_from a.state) e.heard_are ∙ refusals_on a.state e.before e.rest,
+              ap (refusals_from a.state) e.receptions_are ∙ refusals_on a.state e.before e.rest,
             ) in
             between_within r r2 (refusals_from a.state e.before) first all all low (prefix_same all)
             between;
@@ -476,7 +476,7 @@ module _ (h : Heading) (said : List ℕ → Said) where
   early_filled a c d left left1 left2 l l1 l2 p q m n empty none idle on few = record {
     before = m.hears.heard;
     rest = n.hears.heard;
-    heard_are = refl;
+    receptions_are = refl;
     silent = sym (m.hears.lines_are ∙ ap (λ t. t ++ lines_from a.state m.hears.heard) empty) ∙ none;
     pieces = inr (record {
       first = m.bytes;

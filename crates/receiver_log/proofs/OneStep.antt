@@ -2,23 +2,23 @@
 use Rattle.std.proofs.Common.{◌≡◌, ℕ, Bool, true, false, not, List, [], ◌∷◌, ◌++◌, length, map}
 use Rattle.std.proofs.Common.{refl, sym, ap, subst, ◌∙◌, append-nil, inl, inr, arith}
 use Rattle.std.specs.Prelude.{None, Option}
-use Rattle.receiver_messages.specs.declared.said.Reason.{Reason}
-use Rattle.receiver_frames.specs.Headings.{Heading, IsHeading, format_of}
-use Rattle.receiver_frames.specs.Messages.{messages, decided}
-use Rattle.receiver_frames.specs.State.{IsWaiting, TakesMessage, TakesNone}
-use Rattle.receiver_frames.proofs.Surface.{decided_message, decided_none}
-use Rattle.receiver_messages.specs.declared.said.Said.{Said}
+use Rattle.receiver_log.specs.declared.content.LogReason.{LogReason}
+use Rattle.framing.specs.Headings.{Heading, IsHeading, format_of}
+use Rattle.framing.specs.Messages.{messages, decided}
+use Rattle.framing.specs.MessageState.{IsWaiting, TakesMessage, TakesNone}
+use Rattle.framing.proofs.Surface.{decided_message, decided_none}
+use Rattle.receiver_log.specs.declared.content.LogMessage.{LogMessage}
 use Rattle.receiver_log.specs.declared.reception.Reception.{Reception}
 use Rattle.receiver_log.specs.declared.state.LogState.{LogState}
 use Rattle.receiver_log.specs.declared.state.MessageCounts.{MessageCounts}
 use Rattle.receiver_log.specs.Capture.{counts_after, given, refusal_line}
 use Rattle.receiver_log.specs.Log.{counted}
 use Rattle.receiver_log.specs.Mirrors.{QueueState, to_come}
-use Rattle.receiver_log.specs.Steps.{HearsOne, IsIdle, LogView}
+use Rattle.receiver_log.specs.Steps.{ReceivesOne, IsIdle, LogView}
 
 -- both queues have the same to come
 abbrev pub Same : QueueState → QueueState → Type 0
-Same q q1 = (more : Bool) (n : ℕ) (says : List Said) → to_come more q n says ≡ to_come more q1 n says
+Same q q1 = (more : Bool) (n : ℕ) (says : List LogMessage) → to_come more q n says ≡ to_come more q1 n says
 
 -- a log with these parts
 abbrev at : List ℕ → QueueState → MessageCounts → Bool → LogState → ℕ → LogView
@@ -33,15 +33,15 @@ ended : {f : Bool} → not f ≡ false → f ≡ true
 ended {f = true} e = refl
 ended {f = false} e = cc e
 
-module _ (h : Heading) (said : List ℕ → Said) where
+module _ (h : Heading) (said : List ℕ → LogMessage) where
   -- what waited is given
   pub given_step : (f : Bool) (taken : ℕ) (rest : List ℕ) (c : MessageCounts) (q q1 : QueueState)
       (s s1 : LogState) (l l1 : List ℕ) (r : Reception) (tells : List ℕ → Type 0)
-      (why : Option Reason)
-      → ((m : Bool) (n : ℕ) (says : List Said) → to_come m q n says ≡ r ∷ to_come m q1 n says)
+      (why : Option LogReason)
+      → ((m : Bool) (n : ℕ) (says : List LogMessage) → to_come m q n says ≡ r ∷ to_come m q1 n says)
       → s1 ≡ (given s r).state → l1 ≡ l ++ (given s r).text
       → why ≡ (given s r).refused → tells (refusal_line r.number why)
-      → HearsOne h said (at rest q c f s taken) (at rest q1 c f s1 taken) l l1 tells
+      → ReceivesOne h said (at rest q c f s taken) (at rest q1 c f s1 taken) l l1 tells
   given_step f taken rest c q q1 s s1 l l1 r tells why first state lines is told = (
     record {
       heard = r ∷ [];
@@ -64,10 +64,10 @@ module _ (h : Heading) (said : List ℕ → Said) where
       (c c1 : MessageCounts) (q q1 q2 : QueueState) (s : LogState) (l : List ℕ)
       (tells : List ℕ → Type 0)
       → TakesMessage (format_of h) (not f) rest m rest1 → Same q q1
-      → ((b : Bool) (says : List Said)
+      → ((b : Bool) (says : List LogMessage)
       → to_come b q1 c.messages (said m ∷ says) ≡ to_come b q2 c1.messages says)
       → c1 ≡ counted c (length m) (said m) → tells []
-      → HearsOne h said (at rest q c f s taken) (at rest1 q2 c1 f s taken) l l tells
+      → ReceivesOne h said (at rest q c f s taken) (at rest1 q2 c1 f s taken) l l tells
   message_step laws f taken rest rest1 m c c1 q q1 q2 s l tells takes same comes counts told = (
     record {
       heard = [];
@@ -97,7 +97,7 @@ module _ (h : Heading) (said : List ℕ → Said) where
   pub none_step : IsHeading h → (f : Bool) (taken : ℕ) (rest rest1 : List ℕ) (c : MessageCounts)
       (q q1 : QueueState) (s : LogState) (l : List ℕ) (tells : List ℕ → Type 0)
       → TakesNone (format_of h) (not f) rest rest1 → Same q q1 → tells []
-      → HearsOne h said (at rest q c f s taken) (at rest1 q1 c f s taken) l l tells
+      → ReceivesOne h said (at rest q c f s taken) (at rest1 q1 c f s taken) l l tells
   none_step laws f taken rest rest1 c q q1 s l tells none same told = (
     record {
       heard = [];
@@ -127,7 +127,7 @@ module _ (h : Heading) (said : List ℕ → Said) where
       (q q1 q2 : QueueState) (s : LogState) (l : List ℕ) (tells : List ℕ → Type 0)
       → f ≡ true → TakesNone (format_of h) (not f) rest rest1 → Same q q1
       → ((n : ℕ) → to_come false q1 n [] ≡ to_come false q2 n []) → tells []
-      → HearsOne h said (at rest q c f s taken) (at rest1 q2 c f s taken) l l tells
+      → ReceivesOne h said (at rest q c f s taken) (at rest1 q2 c f s taken) l l tells
   end_step f taken rest rest1 c q q1 q2 s l tells over none same ends told =
       let empty : rest1 ≡ [] = none.rest ∙ (rw over refl) in (
         record {

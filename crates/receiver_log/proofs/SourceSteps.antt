@@ -4,9 +4,9 @@ use Rattle.std.proofs.Common.{length, map, take, drop, refl, sym, ap, ◌∙◌,
 use Rattle.std.specs.Prelude.{Option, Some, None}
 use Rattle.std.specs.Io.KnownBytes.{Keeps, Consumes, IsAtEnd}
 use Rattle.std.proofs.lemmas.List.{take-append-drop}
-use Rattle.receiver_frames.specs.Headings.{Heading, format_of}
-use Rattle.receiver_frames.specs.Messages.{messages}
-use Rattle.receiver_messages.specs.declared.said.Said.{Said}
+use Rattle.framing.specs.Headings.{Heading, format_of}
+use Rattle.framing.specs.Messages.{messages}
+use Rattle.receiver_log.specs.declared.content.LogMessage.{LogMessage}
 use Rattle.receiver_log.specs.Capture.{lines_from, state_after}
 use Rattle.receiver_log.specs.LogLeft.{KeepsLength, capture_left, left_of}
 use Rattle.receiver_log.specs.Log.{begun}
@@ -15,7 +15,7 @@ use Rattle.receiver_log.specs.Steps.{IsIdle, LogView, Reads, fresh}
 use Rattle.receiver_log.proofs.Comings.{comes_as_defined}
 use Rattle.receiver_log.proofs.LogSteps.{lines_on}
 
-module _ (h : Heading) (said : List ℕ → Said) where
+module _ (h : Heading) (said : List ℕ → LogMessage) where
   -- nothing was read yet
   pub start_left : (a : LogView) (waiting : List ℕ) (left : Option (List ℕ)) → a ≡ fresh
       → waiting ≡ [] → left_of h said a waiting left ≡ capture_left h said left

@@ -5,12 +5,12 @@ use Rattle.std.proofs.Common.{append_assoc}
 use Rattle.std.proofs.lemmas.Bool.{le-leb, leb-false, leb-true}
 use Rattle.std.proofs.lemmas.List.{map-append}
 use Rattle.std.specs.Prelude.{Option, Some, None}
-use Rattle.receiver_frames.specs.Headings.{Heading, format_of}
-use Rattle.receiver_frames.specs.Messages.{Format, decided, messages, messages_past, undecided}
-use Rattle.receiver_messages.specs.Systems.{SaysTimes}
-use Rattle.receiver_messages.specs.declared.said.Content.{Content}
-use Rattle.receiver_messages.specs.declared.said.Said.{Said}
-use Rattle.receiver_messages.specs.declared.said.Said.TheVariants.{Other, Time, Heard, Dated}
+use Rattle.framing.specs.Headings.{Heading, format_of}
+use Rattle.framing.specs.Messages.{Format, decided, messages, messages_past, undecided}
+use Rattle.receiver_log.specs.Systems.{SaysTimes}
+use Rattle.receiver_log.specs.declared.content.LogContent.{LogContent}
+use Rattle.receiver_log.specs.declared.content.LogMessage.{LogMessage}
+use Rattle.receiver_log.specs.declared.content.LogMessage.TheVariants.{Other, Time, Received, Dated}
 use Rattle.receiver_log.specs.declared.reception.Reception.{Reception}
 use Rattle.receiver_log.specs.Log.{one_more}
 use Rattle.receiver_log.specs.Mirrors.{behind_time, decision, stamped}
@@ -21,27 +21,27 @@ use Rattle.receiver_log.proofs.Comings.{comes_as_defined, decision_crowded}
 -- ---- the time
 
 -- a time message that has come decides
-timed : (says more : List Said) → has_time says ≡ true
+timed : (says more : List LogMessage) → has_time says ≡ true
     → (nearest (says ++ more) ≡ nearest says) × (parts_to (says ++ more) ≡ parts_to says)
     × (has_time (says ++ more) ≡ true)
 timed [] more none = cc
 timed (Other ∷ says) more some = timed says more some
 timed (Time next ∷ says) more some = (refl, refl, refl)
-timed (Heard content ∷ says) more some =
+timed (Received content ∷ says) more some =
     let rest = timed says more some in (rest.0, ap (λ n. n + 1) rest.1, rest.2)
 timed (Dated own content ∷ says) more some =
     let rest = timed says more some in (rest.0, ap (λ n. n + 1) rest.1, rest.2)
 
 -- with more messages as many stand before the next time message, or more
-parts_more : (says more : List Said) → parts_to says ≤ parts_to (says ++ more)
+parts_more : (says more : List LogMessage) → parts_to says ≤ parts_to (says ++ more)
 parts_more [] more = omega arith
 parts_more (Other ∷ says) more = parts_more says more
 parts_more (Time next ∷ says) more = omega arith
-parts_more (Heard content ∷ says) more = omega (arith, parts_more says more)
+parts_more (Received content ∷ says) more = omega (arith, parts_more says more)
 parts_more (Dated own content ∷ says) more = omega (arith, parts_more says more)
 
 -- a time that is decided stays
-decision_stays : (b : Bool) (first : ℕ) (says more : List Said) (parts : ℕ) (seen few : Bool)
+decision_stays : (b : Bool) (first : ℕ) (says more : List LogMessage) (parts : ℕ) (seen few : Bool)
     → has_time says ≡ seen → nat_le (parts + parts_to says) 1024 ≡ few → (not seen && few) ≡ false
     → decision b (Some first) (says ++ more) (parts + parts_to (says ++ more))
     ≡ decision true (Some first) says (parts + parts_to says)
@@ -58,19 +58,19 @@ decision_stays b first says more parts false false some room shut =
 -- ---- receptions
 
 -- each of them has times of its own, or else none has
-abbrev AllSay : Bool → List Said → Type 0
+abbrev AllSay : Bool → List LogMessage → Type 0
 AllSay has_times [] = Unit {0}
 AllSay has_times (s ∷ says) = SaysTimes has_times s × AllSay has_times says
 
 -- while the time is open nothing is received
-all_open : (first parts number : ℕ) (says : List Said) → AllSay false says
+all_open : (first parts number : ℕ) (says : List LogMessage) → AllSay false says
     → has_time says ≡ false → parts + parts_to says ≤ 1024
     → behind_time true (Some first) parts number says ≡ []
 all_open first parts number [] times none few = refl
 all_open first parts number (Other ∷ says) times none few =
     all_open first parts (one_more number) says times.1 none few
 all_open first parts number (Time next ∷ says) times none few = cc
-all_open first parts number (Heard content ∷ says) times none few =
+all_open first parts number (Received content ∷ says) times none few =
     let room : nat_le (parts + 1 + parts_to says) 1024 ≡ true = le-leb _ _ (omega (arith, few)) in
     rw (none, room) (all_open first (parts + 1) (one_more number) says times.1 none
     (omega (arith, few)))
@@ -78,25 +78,25 @@ all_open first parts number (Dated own content ∷ says) times none few =
     let no : false ≡ true = times.0 in cc
 
 -- one that waits, with this time
-abbrev one_at : ℕ → Content → Option (Option ℕ) → List Reception
+abbrev one_at : ℕ → LogContent → Option (Option ℕ) → List Reception
 one_at number content d = stamped d (record { number = one_more number; content = content } ∷ [])
 
 -- what is received of messages begins what is received of them and more, where yet more may come or not
-abbrev Stays : Bool → Option ℕ → ℕ → ℕ → List Said → List Said → Type 0
+abbrev Stays : Bool → Option ℕ → ℕ → ℕ → List LogMessage → List LogMessage → Type 0
 Stays b time parts number says more =
     (rest : List Reception)
     × (behind_time b time parts number (says ++ more)
     ≡ behind_time true time parts number says ++ rest)
 
 -- a subframe or a page, with what stays of the messages behind it
-heard_stays : (b : Bool) (time : Option ℕ) (parts number : ℕ) (content : Content) (says more : List Said)
+heard_stays : (b : Bool) (time : Option ℕ) (parts number : ℕ) (content : LogContent) (says more : List LogMessage)
     → AllSay false says → Stays b time (parts + 1) (one_more number) says more
-    → Stays b time parts number (Heard content ∷ says) more
+    → Stays b time parts number (Received content ∷ says) more
 heard_stays b time parts number content says more untimed tail = by_time time refl where
   -- where its time is decided
   decided_here : decision b time (says ++ more) (parts + 1 + parts_to (says ++ more))
       ≡ decision true time says (parts + 1 + parts_to says)
-      → Stays b time parts number (Heard content ∷ says) more
+      → Stays b time parts number (Received content ∷ says) more
   decided_here same =
       let here = one_at number content (decision true time says (parts + 1 + parts_to says)) in (
         tail.0,
@@ -109,26 +109,26 @@ heard_stays b time parts number content says more untimed tail = by_time time re
 
   by_room : (first : ℕ) (seen few : Bool) → time ≡ Some first → has_time says ≡ seen
       → nat_le (parts + 1 + parts_to says) 1024 ≡ few
-      → Stays b time parts number (Heard content ∷ says) more
+      → Stays b time parts number (Received content ∷ says) more
   by_room first true few is some room =
       decided_here (rw is (decision_stays b first says more (parts + 1) true few some room refl))
   by_room first false false is some room =
       decided_here (rw is (decision_stays b first says more (parts + 1) false false some room refl))
   by_room first false true is some room =
-      let nothing : behind_time true time parts number (Heard content ∷ says) ≡ [] =
+      let nothing : behind_time true time parts number (Received content ∷ says) ≡ [] =
       rw is (rw (some, room) (all_open first (parts + 1) (one_more number) says untimed some
       (leb-true _ _ room))) in (
-        behind_time b time parts number ((Heard content ∷ says) ++ more),
-        ap (λ t. t ++ behind_time b time parts number ((Heard content ∷ says) ++ more))
+        behind_time b time parts number ((Received content ∷ says) ++ more),
+        ap (λ t. t ++ behind_time b time parts number ((Received content ∷ says) ++ more))
             (sym nothing),
       )
 
-  by_time : (t : Option ℕ) → time ≡ t → Stays b time parts number (Heard content ∷ says) more
+  by_time : (t : Option ℕ) → time ≡ t → Stays b time parts number (Received content ∷ says) more
   by_time None is = decided_here (rw is refl)
   by_time (Some first) is = by_room first _ _ is refl refl
 
 pub receptions_stay : (b has_times : Bool) (time : Option ℕ) (parts number : ℕ)
-    (says more : List Said)
+    (says more : List LogMessage)
     → AllSay has_times says → Stays b time parts number says more
 receptions_stay b has_times time parts number [] more times =
     (behind_time b time parts number more, refl)
@@ -140,7 +140,7 @@ receptions_stay b has_times time parts number (Dated own content ∷ says) more 
     let next = receptions_stay b has_times time (parts + 1) (one_more number) says more times.1 in
     let here : Reception = record { number = one_more number; time = own; content = content } in
     (next.0, ap (λ t. here ∷ t) next.1)
-receptions_stay b has_times time parts number (Heard content ∷ says) more times =
+receptions_stay b has_times time parts number (Received content ∷ says) more times =
     heard_stays b time parts number content says more
     (subst (λ b. AllSay b says) times.0 times.1)
     (receptions_stay b has_times time (parts + 1) (one_more number) says more times.1)
@@ -148,7 +148,7 @@ receptions_stay b has_times time parts number (Heard content ∷ says) more time
 -- ---- a log
 
 -- what is decided of bytes begins what is decided of them and more, and what is received of them and more
-abbrev pub Grows : Heading → (List ℕ → Said) → Type 0
+abbrev pub Grows : Heading → (List ℕ → LogMessage) → Type 0
 Grows h said = (bytes more : List ℕ) → ((rest : List Reception)
     × (decided_receptions said (decided (format_of h) (bytes ++ more))
     ≡ decided_receptions said (decided (format_of h) bytes) ++ rest))
@@ -156,7 +156,7 @@ Grows h said = (bytes more : List ℕ) → ((rest : List Reception)
     × (receptions_of said (messages (format_of h) (bytes ++ more))
     ≡ decided_receptions said (decided (format_of h) bytes) ++ rest))
 
-says_times : (has_times : Bool) (said : List ℕ → Said)
+says_times : (has_times : Bool) (said : List ℕ → LogMessage)
     → ((message : List ℕ) → SaysTimes has_times (said message)) → (messages : List (List ℕ)) → AllSay has_times (map said messages)
 says_times has_times said each [] = tt
 says_times has_times said each (m ∷ ms) = (each m, says_times has_times said each ms)
@@ -187,7 +187,7 @@ with_decided format (x ∷ xs) zero = by_open (λ k. with_decided format xs k) _
       )
   by_open each false is = by_size each _ is refl
 
-pub grows : (h : Heading) (said : List ℕ → Said) (has_times : Bool)
+pub grows : (h : Heading) (said : List ℕ → LogMessage) (has_times : Bool)
     → ((message : List ℕ) → SaysTimes has_times (said message))
     → ((bytes more : List ℕ) → decided (format_of h) (bytes ++ more)
     ≡ decided (format_of h) bytes ++ decided (format_of h) (undecided (format_of h) bytes ++ more))

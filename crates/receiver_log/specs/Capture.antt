@@ -1,12 +1,12 @@
 -- The capture of a log, and its report.
 use Rattle.std.specs.Prelude.{ℕ, ◌-◌, ◌^◌, true, false, List, [], ◌∷◌, ◌++◌, length, take, codes}
 use Rattle.std.specs.Prelude.{Option, Some, None}
-use Rattle.receiver_frames.specs.Messages.{messages, decided}
-use Rattle.receiver_frames.specs.Headings.{Heading, format_of}
+use Rattle.framing.specs.Messages.{messages, decided}
+use Rattle.framing.specs.Headings.{Heading, format_of}
 use Rattle.one_run.specs.Reports.{report_line}
 use Rattle.one_run.specs.Runs.{Meaning}
-use Rattle.receiver_messages.specs.declared.said.Reason.{Reason}
-use Rattle.receiver_messages.specs.declared.said.Said.{Said}
+use Rattle.receiver_log.specs.declared.content.LogReason.{LogReason}
+use Rattle.receiver_log.specs.declared.content.LogMessage.{LogMessage}
 use Rattle.receiver_log.specs.declared.reception.Reception.{Reception}
 use Rattle.receiver_log.specs.declared.state.LogCounts.{LogCounts}
 use Rattle.receiver_log.specs.declared.state.LogState.{LogState}
@@ -30,7 +30,7 @@ state_after s [] = s
 state_after s (r ∷ rs) = state_after (given s r).state rs
 
 -- the report line of a rejected message, by its number in the log
-abbrev pub refusal_line : ℕ → Option Reason → List ℕ
+abbrev pub refusal_line : ℕ → Option LogReason → List ℕ
 refusal_line number None = []
 refusal_line number (Some reason) = report_line (codes "message") number (reason_word reason)
 
@@ -44,45 +44,45 @@ refusals_from s [] = []
 refusals_from s (r ∷ rs) = refusal_text s r ++ refusals_from (given s r).state rs
 
 -- the counts with these messages more
-abbrev pub counts_after : (List ℕ → Said) → MessageCounts → List (List ℕ) → MessageCounts
+abbrev pub counts_after : (List ℕ → LogMessage) → MessageCounts → List (List ℕ) → MessageCounts
 counts_after said c [] = c
 counts_after said c (m ∷ ms) = counts_after said (counted c (length m) (said m)) ms
 
 -- the counts of a log's messages, and of what became of its subframes and pages
-abbrev pub counts_of : (List ℕ → Said) → List (List ℕ) → LogCounts
+abbrev pub counts_of : (List ℕ → LogMessage) → List (List ℕ) → LogCounts
 counts_of said ms = record {
   log = counts_after said none_counted ms;
   capture = (state_after begun (receptions_of said ms)).counts;
 }
 
 -- the capture of the bytes of a log
-abbrev pub capture_of : Heading → (List ℕ → Said) → List ℕ → List ℕ
+abbrev pub capture_of : Heading → (List ℕ → LogMessage) → List ℕ → List ℕ
 capture_of heading said bytes =
     lines_from begun (receptions_of said (messages (format_of heading) bytes))
 
 -- the report of a log: a line for each rejected message, and the counts
-abbrev pub report_of : Heading → (List ℕ → Said) → List ℕ → List ℕ
+abbrev pub report_of : Heading → (List ℕ → LogMessage) → List ℕ → List ℕ
 report_of heading said bytes =
     refusals_from begun (receptions_of said (messages (format_of heading) bytes))
     ++ counts_report (counts_of said (messages (format_of heading) bytes)) (length bytes)
 
 -- the capture of the first bytes of a log: the lines of what is received in the decided messages and stays whatever follows
-abbrev pub decided_capture : Heading → (List ℕ → Said) → List ℕ → List ℕ
+abbrev pub decided_capture : Heading → (List ℕ → LogMessage) → List ℕ → List ℕ
 decided_capture heading said bytes =
     lines_from begun (decided_receptions said (decided (format_of heading) bytes))
 
 -- the report lines of the same
-abbrev pub decided_report : Heading → (List ℕ → Said) → List ℕ → List ℕ
+abbrev pub decided_report : Heading → (List ℕ → LogMessage) → List ℕ → List ℕ
 decided_report heading said bytes =
     refusals_from begun (decided_receptions said (decided (format_of heading) bytes))
 
 -- the least that was written of the bytes read, whatever fails: the lines of what all but the last
 -- 16,384 bytes decide (one read asks for so many)
-abbrev pub least_capture : Heading → (List ℕ → Said) → List ℕ → List ℕ
+abbrev pub least_capture : Heading → (List ℕ → LogMessage) → List ℕ → List ℕ
 least_capture heading said bytes = decided_capture heading said (take (length bytes - 16384) bytes)
 
 -- the least that was reported of them: the report lines of the same
-abbrev pub least_report : Heading → (List ℕ → Said) → List ℕ → List ℕ
+abbrev pub least_report : Heading → (List ℕ → LogMessage) → List ℕ → List ℕ
 least_report heading said bytes = decided_report heading said (take (length bytes - 16384) bytes)
 
 -- the number of bytes at which a log is too long
@@ -91,7 +91,7 @@ too_many = 2 ^ 64 - 1
 
 -- what a run makes of a log: its capture, its report and its counts. When a read fails, the lines and the refusals of all
 -- that is decided were written
-abbrev pub log_meaning : Heading → (List ℕ → Said) → Meaning LogCounts
+abbrev pub log_meaning : Heading → (List ℕ → LogMessage) → Meaning LogCounts
 log_meaning heading said = record {
   reads = true;
   reports = true;

@@ -5,13 +5,13 @@ use Rattle.std.specs.Prelude.{Option, Some, None}
 use Rattle.nav_eph.specs.Satellite.{Satellite}
 use Rattle.nav_eph.specs.declared.signal.Signal.{Signal}
 use Rattle.capture_lines.specs.Texts.{lnav_text, half_text}
-use Rattle.receiver_messages.specs.Words.{read_words, has_good_reading, is_inverted, subframe_bytes}
-use Rattle.receiver_messages.specs.declared.said.Content.{Content}
-use Rattle.receiver_messages.specs.declared.said.Content.TheVariants.{Refused, Subframe, Page}
-use Rattle.receiver_messages.specs.declared.said.Reason.{Reason}
-use Rattle.receiver_messages.specs.declared.said.Reason.TheVariants.{Untimed, Late, Far}
-use Rattle.receiver_messages.specs.declared.said.Said.{Said}
-use Rattle.receiver_messages.specs.declared.said.Said.TheVariants.{Other, Time, Heard, Dated}
+use Rattle.receiver_log.specs.Words.{read_words, has_good_reading, is_inverted, subframe_bytes}
+use Rattle.receiver_log.specs.declared.content.LogContent.{LogContent}
+use Rattle.receiver_log.specs.declared.content.LogContent.TheVariants.{Refused, Subframe, Page}
+use Rattle.receiver_log.specs.declared.content.LogReason.{LogReason}
+use Rattle.receiver_log.specs.declared.content.LogReason.TheVariants.{Untimed, Late, Far}
+use Rattle.receiver_log.specs.declared.content.LogMessage.{LogMessage}
+use Rattle.receiver_log.specs.declared.content.LogMessage.TheVariants.{Other, Time, Received, Dated}
 use Rattle.receiver_log.specs.declared.state.LogState.{LogState}
 use Rattle.receiver_log.specs.declared.state.CaptureCounts.{CaptureCounts}
 use Rattle.receiver_log.specs.declared.state.MessageCounts.{MessageCounts}
@@ -28,7 +28,7 @@ more_if b n = if b then one_more n else n
 pub record LinesGiven : Type 0 where
   pub state : LogState
   pub text : List ℕ
-  pub refused : Option Reason
+  pub refused : Option LogReason
 
 -- the first line of a capture: its week, and a window of 7,200 s
 abbrev pub head_line : ℕ → List ℕ
@@ -45,14 +45,14 @@ head_text (Some week) first = []
 head_text None first = head_line (week_of None first)
 
 -- why lines from the first to the last of these seconds are rejected in a capture of this week
-abbrev pub reason_in : ℕ → ℕ → ℕ → Option Reason
+abbrev pub reason_in : ℕ → ℕ → ℕ → Option LogReason
 reason_in week first last =
     if nat_lt first (604800 * week) then Some Late
     else if nat_le (604800 * (week + 512)) last then Some Far
     else None
 
 -- the result of a rejected message
-abbrev pub refused_by : LogState → Reason → LinesGiven
+abbrev pub refused_by : LogState → LogReason → LinesGiven
 refused_by s reason = record {
   state = record s { counts = record s.counts { refused = one_more s.counts.refused } };
   text = [];
@@ -68,7 +68,7 @@ subframe_counted c words = record c {
 }
 
 -- the result of a subframe
-abbrev pub subframe_in : LogState → ℕ → Satellite → List ℕ → Option Reason → LinesGiven
+abbrev pub subframe_in : LogState → ℕ → Satellite → List ℕ → Option LogReason → LinesGiven
 subframe_in s time sat words (Some reason) = refused_by s reason
 subframe_in s time sat words None = record {
   state = record s { week = Some (week_of s.week time); counts = subframe_counted s.counts words };
@@ -78,7 +78,7 @@ subframe_in s time sat words None = record {
 }
 
 -- the result of a page; its even page part is stamped a second before its time
-abbrev pub page_in : LogState → ℕ → Satellite → Signal → List ℕ → List ℕ → Option Reason → LinesGiven
+abbrev pub page_in : LogState → ℕ → Satellite → Signal → List ℕ → List ℕ → Option LogReason → LinesGiven
 page_in s time sat signal even odd (Some reason) = refused_by s reason
 page_in s time sat signal even odd None = record {
   state = record s {
@@ -94,7 +94,7 @@ page_in s time sat signal even odd None = record {
 }
 
 -- the result of a subframe or a page received at a time
-abbrev pub given_at : LogState → Option ℕ → Content → LinesGiven
+abbrev pub given_at : LogState → Option ℕ → LogContent → LinesGiven
 given_at s time (Refused reason) = refused_by s reason
 given_at s None (Subframe sat words) = refused_by s Untimed
 given_at s (Some time) (Subframe sat words) = subframe_in
@@ -104,15 +104,15 @@ given_at s (Some time) (Page sat signal even odd) =
     page_in s time sat signal even odd (reason_in (week_of s.week (time - 1)) (time - 1) time)
 
 -- a time message counts if it gives a time; without one it counts as other
-abbrev pub counted_as : Said → MessageCounts → MessageCounts
+abbrev pub counted_as : LogMessage → MessageCounts → MessageCounts
 counted_as Other c = record c { other = one_more c.other }
 counted_as (Time (Some time)) c = record c { times = one_more c.times }
 counted_as (Time None) c = record c { other = one_more c.other }
-counted_as (Heard content) c = c
+counted_as (Received content) c = c
 counted_as (Dated time content) c = c
 
 -- the counts with one more message of this many bytes and this content
-abbrev pub counted : MessageCounts → ℕ → Said → MessageCounts
+abbrev pub counted : MessageCounts → ℕ → LogMessage → MessageCounts
 counted c bytes said = counted_as said (record c {
   messages = one_more c.messages;
   within = min (c.within + bytes) (2 ^ 64 - 1);
@@ -130,7 +130,7 @@ begun = record {
 }
 
 -- state, lines and reason are those of the result
-pub record Gives (state : LogState) (old new : List ℕ) (answer : Option Reason)
+pub record Gives (state : LogState) (old new : List ℕ) (answer : Option LogReason)
     (g : LinesGiven) : Type 0 where
   pub state_is : state ≡ g.state
   pub lines : new ≡ old ++ g.text

@@ -2,20 +2,20 @@
 use Rattle.std.specs.Prelude.{◌≡◌, ◌≤◌, ℕ, ◌+◌, nat_lt, Bool, false, if◌then◌else◌}
 use Rattle.std.specs.Prelude.{List, [], ◌++◌, length, Option, Some, None, Result, OnOk, OnErr, ◌⊎◌, ⊤}
 use Rattle.nav_io.specs.Causes.{Rose}
-use Rattle.receiver_frames.specs.Headings.{Heading}
-use Rattle.receiver_messages.specs.declared.said.Said.{Said}
+use Rattle.framing.specs.Headings.{Heading}
+use Rattle.receiver_log.specs.declared.content.LogMessage.{LogMessage}
 use Rattle.receiver_log.specs.Capture.{capture_of, lines_from, too_many}
 use Rattle.receiver_log.specs.Mirrors.{ahead}
 use Rattle.receiver_log.specs.Steps.{LogView}
 
 -- the capture of a log's bytes, if they are known
-abbrev pub capture_left : Heading → (List ℕ → Said) → Option (List ℕ) → Option (List ℕ)
+abbrev pub capture_left : Heading → (List ℕ → LogMessage) → Option (List ℕ) → Option (List ℕ)
 capture_left heading said None = None
 capture_left heading said (Some bytes) = Some (capture_of heading said bytes)
 
 -- what is left of the capture in the middle of a log: lines that wait, then those of the receptions to come, from the
 -- bytes held and from what follows; after the end only from the bytes held
-abbrev pub left_of : Heading → (List ℕ → Said) → LogView → List ℕ → Option (List ℕ)
+abbrev pub left_of : Heading → (List ℕ → LogMessage) → LogView → List ℕ → Option (List ℕ)
     → Option (List ℕ)
 left_of heading said a waiting None = None
 left_of heading said a waiting (Some following) =

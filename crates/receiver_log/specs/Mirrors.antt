@@ -1,10 +1,10 @@
 -- What is still to come of a log's subframes and pages while messages come; cited by private functions.
 use Rattle.std.specs.Prelude.{ℕ, min, ◌+◌, ◌*◌, ◌&&◌, Bool, if◌then◌else◌, List, [], ◌∷◌}
 use Rattle.std.specs.Prelude.{◌++◌, length, map, Option, Some, None}
-use Rattle.receiver_frames.specs.Headings.{Heading, format_of}
-use Rattle.receiver_frames.specs.Messages.{messages_past}
-use Rattle.receiver_messages.specs.declared.said.Said.{Said}
-use Rattle.receiver_messages.specs.declared.said.Said.TheVariants.{Other, Time, Heard, Dated}
+use Rattle.framing.specs.Headings.{Heading, format_of}
+use Rattle.framing.specs.Messages.{messages_past}
+use Rattle.receiver_log.specs.declared.content.LogMessage.{LogMessage}
+use Rattle.receiver_log.specs.declared.content.LogMessage.TheVariants.{Other, Time, Received, Dated}
 use Rattle.receiver_log.specs.declared.queue.Pending.{Pending}
 use Rattle.receiver_log.specs.declared.reception.Reception.{Reception}
 use Rattle.receiver_log.specs.declared.state.MessageCounts.{MessageCounts}
@@ -12,7 +12,7 @@ use Rattle.receiver_log.specs.Log.{none_counted, one_more}
 use Rattle.receiver_log.specs.Receptions.{between, is_open, nearest, parts_to}
 
 -- the time of what lies after a time message; none yet if it is open
-abbrev pub decision : Bool → Option ℕ → List Said → ℕ → Option (Option ℕ)
+abbrev pub decision : Bool → Option ℕ → List LogMessage → ℕ → Option (Option ℕ)
 decision more time behind parts =
     if is_open time behind parts && more then None else Some (between time (nearest behind) parts)
 
@@ -25,13 +25,13 @@ stamped (Some time) (x ∷ xs) =
 
 -- the receptions of messages after a time message, and so many subframes and pages; `number` is
 -- that of the message before
-abbrev pub behind_time : Bool → Option ℕ → ℕ → ℕ → List Said → List Reception
+abbrev pub behind_time : Bool → Option ℕ → ℕ → ℕ → List LogMessage → List Reception
 behind_time more time parts number [] = []
 behind_time more time parts number (Other ∷ says) =
     behind_time more time parts (one_more number) says
 behind_time more time parts number (Time next ∷ says) =
     behind_time more next 0 (one_more number) says
-behind_time more time parts number (Heard content ∷ says) =
+behind_time more time parts number (Received content ∷ says) =
     stamped (decision more time says (parts + 1 + parts_to says))
     (record { number = one_more number; content = content } ∷ [])
     ++ behind_time more time (parts + 1) (one_more number) says
@@ -53,7 +53,7 @@ abbrev pub empty_queue : QueueState
 empty_queue = record { waiting = []; time = None; settled = None }
 
 -- the same, by their time
-abbrev pub to_come_by : Bool → Option (Option ℕ) → QueueState → ℕ → List Said → List Reception
+abbrev pub to_come_by : Bool → Option (Option ℕ) → QueueState → ℕ → List LogMessage → List Reception
 to_come_by more (Some time) q number says =
     stamped (Some time) q.waiting ++ behind_time more q.time 0 number says
 to_come_by more None q number says =
@@ -61,7 +61,7 @@ to_come_by more None q number says =
     ++ behind_time more q.time (length q.waiting) number says
 
 -- the receptions to come of what waits, and of the messages to come
-abbrev pub to_come : Bool → QueueState → ℕ → List Said → List Reception
+abbrev pub to_come : Bool → QueueState → ℕ → List LogMessage → List Reception
 to_come more q number says = to_come_by more q.settled q number says
 
 -- where a run over a log is: the bytes fed and not yet passed, what waits, and the counts of the
@@ -81,7 +81,7 @@ fed_with p bytes = record p { rest = p.rest ++ bytes }
 
 -- the receptions to come from a place, if these bytes follow; with more to come, those that are
 -- decided
-abbrev pub ahead : Heading → (List ℕ → Said) → Bool → Place → List ℕ → List Reception
+abbrev pub ahead : Heading → (List ℕ → LogMessage) → Bool → Place → List ℕ → List Reception
 ahead h said more p following =
     to_come more p.queue p.counts.messages
     (map said (messages_past (format_of h) more (p.rest ++ following) 0))

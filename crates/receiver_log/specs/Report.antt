@@ -1,13 +1,13 @@
 -- The report of a log.
 use Rattle.std.specs.Prelude.{ℕ, ◌-◌, List, ◌++◌, codes}
 use Rattle.one_run.specs.Reports.{count_line}
-use Rattle.receiver_messages.specs.declared.said.Reason.{Reason}
-use Rattle.receiver_messages.specs.declared.said.Reason.TheVariants.{Length, Satellite, Untimed}
-use Rattle.receiver_messages.specs.declared.said.Reason.TheVariants.{Late, Far}
+use Rattle.receiver_log.specs.declared.content.LogReason.{LogReason}
+use Rattle.receiver_log.specs.declared.content.LogReason.TheVariants.{Length, Satellite, Untimed}
+use Rattle.receiver_log.specs.declared.content.LogReason.TheVariants.{Late, Far}
 use Rattle.receiver_log.specs.declared.state.LogCounts.{LogCounts}
 
 -- the report's word for a reason
-abbrev pub reason_word : Reason → List ℕ
+abbrev pub reason_word : LogReason → List ℕ
 reason_word Length = codes "length"
 reason_word Satellite = codes "satellite"
 reason_word Untimed = codes "untimed"

@@ -7,10 +7,10 @@ use Rattle.nav_io.specs.Prefix.{AppendsPrefix}
 use Rattle.one_run.specs.Runs.{AppendsBetween}
 use Rattle.one_run.specs.declared.fault.BridgeFault.{BridgeFault}
 use Rattle.one_run.specs.declared.fault.BridgeFault.TheVariants.{ReadFault, ReportFault, TooLong}
-use Rattle.receiver_frames.specs.Headings.{Heading, format_of}
-use Rattle.receiver_frames.specs.Messages.{messages}
-use Rattle.receiver_frames.specs.State.{IsWaiting}
-use Rattle.receiver_messages.specs.declared.said.Said.{Said}
+use Rattle.framing.specs.Headings.{Heading, format_of}
+use Rattle.framing.specs.Messages.{messages}
+use Rattle.framing.specs.MessageState.{IsWaiting}
+use Rattle.receiver_log.specs.declared.content.LogMessage.{LogMessage}
 use Rattle.receiver_log.specs.declared.state.Log.{Log}
 use Rattle.receiver_log.specs.declared.reception.Reception.{Reception}
 use Rattle.receiver_log.specs.declared.state.LogState.{LogState}
@@ -46,7 +46,7 @@ fresh = record { place = start_of []; ended = false; state = begun; taken = 0 }
 
 -- Receptions were passed while these bytes were fed: they are the first of those to come, whatever follows, and the counts go
 -- on.
-pub record Passes (h : Heading) (said : List ℕ → Said) (a b : LogView) (fed : List ℕ)
+pub record Passes (h : Heading) (said : List ℕ → LogMessage) (a b : LogView) (fed : List ℕ)
     (heard : List Reception) : Type 0 where
   pub stream : (following : List ℕ) → (b.ended ≡ true → following ≡ [])
       → ahead h said false a.place (fed ++ following) ≡ heard ++ ahead h said false b.place following
@@ -60,7 +60,7 @@ pub record Passes (h : Heading) (said : List ℕ → Said) (a b : LogView) (fed 
 
 -- Receptions were passed; their lines came to those that wait, and this is so of the report of
 -- those that were rejected.
-pub record Hears (h : Heading) (said : List ℕ → Said) (a b : LogView) (fed lines lines_new : List ℕ)
+pub record ReceivesLog (h : Heading) (said : List ℕ → LogMessage) (a b : LogView) (fed lines lines_new : List ℕ)
     (tells : List ℕ → Type 0) : Type 0 where
   pub heard : List Reception
   pub passes : Passes h said a b fed heard
@@ -73,22 +73,22 @@ abbrev pub IsOver : Option (List ℕ) → ℕ → Type 0
 IsOver left taken = IsAtEnd left × (taken < too_many)
 
 -- the same, if the bytes were read
-pub record Reads (h : Heading) (said : List ℕ → Said) (a b : LogView)
+pub record Reads (h : Heading) (said : List ℕ → LogMessage) (a b : LogView)
     (left left_new : Option (List ℕ)) (lines lines_new : List ℕ) (tells : List ℕ → Type 0) :
     Type 0 where
   pub bytes : List ℕ
   pub consumes : Consumes left left_new bytes
   pub size : b.taken ≡ a.taken + length bytes
   pub end : b.ended ≡ true → (a.ended ≡ true → IsOver left a.taken) → IsOver left_new b.taken
-  pub hears : Hears h said a b bytes lines lines_new tells
+  pub hears : ReceivesLog h said a b bytes lines lines_new tells
 
 -- what was reported of a text before this error: a prefix if the report failed, else all of it
-abbrev pub Tells : BridgeFault → Option (List ℕ) → Option (List ℕ) → List ℕ → Type 0
-Tells ReportFault reported reported_new text = AppendsPrefix reported reported_new text
-Tells fault reported reported_new text = Appends reported reported_new text
+abbrev pub Reports : BridgeFault → Option (List ℕ) → Option (List ℕ) → List ℕ → Type 0
+Reports ReportFault reported reported_new text = AppendsPrefix reported reported_new text
+Reports fault reported reported_new text = Appends reported reported_new text
 
 -- all that is decided of these bytes without a last piece, of 16,384 bytes at most
-pub record LastPiece (h : Heading) (said : List ℕ → Said) (a : LogView) (bytes : List ℕ)
+pub record LastPiece (h : Heading) (said : List ℕ → LogMessage) (a : LogView) (bytes : List ℕ)
     (before : List Reception) : Type 0 where
   pub first : List ℕ
   pub piece : List ℕ
@@ -98,11 +98,11 @@ pub record LastPiece (h : Heading) (said : List ℕ → Said) (a : LogView) (byt
 
 -- If any bytes were fed, all that was decided before the last piece of them is among the receptions
 -- passed, and gave no lines.
-pub record Early (h : Heading) (said : List ℕ → Said) (a : LogView) (bytes : List ℕ)
+pub record Early (h : Heading) (said : List ℕ → LogMessage) (a : LogView) (bytes : List ℕ)
     (heard : List Reception) : Type 0 where
   pub before : List Reception
   pub rest : List Reception
-  pub heard_are : heard ≡ before ++ rest
+  pub receptions_are : heard ≡ before ++ rest
   pub silent : lines_from a.state before ≡ []
   pub pieces : (bytes ≡ []) ⊎ LastPiece h said a bytes before
 
@@ -110,30 +110,30 @@ pub record Early (h : Heading) (said : List ℕ → Said) (a : LogView) (bytes :
 pub record OneLast (s : LogState) (heard : List Reception) : Type 0 where
   pub done : List Reception
   pub last : List Reception
-  pub heard_are : heard ≡ done ++ last
+  pub receptions_are : heard ≡ done ++ last
   pub few : length last ≤ 1
   pub silent : lines_from s done ≡ []
 
 -- one reception was passed, or none
-abbrev pub HearsOne : Heading → (List ℕ → Said) → LogView → LogView → List ℕ → List ℕ → (List ℕ → Type 0) → Type 0
-HearsOne h said a b lines lines_new tells =
-    (m : Hears h said a b [] lines lines_new tells) × (length m.heard ≤ 1)
+abbrev pub ReceivesOne : Heading → (List ℕ → LogMessage) → LogView → LogView → List ℕ → List ℕ → (List ℕ → Type 0) → Type 0
+ReceivesOne h said a b lines lines_new tells =
+    (m : ReceivesLog h said a b [] lines lines_new tells) × (length m.heard ≤ 1)
 
 -- receptions were passed up to the first that gave lines
-abbrev pub HearsLast : Heading → (List ℕ → Said) → LogView → LogView → List ℕ → List ℕ → (List ℕ → Type 0) → Type 0
-HearsLast h said a b lines lines_new tells =
-    (m : Hears h said a b [] lines lines_new tells) × OneLast a.state m.heard
+abbrev pub ReceivesLast : Heading → (List ℕ → LogMessage) → LogView → LogView → List ℕ → List ℕ → (List ℕ → Type 0) → Type 0
+ReceivesLast h said a b lines lines_new tells =
+    (m : ReceivesLog h said a b [] lines lines_new tells) × OneLast a.state m.heard
 
 -- the same up to one whose rejection could not be reported
-abbrev pub BreaksLast : Heading → (List ℕ → Said) → LogView → LogView → List ℕ → List ℕ
+abbrev pub BreaksLast : Heading → (List ℕ → LogMessage) → LogView → LogView → List ℕ → List ℕ
     → Option (List ℕ) → Option (List ℕ) → Type 0
 BreaksLast h said a b lines lines_new reported reported_new =
-    (m : Hears h said a b [] lines lines_new (AppendsPrefix reported reported_new))
+    (m : ReceivesLog h said a b [] lines lines_new (AppendsPrefix reported reported_new))
     × (o : OneLast a.state m.heard)
     × AppendsBetween reported reported_new (refusals_from a.state o.done) (refusals_from a.state m.heard)
 
 -- bytes were read, from where no lines wait
-pub record Advances (h : Heading) (said : List ℕ → Said) (a b : LogView)
+pub record Advances (h : Heading) (said : List ℕ → LogMessage) (a b : LogView)
     (left left_new : Option (List ℕ)) (lines lines_new : List ℕ) (tells : List ℕ → Type 0) :
     Type 0 where
   pub reads : Reads h said a b left left_new lines lines_new tells
@@ -141,10 +141,10 @@ pub record Advances (h : Heading) (said : List ℕ → Said) (a b : LogView)
   pub one : lines ≡ [] → OneLast a.state reads.hears.heard
 
 -- the same up to an error, with no less reported than what was decided before the last piece
-pub record Breaks (h : Heading) (said : List ℕ → Said) (a b : LogView)
+pub record Breaks (h : Heading) (said : List ℕ → LogMessage) (a b : LogView)
     (left left_new : Option (List ℕ)) (lines lines_new : List ℕ) (fault : BridgeFault)
     (reported reported_new : Option (List ℕ)) : Type 0 where
-  pub reads : Reads h said a b left left_new lines lines_new (Tells fault reported reported_new)
+  pub reads : Reads h said a b left left_new lines lines_new (Reports fault reported reported_new)
   pub early : lines ≡ [] → Early h said a reads.bytes reads.hears.heard
   pub one : lines ≡ [] → OneLast a.state reads.hears.heard
   pub stopped : (none : lines ≡ []) → AppendsBetween reported reported_new
@@ -153,13 +153,13 @@ pub record Breaks (h : Heading) (said : List ℕ → Said) (a b : LogView)
       (refusals_from a.state (early none).before) (refusals_from a.state reads.hears.heard)
 
 -- nothing more is decided
-pub record IsIdle (h : Heading) (said : List ℕ → Said) (a : LogView) : Type 0 where
+pub record IsIdle (h : Heading) (said : List ℕ → LogMessage) (a : LogView) : Type 0 where
   pub waiting : IsWaiting (format_of h) a.place.rest
   pub last : ahead h said (not a.ended) a.place [] ≡ []
   pub rest : a.ended ≡ true → a.place.rest ≡ []
 
 -- why no more lines come, by the error: of a read, of the report, or because the log is too long
-abbrev pub Stops : Heading → (List ℕ → Said) → LogView → List ℕ → Bool → ℕ → ℕ → ℕ → ℕ → BridgeFault
+abbrev pub Stops : Heading → (List ℕ → LogMessage) → LogView → List ℕ → Bool → ℕ → ℕ → ℕ → ℕ → BridgeFault
     → Type 0
 Stops h said a waiting never_fails reads reads_new reports reports_new ReadFault =
     Rose reads reads_new × (reads ≤ reads_new) × (IsTrue never_fails → ⊥) × (waiting ≡ [])

@@ -1,3 +1,24 @@
+//! Logs of GNSS receivers: what their messages contain, and the capture of a log.
+//!
+//! Decoding of GNSS receiver messages for a capture: times, GPS LNAV subframes and Galileo I/NAV
+//! pages, from u-blox UBX and Septentrio SBF.
+//!
+//! - [`ubx_message`] and [`sbf_message`], the content of a complete message ([`LogMessage`]): a
+//! time, a
+//!   subframe or a page ([`LogContent`]), or nothing that is used;
+//! - [`read_words`], the ten words of a subframe as sent, in whichever of three ways the receiver
+//!   logged them (IS-GPS-200, 20.3.5.2), and [`subframe_bits`], their 300 bits.
+//!
+//! ```rust
+//! match ubx_message(message) {
+//!     LogMessage::Time(time) => set_time(time),
+//!     LogMessage::Received(LogContent::Subframe { sat, words }) => {
+//!         use_bits(sat, &subframe_bits(&words));
+//!     }
+//!     _ => {}
+//! }
+//! ```
+//!
 //! Captures of GNSS receiver logs.
 //!
 //! A receiver's log has UBX messages or SBF blocks, with any other bytes between them. Its GPS LNAV
@@ -5,7 +26,7 @@
 //! counted from the start of the week in the first line.
 //!
 //! - [`Receiver`], a format of messages and their content: `UbxJudge` and `SbfJudge`;
-//! - [`hear`], the lines of one subframe or page;
+//! - [`receive`], the lines of one subframe or page;
 //! - [`run_log`], which writes the capture of a log, and reports rejected messages and counts;
 //! - [`LogSource`], over a source of the log's bytes, which gives the same capture however reads
 //!   split it, so that a conversion of captures can read a log; [`Refused`], who is notified of its
@@ -19,22 +40,35 @@
 //! ```
 #![tactic(auto)]
 
-mod hearing;
+mod content;
+mod halves;
+mod laws;
 mod lines;
 mod log;
+mod numbers;
 mod queue;
 mod receiver;
+mod receiving;
 mod reception;
 mod report;
 mod run;
+mod sbf;
 mod source;
 mod state;
+mod times;
+mod ubx;
+mod words;
 
-pub use crate::hearing::hear;
+pub use crate::content::{LogContent, LogMessage, LogReason};
+pub use crate::laws::{one_reading_is_good, sent_words_are_read};
 pub use crate::lines::LineBuffer;
 pub use crate::receiver::Receiver;
+pub use crate::receiving::receive;
 pub use crate::reception::Reception;
 pub use crate::report::{Nobody, Refused, counts_text, refusal};
 pub use crate::run::run_log;
+pub use crate::sbf::sbf_message;
 pub use crate::source::{LogParts, LogSource};
 pub use crate::state::{CaptureCounts, LogCounts, LogState, MessageCounts};
+pub use crate::ubx::ubx_message;
+pub use crate::words::{ReadWords, read_words, subframe_bits};

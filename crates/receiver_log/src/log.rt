@@ -6,26 +6,26 @@ ghost use Rattle.std.specs.Prelude.{OnErr};
 ghost use Rattle.std.specs.Io.KnownBytes.{Appends};
 ghost use Rattle.nav_io.specs.Causes.{HasCause};
 ghost use Rattle.nav_io.specs.Prefix.{AppendsPrefix};
-ghost use Rattle.receiver_frames.specs.Headings.{format_of};
-ghost use Rattle.receiver_frames.specs.State.{MayFeed};
+ghost use Rattle.framing.specs.Headings.{format_of};
+ghost use Rattle.framing.specs.MessageState.{MayFeed};
 ghost use Rattle.receiver_log.specs.Capture.{refusal_line};
-ghost use Rattle.receiver_messages.specs.declared.said.Said.{Said as SaidNow};
+ghost use Rattle.receiver_log.specs.declared.content.LogMessage.{LogMessage as StatedNow};
 ghost use Rattle.receiver_log.specs.Log.{counted};
 ghost use Rattle.receiver_log.specs.Mirrors.{to_come, work_left};
-ghost use Rattle.receiver_log.specs.Steps.{Advances, Breaks, BreaksLast, HearsLast, HearsOne};
+ghost use Rattle.receiver_log.specs.Steps.{Advances, Breaks, BreaksLast, ReceivesLast, ReceivesOne};
 ghost use Rattle.receiver_log.specs.Steps.{IsIdle, Reads, Stops, fresh};
 ghost use Rattle.receiver_log.specs.Steps.{steps_left, view_of, waiting_of};
 
-use crate::hearing::hear;
 use crate::queue::{Pending, Queue};
 use crate::receiver::Receiver;
+use crate::receiving::receive;
 use crate::report::Refused;
 use crate::state::{Log, LogCounts, LogState, MessageCounts};
+use crate::{LogMessage, LogReason};
 use arrayvec::ArrayVec;
+use framing::MessageDeframer;
 use nav_io::{Failed, Source};
 use one_run::{BridgeFault, read_piece};
-use receiver_frames::Deframer;
-use receiver_messages::{Reason, Said};
 
 // The most bytes of one read.
 const PIECE: usize = 16_384;
@@ -40,7 +40,7 @@ impl<J: Receiver> Log<J> {
         ensures lines { waiting_of result ≡ [] }
     {
         Log {
-            deframer: Deframer::new(),
+            deframer: MessageDeframer::new(),
             counts: MessageCounts::new(),
             queue: Queue::new(),
             state: LogState::new(),
@@ -98,7 +98,8 @@ impl<J: Receiver> Log<J> {
 
     // Takes messages, until one gives lines or none is decided.
     fn take<R: Refused>(&mut self, refused: &mut R) -> Result<(), Failed>
-        ensures hears { OnOk result (HearsLast J.heading J.said (view_of self.old) (view_of self.new)
+        ensures hears { OnOk result (ReceivesLast J.heading J.said (view_of self.old)
+            (view_of self.new)
             [] self.new.lines.items (Appends (R.reported refused.old) (R.reported refused.new))) }
         ensures stopped { OnErr result (BreaksLast J.heading J.said
             (view_of self.old) (view_of self.new) [] self.new.lines.items
@@ -128,10 +129,11 @@ impl<J: Receiver> Log<J> {
     fn step<R: Refused>(&mut self, refused: &mut R) -> Result<bool, Failed>
         requires room { length self.old.lines.items ≤ 8192 }
         requires given { self.old.given ≡ 0 }
-        ensures hears { OnOk result (HearsOne J.heading J.said (view_of self.old) (view_of self.new)
+        ensures hears { OnOk result (ReceivesOne J.heading J.said (view_of self.old)
+            (view_of self.new)
             self.old.lines.items self.new.lines.items
             (Appends (R.reported refused.old) (R.reported refused.new))) }
-        ensures stopped { OnErr result (HearsOne J.heading J.said
+        ensures stopped { OnErr result (ReceivesOne J.heading J.said
             (view_of self.old) (view_of self.new)
             self.old.lines.items self.new.lines.items
             (AppendsPrefix (R.reported refused.old) (R.reported refused.new))) }
@@ -148,7 +150,7 @@ impl<J: Receiver> Log<J> {
             → IsIdle J.heading J.said (view_of self.new)) }
     {
         if let Some(reception) = self.queue.next() {
-            let reason = hear(&mut self.state, &reception, &mut self.lines);
+            let reason = receive(&mut self.state, &reception, &mut self.lines);
             tell(refused, reception.number, reason)?;
             return Ok(true);
         }
@@ -169,7 +171,7 @@ impl<J: Receiver> Log<J> {
     // Takes the message found last.
     fn take_message(&mut self)
         requires settled { self.old.queue.settled ≡ None }
-        ensures comes { (more : Bool) (says : List SaidNow)
+        ensures comes { (more : Bool) (says : List StatedNow)
             → to_come more self.old.queue self.old.counts.messages
             (J.said self.old.deframer.message ∷ says)
             ≡ to_come more self.new.queue self.new.counts.messages says }
@@ -186,10 +188,10 @@ impl<J: Receiver> Log<J> {
         self.counts.count(message.len(), &said);
         let number = self.counts.messages;
         match said {
-            Said::Other => {}
-            Said::Time(time) => self.queue.set_time(time),
-            Said::Heard(content) => self.queue.put(&Pending { number, content }),
-            Said::Dated(time, content) => {
+            LogMessage::Other => {}
+            LogMessage::Time(time) => self.queue.set_time(time),
+            LogMessage::Received(content) => self.queue.put(&Pending { number, content }),
+            LogMessage::Dated(time, content) => {
                 self.queue.put_dated(&Pending { number, content }, time)
             },
         }
@@ -277,7 +279,7 @@ impl<J: Receiver> Log<J> {
 }
 
 // Tells of a message, where it is rejected.
-fn tell<R: Refused>(refused: &mut R, number: u64, reason: Option<Reason>) -> Result<(), Failed>
+fn tell<R: Refused>(refused: &mut R, number: u64, reason: Option<LogReason>) -> Result<(), Failed>
     ensures told { OnOk result (Appends (R.reported refused.old) (R.reported refused.new)
         (refusal_line number reason)) }
     ensures part { OnErr result (AppendsPrefix (R.reported refused.old) (R.reported refused.new)

@@ -3,17 +3,17 @@
 ghost use Rattle.std.specs.Prelude.{◌≡◌, ℕ, Bool, List, ◌∷◌, [], Some, None, ◌≤◌, ◌<◌, ◌+◌, ◌-◌};
 ghost use Rattle.arrayvec.specs.ArrayVec.{array_vec_len};
 ghost use Rattle.std.specs.Prelude.{◌++◌, IfSome, IfNone, ◌⊎◌, All, length, drop, true, false};
-ghost use Rattle.receiver_messages.specs.Systems.{IsOfSystem};
-ghost use Rattle.receiver_messages.specs.declared.said.Said.{Said};
-ghost use Rattle.receiver_messages.specs.declared.said.Said.TheVariants.{Time, Heard, Dated};
+ghost use Rattle.receiver_log.specs.Systems.{IsOfSystem};
+ghost use Rattle.receiver_log.specs.declared.content.LogMessage.{LogMessage};
+ghost use Rattle.receiver_log.specs.declared.content.LogMessage.TheVariants.{Time, Received, Dated};
 ghost use Rattle.receiver_log.specs.Log.{one_more};
 ghost use Rattle.receiver_log.specs.Mirrors.{to_come, empty_queue};
 ghost use Rattle.receiver_log.specs.Receptions.{between as time_between};
 
 use crate::reception::Reception;
+use crate::{LogContent, LogReason};
 use arrayvec::ArrayVec;
-use gnss_week::Moment;
-use receiver_messages::{Content, Reason};
+use nav_eph::Moment;
 use std::marker::Model;
 
 // The most subframes and pages between two time messages.
@@ -28,14 +28,14 @@ pub struct Pending {
     /// The number of its message in the log, from 1.
     pub number: u64,
     /// The subframe or the page.
-    pub content: Content,
+    pub content: LogContent,
 }
 
 impl Default for Pending {
     fn default() -> Self {
         Pending {
             number: 0,
-            content: Content::Refused(Reason::Length),
+            content: LogContent::Refused(LogReason::Length),
         }
     }
 }
@@ -55,7 +55,7 @@ pub struct Queue {
 
 impl Model for Queue {
     ghost use Rattle.std.specs.Prelude.{◌≡◌, ◌≤◌, [], None, All, length, drop};
-    ghost use Rattle.receiver_messages.specs.Systems.{IsOfSystem};
+    ghost use Rattle.receiver_log.specs.Systems.{IsOfSystem};
     ghost use Rattle.receiver_log.specs.Mirrors.{QueueState};
 
     ghost Value = { QueueState };
@@ -87,7 +87,7 @@ impl Queue {
 
     // Takes the next subframe or page whose time is settled.
     pub fn next(&mut self) -> Option<Reception>
-        ensures some { IfSome result (λ r. (more : Bool) (number : ℕ) (says : List Said)
+        ensures some { IfSome result (λ r. (more : Bool) (number : ℕ) (says : List LogMessage)
             → to_come more self.old number says ≡ r ∷ to_come more self.new number says) }
         ensures system { IfSome result (λ r. IsOfSystem r.content) }
         ensures fewer { IfSome result (λ _.
@@ -97,7 +97,7 @@ impl Queue {
             × ((self.old.settled ≡ None) ⊎ (self.new.waiting ≡ []))) }
         ensures time { self.new.time ≡ self.old.time }
         ensures none { IfNone result ((self.new.settled ≡ None)
-            × ((more : Bool) (number : ℕ) (says : List Said)
+            × ((more : Bool) (number : ℕ) (says : List LogMessage)
             → to_come more self.old number says ≡ to_come more self.new number says)) }
     {
         let time = self.settled?;
@@ -120,7 +120,7 @@ impl Queue {
     pub fn set_time(&mut self, time: Option<Moment>)
         requires { self.old.settled ≡ None }
         ensures same { self.new.waiting ≡ self.old.waiting }
-        ensures comes { (more : Bool) (number : ℕ) (says : List Said)
+        ensures comes { (more : Bool) (number : ℕ) (says : List LogMessage)
             → to_come more self.old number (Time time ∷ says)
             ≡ to_come more self.new (one_more number) says }
     {
@@ -134,9 +134,9 @@ impl Queue {
         requires settled { self.old.settled ≡ None }
         requires system { IsOfSystem part.now.content }
         ensures more { length self.new.waiting ≡ length self.old.waiting + 1 }
-        ensures comes { (more : Bool) (before : ℕ) (says : List Said)
+        ensures comes { (more : Bool) (before : ℕ) (says : List LogMessage)
             → part.now.number ≡ one_more before
-            → to_come more self.old before (Heard part.now.content ∷ says)
+            → to_come more self.old before (Received part.now.content ∷ says)
             ≡ to_come more self.new part.now.number says }
     {
         append(&mut self.pending, part);
@@ -157,7 +157,7 @@ impl Queue {
         requires system { IsOfSystem part.now.content }
         ensures more { length self.new.waiting ≡ length self.old.waiting + 1 }
         ensures time { self.new.time ≡ None }
-        ensures comes { (more : Bool) (before : ℕ) (says : List Said)
+        ensures comes { (more : Bool) (before : ℕ) (says : List LogMessage)
             → part.now.number ≡ one_more before
             → to_come more self.old before (Dated time part.now.content ∷ says)
             ≡ to_come more self.new part.now.number says }

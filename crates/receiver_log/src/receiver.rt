@@ -1,25 +1,25 @@
 //! Formats of receivers.
 
 ghost use Rattle.std.specs.Prelude.{◌≡◌, List, ℕ, Bool, true, false};
-ghost use Rattle.receiver_messages.specs.declared.said.Said.{Said as WhatIsSaid};
-ghost use Rattle.receiver_messages.specs.Sbf.{sbf_said as sbf_says};
-ghost use Rattle.receiver_messages.specs.Ubx.{ubx_said as ubx_says};
-ghost use Rattle.receiver_messages.specs.Systems.{SaysOfSystem, SaysTimes};
+ghost use Rattle.receiver_log.specs.declared.content.LogMessage.{LogMessage as WhatIsStated};
+ghost use Rattle.receiver_log.specs.Sbf.{sbf_message as sbf_says};
+ghost use Rattle.receiver_log.specs.Ubx.{ubx_message as ubx_says};
+ghost use Rattle.receiver_log.specs.Systems.{SaysOfSystem, SaysTimes};
 ghost use Rattle.receiver_log.specs.SaysTimes.{sbf_says_times, ubx_says_times};
 
-use receiver_frames::{Judge, SbfJudge, UbxJudge};
-use receiver_messages::{Said, sbf_said, ubx_said};
+use crate::{LogMessage, sbf_message, ubx_message};
+use framing::{Judge, SbfJudge, UbxJudge};
 
 /// A format of messages, and their content.
 pub trait Receiver: Judge {
     // The content of a whole message.
-    ghost said: { List ℕ → WhatIsSaid };
+    ghost said: { List ℕ → WhatIsStated };
 
     // Whether messages have times of their own; else time messages stand between them.
     ghost has_times: { Bool };
 
     /// The content of a complete message.
-    fn tell(message: &[u8]) -> Said
+    fn tell(message: &[u8]) -> LogMessage
         ensures value { result ≡ said message.now }
         ensures system { SaysOfSystem result }
         ensures times { SaysTimes has_times result };
@@ -34,8 +34,8 @@ impl Receiver for UbxJudge {
 
     ghost says_times = { ubx_says_times };
 
-    fn tell(message: &[u8]) -> Said {
-        ubx_said(message)
+    fn tell(message: &[u8]) -> LogMessage {
+        ubx_message(message)
     }
 }
 
@@ -46,7 +46,7 @@ impl Receiver for SbfJudge {
 
     ghost says_times = { sbf_says_times };
 
-    fn tell(message: &[u8]) -> Said {
-        sbf_said(message)
+    fn tell(message: &[u8]) -> LogMessage {
+        sbf_message(message)
     }
 }

@@ -1,7 +1,7 @@
 //! Subframes and pages as they were received.
 
-use gnss_week::Moment;
-use receiver_messages::Content;
+use crate::LogContent;
+use nav_eph::Moment;
 
 /// A subframe or a page of a log, or the reason why a message gives none.
 #[derive(Clone, Copy, PartialEq, Eq)]
@@ -11,5 +11,5 @@ pub struct Reception {
     /// Its time of reception; `None` if that is not known.
     pub time: Option<Moment>,
     /// The subframe or the page.
-    pub content: Content,
+    pub content: LogContent,
 }

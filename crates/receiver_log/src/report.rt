@@ -8,10 +8,10 @@ ghost use Rattle.one_run.specs.Reports.{report_line};
 ghost use Rattle.receiver_log.specs.Capture.{refusal_line};
 ghost use Rattle.receiver_log.specs.Report.{counts_report, reason_word};
 
+use crate::LogReason;
 use crate::state::LogCounts;
 use nav_io::{Failed, Sink};
 use one_run::{Text, append_count, report_text};
-use receiver_messages::Reason;
 
 /// Who is notified of rejected messages: any sink, as lines of a report, or [`Nobody`].
 pub trait Refused {
@@ -22,7 +22,7 @@ pub trait Refused {
     ghost faults: { Self → ℕ };
 
     /// Takes note that the message of this number, from 1, is rejected.
-    fn refused(&mut self, number: u64, reason: Reason) -> Result<(), Failed>
+    fn refused(&mut self, number: u64, reason: LogReason) -> Result<(), Failed>
         ensures line { MatchResult result
             (λ _. Appends (reported self.old) (reported self.new)
             (refusal_line number (Some reason)))
@@ -36,7 +36,7 @@ impl<U: Sink> Refused for U {
 
     ghost faults = { U.faults };
 
-    fn refused(&mut self, number: u64, reason: Reason) -> Result<(), Failed> {
+    fn refused(&mut self, number: u64, reason: LogReason) -> Result<(), Failed> {
         self.write(refusal(number, reason).as_slice())
     }
 }
@@ -52,29 +52,29 @@ impl Refused for Nobody {
 
     ghost faults = { λ _. 0 };
 
-    fn refused(&mut self, _number: u64, _reason: Reason) -> Result<(), Failed> {
+    fn refused(&mut self, _number: u64, _reason: LogReason) -> Result<(), Failed> {
         Ok(())
     }
 }
 
 /// The report line of a rejected message.
-pub fn refusal(number: u64, reason: Reason) -> Text
+pub fn refusal(number: u64, reason: LogReason) -> Text
     ensures { result.items ≡ report_line (codes "message") number (reason_word reason) }
 {
     report_text(b"message", number, word_of(reason))
 }
 
 // The word of a reason.
-fn word_of(reason: Reason) -> &'static [u8]
+fn word_of(reason: LogReason) -> &'static [u8]
     ensures word { result.now ≡ reason_word reason }
     ensures short { length result.now ≤ 32 }
 {
     match reason {
-        Reason::Length => b"length",
-        Reason::Satellite => b"satellite",
-        Reason::Untimed => b"untimed",
-        Reason::Late => b"late",
-        Reason::Far => b"far",
+        LogReason::Length => b"length",
+        LogReason::Satellite => b"satellite",
+        LogReason::Untimed => b"untimed",
+        LogReason::Late => b"late",
+        LogReason::Far => b"far",
     }
 }
 

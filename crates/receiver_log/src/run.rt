@@ -6,9 +6,9 @@ ghost use Rattle.receiver_log.specs.Capture.{log_meaning};
 use crate::receiver::Receiver;
 use crate::report::counts_text;
 use crate::state::{Log, LogCounts};
+use framing::decided_messages_stay_decided;
 use nav_io::{Failed, Sink, Source};
 use one_run::BridgeFault;
-use receiver_frames::decided_messages_stay_decided;
 
 /// Reads a log to its end, writes its capture, and reports rejected messages and counts.
 ///

@@ -10,12 +10,12 @@ ghost use Rattle.receiver_log.specs.LogLeft.{HasLogCause, KeepsLength};
 ghost use Rattle.receiver_log.specs.LogLeft.{capture_left, is_short, left_of};
 ghost use Rattle.receiver_log.specs.Steps.{view_of, waiting_of};
 
+use crate::LogReason;
 use crate::receiver::Receiver;
 use crate::report::Refused;
 use crate::state::{Log, LogCounts};
 use nav_io::{Failed, Source};
 use one_run::BridgeFault;
-use receiver_messages::Reason;
 
 // Tells another of rejected messages, whether or not it can take note: that changes nothing of what
 // is read.
@@ -29,7 +29,7 @@ impl<N: Refused> Refused for Heedless<N> {
 
     ghost faults = { λ _. 0 };
 
-    fn refused(&mut self, number: u64, reason: Reason) -> Result<(), Failed> {
+    fn refused(&mut self, number: u64, reason: LogReason) -> Result<(), Failed> {
         let _ = self.0.refused(number, reason);
         Ok(())
     }

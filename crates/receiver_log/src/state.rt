@@ -3,11 +3,11 @@
 ghost use Rattle.std.specs.Prelude.{◌≡◌, ◌≤◌, length, true, None};
 ghost use Rattle.receiver_log.specs.Log.{begun, counted, none_counted};
 
+use crate::LogMessage;
 use crate::lines::LineBuffer;
 use crate::queue::Queue;
 use crate::receiver::Receiver;
-use receiver_frames::Deframer;
-use receiver_messages::Said;
+use framing::MessageDeframer;
 
 /// LogCounts of a log's messages. Each saturates at 18,446,744,073,709,551,615.
 #[derive(Clone, Copy, PartialEq, Eq)]
@@ -59,7 +59,7 @@ pub struct LogState {
 #[derive(Drop)]
 pub struct Log<J: Receiver> {
     /// Bytes, of which the messages are taken.
-    pub deframer: Deframer<J>,
+    pub deframer: MessageDeframer<J>,
     /// The counts of these.
     pub counts: MessageCounts,
     /// Subframes and pages that wait for their time.
@@ -108,15 +108,15 @@ impl MessageCounts {
     }
 
     // LogCounts a message of this many bytes and this content.
-    pub(crate) fn count(&mut self, bytes: usize, said: &Said)
+    pub(crate) fn count(&mut self, bytes: usize, said: &LogMessage)
         ensures { self.new ≡ counted self.old bytes said.now }
     {
         self.messages = self.messages.saturating_add(1);
         self.within = self.within.saturating_add(bytes as u64);
         match said {
-            Said::Other | Said::Time(None) => self.other = self.other.saturating_add(1),
-            Said::Time(Some(_)) => self.times = self.times.saturating_add(1),
-            Said::Heard(_) | Said::Dated(..) => {}
+            LogMessage::Other | LogMessage::Time(None) => self.other = self.other.saturating_add(1),
+            LogMessage::Time(Some(_)) => self.times = self.times.saturating_add(1),
+            LogMessage::Received(_) | LogMessage::Dated(..) => {}
         }
     }
 }

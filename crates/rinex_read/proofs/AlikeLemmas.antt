@@ -7,7 +7,7 @@ use Rattle.rinex_write.specs.Layouts.{Kind, gps_kind, galileo_kind, gps_ionosphe
 use Rattle.rinex_write.specs.Texts.{letter_of}
 use Rattle.rinex_read.specs.Lines.{columns, stands_at}
 use Rattle.rinex_read.specs.Fields.{◌>>=◌, field_of, field_at, read_row, read_rows}
-use Rattle.rinex_read.specs.Judging.{first_of, is_kind, sat_of, satellite_of, same_sat, date_of, ephemeris_said, ionosphere_said, judged}
+use Rattle.rinex_read.specs.Judging.{first_of, is_kind, sat_of, satellite_of, same_sat, date_of, ephemeris_stated, ionosphere_stated, judged}
 use Rattle.rinex_read.specs.Kept.{padded}
 use Rattle.rinex_read.proofs.ColumnLemmas.{IsAlike, columns_alike, stands_alike, length-columns, padded_alike, alike_itself}
 
@@ -111,8 +111,8 @@ kind_alike k l m laid h =
     let message = stands_alike k.message 10 l m h laid.message in
     rw (class, system, message) refl
 
-ephemeris_alike : (k : Kind) (t u : List ℕ) (ls ms : List (List ℕ)) → IsLaidOut k → IsAlike t u → AreAlike 8 ls ms → ephemeris_said k t ls ≡ ephemeris_said k u ms
-unfolding ephemeris_said
+ephemeris_alike : (k : Kind) (t u : List ℕ) (ls ms : List (List ℕ)) → IsLaidOut k → IsAlike t u → AreAlike 8 ls ms → ephemeris_stated k t ls ≡ ephemeris_stated k u ms
+unfolding ephemeris_stated
 ephemeris_alike k t u ls ms laid h a =
     let first = first_alike 7 ls ms a in
     let sat = sat_alike k.system t u h in
@@ -122,8 +122,8 @@ ephemeris_alike k t u ls ms laid h a =
     let rows = rows_alike k.rows 8 23 ls ms laid.few a laid.fit in
     rw (sat, all, same, date, rows) refl
 
-ionosphere_alike : (k : Kind) (t u : List ℕ) (ls ms : List (List ℕ)) → IsLaidOut k → IsAlike t u → AreAlike 8 ls ms → ionosphere_said k t ls ≡ ionosphere_said k u ms
-unfolding ionosphere_said
+ionosphere_alike : (k : Kind) (t u : List ℕ) (ls ms : List (List ℕ)) → IsLaidOut k → IsAlike t u → AreAlike 8 ls ms → ionosphere_stated k t ls ≡ ionosphere_stated k u ms
+unfolding ionosphere_stated
 ionosphere_alike k t u ls ms laid h a =
     let first = first_alike 7 ls ms a in
     let sat = sat_alike k.system t u h in

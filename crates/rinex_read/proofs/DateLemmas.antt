@@ -4,8 +4,8 @@ use Rattle.scaled_decimal.specs.NumberText.{digits}
 use Rattle.scaled_decimal.specs.NumberReading.{trim_start, trim_end, span}
 use Rattle.scaled_decimal.proofs.Surface.{span-digits}
 use Rattle.scaled_decimal.proofs.Surface.{kept_behind, no_blank}
-use Rattle.gnss_week.specs.declared.calendar.Civil.{Civil}
-use Rattle.gnss_week.specs.Functions.{IsShort}
+use Rattle.nav_eph.specs.declared.calendar.Civil.{Civil}
+use Rattle.nav_eph.specs.Functions.{IsShort}
 use Rattle.rinex_write.specs.Texts.{date_text}
 use Rattle.rinex_read.specs.Lines.{columns}
 use Rattle.rinex_read.specs.Judging.{digits_alone, whole_number, date_of}

@@ -8,7 +8,7 @@ use Rattle.rinex_read.specs.declared.judged.HeaderState.{HeaderState}
 use Rattle.rinex_read.specs.declared.judged.HeaderState.TheVariants.{New, Open, Passed, NotRinexNav, OtherVersion}
 use Rattle.rinex_read.specs.declared.judged.HeaderFault.{HeaderFault}
 use Rattle.rinex_read.specs.declared.judged.HeaderFault.TheVariants as faults
-use Rattle.rinex_read.specs.Lines.{text_of_line, told_lines}
+use Rattle.rinex_read.specs.Lines.{text_of_line, lines_stated}
 use Rattle.rinex_read.specs.Forms.{Form, LooksAtKept, begins, is_version}
 use Rattle.rinex_read.specs.Files.{BeginWith, Body, but_last, early_reads, ends_header, file_reads, header_of, header_passed, is_navigation, reads, reads_behind, records_in, up_to_next, whole_behind, whole_reads}
 use Rattle.rinex_read.specs.States.{AreEarly, HeaderSteps, IsNew, IsOver, MayStand, PassesHeader, RecordsState, Steps, file_by, held_reads}
@@ -213,7 +213,7 @@ whole_first f law front rest =
     let lines = lines_prefix false front rest in
     let a = map text_of_line (lines_by true front) in
     let b = map text_of_line lines.0 in
-    let texts : told_lines (front ++ rest) ≡ a ++ b = ap (map text_of_line) lines.1 ∙ map-append text_of_line (lines_by true front) lines.0 in
+    let texts : lines_stated (front ++ rest) ≡ a ++ b = ap (map text_of_line) lines.1 ∙ map-append text_of_line (lines_by true front) lines.0 in
     let all : records_in (reads_behind f (header_of f 0 (a ++ b))) ≡ records_in (file_reads f (front ++ rest)) =
     ap (λ (ls : List (List ℕ)). records_in (reads_behind f (header_of f 0 ls))) (sym texts) ∙ ap records_in (file_told f law 0 (front ++ rest)) in
     let some : whole_of f a ≡ records_in (whole_reads f front) = ap (λ (r : Result (List _) HeaderFault). records_in (whole_behind r)) (ended_told f law 0 front) in

@@ -17,12 +17,12 @@ use Rattle.rinex_write.specs.declared.columns.Rule.TheVariants.{Plain, OrZero, O
 use Rattle.rinex_write.specs.declared.columns.Column.{Column}
 use Rattle.rinex_write.specs.Accuracies.{first_from, ura_nominal, ura_greatest, ura_of, sisa_value, sisa_nominal, sisa_from, sisa_of}
 use Rattle.rinex_write.specs.Columns.{blanks, is_blank, is_unknown, is_below_unknown, not_known, unknown_text, shown, IsField, AreFields, column_text, row_text, row_lines, joined_rows, is_good_scale, is_near_scale, is_far_scale, is_good_range, is_good_rule, are_good}
-use Rattle.rinex_read.specs.declared.reason.Reason.{Reason}
-use Rattle.rinex_read.specs.declared.reason.Reason.TheVariants as reasons
+use Rattle.rinex_read.specs.declared.reason.RecordFault.{RecordFault}
+use Rattle.rinex_read.specs.declared.reason.RecordFault.TheVariants as reasons
 use Rattle.rinex_read.specs.Fields.{◌>>=◌, in_range, sent_or_unknown, taken, whole, or_unknown, field_of, field_at, read_row, read_rows}
 use Rattle.rinex_read.proofs.ColumnLemmas.{columns_at}
 
-pub bind_ok : {A B : Type 0} (r : Result A Reason) (x : A) (f : A → Result B Reason) → r ≡ Ok x → (r >>= f) ≡ f x
+pub bind_ok : {A B : Type 0} (r : Result A RecordFault) (x : A) (f : A → Result B RecordFault) → r ≡ Ok x → (r >>= f) ≡ f x
 bind_ok r x f e = ap (λ s. s >>= f) e
 
 pub le_true : (a b : ℤ) → a ≤ℤ b → int_le a b ≡ true

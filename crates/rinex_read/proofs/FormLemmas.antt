@@ -5,7 +5,7 @@ use Rattle.std.proofs.lemmas.List.{get_or-take}
 use Rattle.scaled_decimal.specs.NumberReading.{trim_start, trim_end}
 use Rattle.nav_io.specs.Lines.{line_of, lines_by, pieces, without_cr}
 use Rattle.rinex_read.specs.declared.judged.HeaderFault.TheVariants.{NotRinexNav, Version}
-use Rattle.rinex_read.specs.Lines.{ended_lines, lines_of, text_of_line, told_lines}
+use Rattle.rinex_read.specs.Lines.{ended_lines, lines_of, text_of_line, lines_stated}
 use Rattle.rinex_read.specs.Kept.{padded, kept_with}
 use Rattle.rinex_read.specs.Forms.{Form, LooksAtKept, is_version, begins}
 use Rattle.rinex_read.specs.Files.{is_navigation, ends_header, header_passed, header_of, up_to_next, reads, reads_behind}
@@ -132,7 +132,7 @@ told_cut [] = refl
 told_cut (p ∷ ps) = ap (λ t. cut (without_cr p) ∷ t) (told_cut ps)
 
 -- the lines of a reader of lines give what the file gives
-pub file_told : {R : Type 0} (f : Form R) → LooksAtKept f → (n : ℕ) (bytes : List ℕ) → reads_behind f (header_of f n (told_lines bytes)) ≡ reads_behind f (header_of f n (lines_of bytes))
+pub file_told : {R : Type 0} (f : Form R) → LooksAtKept f → (n : ℕ) (bytes : List ℕ) → reads_behind f (header_of f n (lines_stated bytes)) ≡ reads_behind f (header_of f n (lines_of bytes))
 file_told f law n bytes = ap (λ ls. reads_behind f (header_of f n ls)) (told_cut (pieces false bytes)) ∙ header_cut f law n (lines_of bytes)
 
 -- the same of the complete lines

@@ -11,7 +11,7 @@ use Rattle.rinex_read.specs.declared.judged.HeaderState.{HeaderState}
 use Rattle.rinex_read.specs.declared.judged.HeaderState.TheVariants.{New, Open, Passed, NotRinexNav, OtherVersion}
 use Rattle.rinex_read.specs.declared.judged.HeaderFault.{HeaderFault}
 use Rattle.rinex_read.specs.declared.judged.HeaderFault.TheVariants as faults
-use Rattle.rinex_read.specs.Lines.{text_of_line, told_lines}
+use Rattle.rinex_read.specs.Lines.{text_of_line, lines_stated}
 use Rattle.rinex_read.specs.Forms.{Form, is_version}
 use Rattle.rinex_read.specs.Files.{is_navigation, ends_header, header_passed, header_of, reads, reads_behind}
 use Rattle.rinex_read.specs.States.{RecordsState, file_by, file_to_come, is_waiting, EarlyHeader, NearHeader, ReadLow, HeaderSteps, PassesHeader, BreaksHeader, RefusedBy}
@@ -36,8 +36,8 @@ by_lines f Passed first s ls = refl
 by_lines f NotRinexNav first s ls = refl
 by_lines f OtherVersion first s ls = refl
 
-pub by_is : {R : Type 0} (f : Form R) (header : HeaderState) (first : ℕ) (s : LinesState) (following : List ℕ) → file_to_come f (state_of header [] first s) following ≡ answers_by f header s.number (told_lines (s.rest ++ following))
-by_is f header first s following = by_lines f header first s (told_lines (s.rest ++ following))
+pub by_is : {R : Type 0} (f : Form R) (header : HeaderState) (first : ℕ) (s : LinesState) (following : List ℕ) → file_to_come f (state_of header [] first s) following ≡ answers_by f header s.number (lines_stated (s.rest ++ following))
+by_is f header first s following = by_lines f header first s (lines_stated (s.rest ++ following))
 
 pub one_more : {R : Type 0} (f : Form R) (header : HeaderState) (n : ℕ) (l : List ℕ) (ls : List (List ℕ)) → is_waiting header ≡ true → answers_by f header n (l ∷ ls) ≡ answers_by f (header_after f header l) (n + 1) ls
 one_more f New n l ls h = go (is_navigation l) (is_version f l)
@@ -72,8 +72,8 @@ header_line f p q header first s t h waits = record {
   stream = λ following may.
       by_is f header first s (h.gives.reads.taken ++ following)
       ∙ ap (λ (ls : List Line). answers_by f header s.number (map text_of_line ls)) (h.gives.reads.stream false following (λ e. (refl, may e)))
-      ∙ one_more f header s.number t.text (told_lines (t.rest ++ following)) waits
-      ∙ ap (λ (n : ℕ). answers_by f (header_after f header t.text) n (told_lines (t.rest ++ following))) (sym h.gives.number)
+      ∙ one_more f header s.number t.text (lines_stated (t.rest ++ following)) waits
+      ∙ ap (λ (n : ℕ). answers_by f (header_after f header t.text) n (lines_stated (t.rest ++ following))) (sym h.gives.number)
       ∙ sym (by_is f (header_after f header t.text) first t following);
   told = λ next may.
       by_lines f header first s (t.text ∷ next)
@@ -92,7 +92,7 @@ header_end f p q header first s t g waits = record {
       let nothing : t.rest ++ following ≡ [] = rw (g.rest, may g.ended) refl in
       by_is f header first s (g.reads.taken ++ following)
       ∙ ap (λ (ls : List Line). answers_by f header s.number (map text_of_line ls)) (g.reads.stream false following (λ e. (refl, may e)))
-      ∙ ap (λ (bytes : List ℕ). answers_by f header s.number (told_lines bytes)) nothing
+      ∙ ap (λ (bytes : List ℕ). answers_by f header s.number (lines_stated bytes)) nothing
       ∙ no_more f header s.number waits;
   told = λ next may.
       by_lines f header first s next ∙ ap (answers_by f header s.number) (may g.ended g.rest) ∙ no_more f header s.number waits;
@@ -111,7 +111,7 @@ header_read f p q header first s t r number = record {
   stream = λ following may.
       by_is f header first s (r.taken ++ following)
       ∙ ap (λ (ls : List Line). answers_by f header s.number (map text_of_line ls)) (r.stream false following (λ e. (refl, may e)))
-      ∙ ap (λ (n : ℕ). answers_by f header n (told_lines (t.rest ++ following))) (sym number)
+      ∙ ap (λ (n : ℕ). answers_by f header n (lines_stated (t.rest ++ following))) (sym number)
       ∙ sym (by_is f header first t following);
   told = λ next may.
       by_lines f header first s next ∙ ap (λ (n : ℕ). answers_by f header n next) (sym number) ∙ sym (by_lines f header first t next);

@@ -3,9 +3,9 @@ use Rattle.std.proofs.Common.{◌≡◌, ℕ, ◌+◌, ◌-◌, ◌*◌, ◌/◌
 use Rattle.std.proofs.lemmas.Int.{ints}
 use Rattle.std.proofs.lemmas.Bool.{lt-ltb, le-leb}
 use Rattle.nav_bits.specs.Signed.{IsSigned}
-use Rattle.gnss_week.specs.Weeks.{IsMoment}
-use Rattle.gnss_week.specs.Functions.{moment_near}
-use Rattle.gnss_week.proofs.Surface.{moment_near-nearest}
+use Rattle.nav_eph.specs.Weeks.{IsMoment}
+use Rattle.nav_eph.specs.Functions.{moment_near}
+use Rattle.nav_eph.proofs.Surface.{moment_near-nearest}
 use Rattle.nav_eph.specs.Steps.{IsSisa}
 use Rattle.nav_eph.specs.declared.items.GpsEph.{GpsEph}
 use Rattle.nav_eph.specs.declared.items.GalEph.{GalEph}
@@ -22,7 +22,7 @@ use Rattle.rinex_write.specs.Accuracies.{health_of}
 use Rattle.rinex_write.specs.Columns.{IsField, AreFields, joined_rows}
 use Rattle.rinex_write.specs.Layouts.{gps_rows, galileo_rows, gps_ionosphere_rows, galileo_ionosphere_rows}
 use Rattle.rinex_write.specs.Fields.{sent_field, gps_fields, galileo_fields, gps_ionosphere_fields, galileo_ionosphere_fields, gps_epoch, galileo_epoch}
-use Rattle.rinex_read.specs.Judging.{toc_of, gps_of, gps_clock_of, gps_side_of, gps_orbit_a_of, gps_orbit_b_of, galileo_of, galileo_word1_of, galileo_word2_of, galileo_word3_of, galileo_word4_of, gps_ionosphere_of, galileo_ionosphere_of, health_said, sent_of}
+use Rattle.rinex_read.specs.Judging.{toc_of, gps_of, gps_clock_of, gps_side_of, gps_orbit_a_of, gps_orbit_b_of, galileo_of, galileo_word1_of, galileo_word2_of, galileo_word3_of, galileo_word4_of, gps_ionosphere_of, galileo_ionosphere_of, health_stated, sent_of}
 use Rattle.rinex_read.proofs.FieldLemmas.{le_true}
 
 below : (n m : ℕ) → n < m → (pos 0 ≤ℤ pos n) × (pos n ≤ℤ pos (m - 1))
@@ -253,7 +253,7 @@ gps_whole e h =
     let iode = h.whole.issue in
     λ j. record e { sent = sent j; b = record e.b { iode = iode j } }
 
-health_again : (h : GalHealth) → IsGalHealth h → health_said h.bgd_a h.bgd_b (health_of h) ≡ h
+health_again : (h : GalHealth) → IsGalHealth h → health_stated h.bgd_a h.bgd_b (health_of h) ≡ h
 health_again h is =
     let hs_e5b : health_of h / 128 % 4 ≡ h.hs_e5b = omega (arith, is.dvs_e1b, is.hs_e1b, is.dvs_e5b, is.hs_e5b) in
     let hs_e1b : health_of h / 2 % 4 ≡ h.hs_e1b = omega (arith, is.dvs_e1b, is.hs_e1b, is.dvs_e5b, is.hs_e5b) in

@@ -6,7 +6,7 @@ use Rattle.scaled_decimal.specs.ScaleValue.{size_of, IsAccepted}
 use Rattle.scaled_decimal.specs.NumberText.{digits, number_text}
 use Rattle.scaled_decimal.specs.NumberReading.{seen, number, read_of}
 use Rattle.scaled_decimal.proofs.Surface.{is_scale, text_seen, length-number_text}
-use Rattle.gnss_week.specs.Functions.{civil_to}
+use Rattle.nav_eph.specs.Functions.{civil_to}
 use Rattle.nav_eph.specs.Satellite.{Satellite}
 use Rattle.nav_eph.specs.declared.sat.System.{System}
 use Rattle.nav_eph.specs.declared.sat.System.TheVariants.{Gps, Gal}

@@ -3,9 +3,9 @@ use Rattle.std.proofs.Common.{◌≡◌, ℕ, suc, ◌+◌, ◌-◌, ◌*◌, �
 use Rattle.std.proofs.lemmas.Bool.{le-leb}
 use Rattle.scaled_decimal.specs.NumberText.{digits}
 use Rattle.scaled_decimal.specs.NumberReading.{is_decimal}
-use Rattle.gnss_week.specs.Weeks.{IsMoment, IsWeek, week_of}
-use Rattle.gnss_week.specs.Functions.{civil_to, moment_to}
-use Rattle.gnss_week.proofs.Surface.{civil_to-date, moment_to-again, short_date}
+use Rattle.nav_eph.specs.Weeks.{IsMoment, IsWeek, week_of}
+use Rattle.nav_eph.specs.Functions.{civil_to, moment_to}
+use Rattle.nav_eph.proofs.Surface.{civil_to-date, moment_to-again, short_date}
 use Rattle.nav_eph.specs.Satellite.{Satellite, IsSat, most}
 use Rattle.nav_eph.specs.declared.sat.System.{System}
 use Rattle.nav_eph.specs.declared.sat.System.TheVariants.{Gps, Gal}
@@ -22,11 +22,11 @@ use Rattle.rinex_write.specs.Columns.{AreFields, row_text, row_lines, joined_row
 use Rattle.rinex_write.specs.Layouts.{Kind, gps_kind, galileo_kind, gps_ionosphere_kind, galileo_ionosphere_kind, gps_rows, galileo_rows, gps_ionosphere_rows, galileo_ionosphere_rows}
 use Rattle.rinex_write.specs.Fields.{gps_fields, galileo_fields, gps_ionosphere_fields, galileo_ionosphere_fields, gps_epoch, galileo_epoch}
 use Rattle.rinex_write.specs.Texts.{satellite_text, date_text, title_line, item_lines}
-use Rattle.rinex_read.specs.declared.reason.Reason.TheVariants as reasons
+use Rattle.rinex_read.specs.declared.reason.RecordFault.TheVariants as reasons
 use Rattle.rinex_read.specs.declared.judged.Judged.TheVariants as judgments
 use Rattle.rinex_read.specs.Lines.{columns, stands_at}
 use Rattle.rinex_read.specs.Fields.{read_rows}
-use Rattle.rinex_read.specs.Judging.{need, is_kind, named, satellite_of, sat_of, same_sat, date_of, moment_said, moment_at, is_named_week, ephemeris_said, ionosphere_said, gps_item, galileo_item, gps_ionosphere_item, galileo_ionosphere_item, outcome, judged}
+use Rattle.rinex_read.specs.Judging.{need, is_kind, named, satellite_of, sat_of, same_sat, date_of, moment_stated, moment_at, is_named_week, ephemeris_stated, ionosphere_stated, gps_item, galileo_item, gps_ionosphere_item, galileo_ionosphere_item, outcome, judged}
 use Rattle.rinex_read.proofs.ColumnLemmas.{stands_first}
 use Rattle.rinex_read.proofs.FieldLemmas.{bind_ok, rows_again}
 use Rattle.rinex_read.proofs.DateLemmas.{date_again}
@@ -53,8 +53,8 @@ satellite_again system n is h =
     ∙ ap (λ b. if b && nat_le n (most system) then Ok (record { system = system; number = n }) else Err reasons.BadSat) least
     ∙ ap (λ b. if b then Ok (record { system = system; number = n }) else Err reasons.BadSat) greatest
 
-pub moment_again : (m : ℕ) → IsMoment m → moment_said (moment_to (civil_to m)) ≡ Ok m
-moment_again m is = ap moment_said (moment_to-again (civil_to m) m (civil_to-date m is) is)
+pub moment_again : (m : ℕ) → IsMoment m → moment_stated (moment_to (civil_to m)) ≡ Ok m
+moment_again m is = ap moment_stated (moment_to-again (civil_to m) m (civil_to-date m is) is)
 
 pub length-date : (m : ℕ) → length (date_text (civil_to m)) ≡ 19
 unfolding date_text digits
@@ -76,9 +76,9 @@ behind_title a b c d moment rows fields = row_lines (a ∷ b ∷ c ∷ d ∷ dat
 ephemeris_again : (class message : List ℕ) (system : System) (r : List Column) (rs : List (List Column)) (title : List ℕ) (sat : Satellite) (a b c d moment : ℕ) (fields : List ℤ) (more : List (List ℕ))
     → sat_of system title ≡ Ok sat → same_sat title (first_line a b c d moment r fields) ≡ true → IsMoment moment
     → are_good (joined_rows (r ∷ rs)) ≡ true → AreFields (joined_rows (r ∷ rs)) fields
-    → ephemeris_said (record { class = class; message = message; system = system; rows = r ∷ rs }) title (behind_title a b c d moment (r ∷ rs) fields ++ more)
+    → ephemeris_stated (record { class = class; message = message; system = system; rows = r ∷ rs }) title (behind_title a b c d moment (r ∷ rs) fields ++ more)
     ≡ Ok (record { sat = sat; moment = moment; fields = fields })
-unfolding ephemeris_said
+unfolding ephemeris_stated
 ephemeris_again class message system r rs title sat a b c d moment fields more sat_is same is good are =
     let lines = behind_title a b c d moment (r ∷ rs) fields ++ more in
     let count : length lines ≡ length (r ∷ rs) + length more = length-append (behind_title a b c d moment (r ∷ rs) fields) more
@@ -97,9 +97,9 @@ ephemeris_again class message system r rs title sat a b c d moment fields more s
 ionosphere_again : (class message : List ℕ) (system : System) (r : List Column) (rs : List (List Column)) (title : List ℕ) (sat : Satellite) (a b c d moment : ℕ) (fields : List ℤ) (more : List (List ℕ))
     → sat_of system title ≡ Ok sat → IsMoment moment → IsWeek (week_of moment)
     → are_good (joined_rows (r ∷ rs)) ≡ true → AreFields (joined_rows (r ∷ rs)) fields
-    → ionosphere_said (record { class = class; message = message; system = system; rows = r ∷ rs }) title (behind_title a b c d moment (r ∷ rs) fields ++ more)
+    → ionosphere_stated (record { class = class; message = message; system = system; rows = r ∷ rs }) title (behind_title a b c d moment (r ∷ rs) fields ++ more)
     ≡ Ok (record { sat = sat; moment = moment; fields = fields })
-unfolding ionosphere_said
+unfolding ionosphere_stated
 ionosphere_again class message system r rs title sat a b c d moment fields more sat_is is week good are =
     let lines = behind_title a b c d moment (r ∷ rs) fields ++ more in
     let count : length lines ≡ length (r ∷ rs) + length more = length-append (behind_title a b c d moment (r ∷ rs) fields) more
@@ -163,21 +163,21 @@ abbrev ionosphere_rows : Kind → ℕ → List ℤ → List (List ℕ)
 ionosphere_rows k moment fields = row_lines (codes "    " ++ date_text (civil_to moment)) k.rows fields
 
 gps_said : (n moment : ℕ) (fields : List ℤ) (more : List (List ℕ)) → IsSat Gps n → IsMoment moment → AreFields (joined_rows gps_rows) fields
-    → ephemeris_said gps_kind (title_line gps_kind (gps_sat n)) (ephemeris_rows gps_kind (gps_sat n) moment fields ++ more) ≡ Ok (record { sat = gps_sat n; moment = moment; fields = fields })
+    → ephemeris_stated gps_kind (title_line gps_kind (gps_sat n)) (ephemeris_rows gps_kind (gps_sat n) moment fields ++ more) ≡ Ok (record { sat = gps_sat n; moment = moment; fields = fields })
 unfolding gps_kind gps_rows digits columns
 gps_said n moment fields more is m are =
     ephemeris_again _ _ Gps _ _ (title_line gps_kind (gps_sat n)) (gps_sat n) 71 (48 + n / 10 % 10) (48 + n % 10) 32 moment fields more
     (satellite_again Gps n is (omega (arith, is.1))) (stands_first 71 (48 + n / 10 % 10) (48 + n % 10) _) m gps_good are
 
 galileo_said : (n moment : ℕ) (fields : List ℤ) (more : List (List ℕ)) → IsSat Gal n → IsMoment moment → AreFields (joined_rows galileo_rows) fields
-    → ephemeris_said galileo_kind (title_line galileo_kind (galileo_sat n)) (ephemeris_rows galileo_kind (galileo_sat n) moment fields ++ more) ≡ Ok (record { sat = galileo_sat n; moment = moment; fields = fields })
+    → ephemeris_stated galileo_kind (title_line galileo_kind (galileo_sat n)) (ephemeris_rows galileo_kind (galileo_sat n) moment fields ++ more) ≡ Ok (record { sat = galileo_sat n; moment = moment; fields = fields })
 unfolding galileo_kind galileo_rows digits columns
 galileo_said n moment fields more is m are =
     ephemeris_again _ _ Gal _ _ (title_line galileo_kind (galileo_sat n)) (galileo_sat n) 69 (48 + n / 10 % 10) (48 + n % 10) 32 moment fields more
     (satellite_again Gal n is (omega (arith, is.1))) (stands_first 69 (48 + n / 10 % 10) (48 + n % 10) _) m galileo_good are
 
 gps_ionosphere_said : (n moment : ℕ) (fields : List ℤ) (more : List (List ℕ)) → IsSat Gps n → IsMoment moment → IsWeek (week_of moment) → AreFields (joined_rows gps_ionosphere_rows) fields
-    → ionosphere_said gps_ionosphere_kind (title_line gps_ionosphere_kind (gps_sat n)) (ionosphere_rows gps_ionosphere_kind moment fields ++ more)
+    → ionosphere_stated gps_ionosphere_kind (title_line gps_ionosphere_kind (gps_sat n)) (ionosphere_rows gps_ionosphere_kind moment fields ++ more)
     ≡ Ok (record { sat = gps_sat n; moment = moment; fields = fields })
 unfolding gps_ionosphere_kind gps_ionosphere_rows digits
 gps_ionosphere_said n moment fields more is m week are =
@@ -185,7 +185,7 @@ gps_ionosphere_said n moment fields more is m week are =
     (satellite_again Gps n is (omega (arith, is.1))) m week gps_ionosphere_good are
 
 galileo_ionosphere_said : (n moment : ℕ) (fields : List ℤ) (more : List (List ℕ)) → IsSat Gal n → IsMoment moment → IsWeek (week_of moment) → AreFields (joined_rows galileo_ionosphere_rows) fields
-    → ionosphere_said galileo_ionosphere_kind (title_line galileo_ionosphere_kind (galileo_sat n)) (ionosphere_rows galileo_ionosphere_kind moment fields ++ more)
+    → ionosphere_stated galileo_ionosphere_kind (title_line galileo_ionosphere_kind (galileo_sat n)) (ionosphere_rows galileo_ionosphere_kind moment fields ++ more)
     ≡ Ok (record { sat = galileo_sat n; moment = moment; fields = fields })
 unfolding galileo_ionosphere_kind galileo_ionosphere_rows digits
 galileo_ionosphere_said n moment fields more is m week are =

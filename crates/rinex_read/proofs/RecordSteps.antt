@@ -8,7 +8,7 @@ use Rattle.nav_io.specs.declared.lines.LineKind.{LineKind}
 use Rattle.nav_io.specs.declared.lines.LineKind.TheVariants.{Text, Long, End}
 use Rattle.nav_io.specs.declared.lines.LineFault.{LineFault}
 use Rattle.nav_io.specs.declared.lines.LineFault.TheVariants.{ReadFault, TooLong}
-use Rattle.rinex_read.specs.Lines.{text_of_line, told_lines}
+use Rattle.rinex_read.specs.Lines.{text_of_line, lines_stated}
 use Rattle.rinex_read.specs.Forms.{Form}
 use Rattle.rinex_read.specs.Files.{but_last}
 use Rattle.rinex_read.specs.States.{RecordsState, held_reads, NearSteps, Steps, held_count, lines_left, GivesRead, BreaksRecord}
@@ -38,7 +38,7 @@ line_step f p q s t given h takes header = record {
   header = header;
   stream = λ following may.
       ap (λ (ls : List Line). held_reads f s.kept s.first s.lines.number (map text_of_line ls)) (h.gives.reads.stream false following (λ e. (refl, may e)))
-      ∙ takes.answers s.lines.number (told_lines (t.lines.rest ++ following)) h.gives.number;
+      ∙ takes.answers s.lines.number (lines_stated (t.lines.rest ++ following)) h.gives.number;
   whole = λ over next. line_whole f s.kept s.first t.kept t.first t.lines.text t.lines.number given takes s.lines.number next h.gives.number;
 }
 
@@ -50,11 +50,11 @@ end_step f p q s t given g takes none header = record {
   stream = λ following may.
       let nothing : t.lines.rest ++ following ≡ [] = rw (g.rest, may g.ended) refl in
       ap (λ (ls : List Line). held_reads f s.kept s.first s.lines.number (map text_of_line ls)) (g.reads.stream false following (λ e. (refl, may e)))
-      ∙ ap (λ (bytes : List ℕ). held_reads f s.kept s.first s.lines.number (told_lines bytes)) nothing
+      ∙ ap (λ (bytes : List ℕ). held_reads f s.kept s.first s.lines.number (lines_stated bytes)) nothing
       ∙ takes.answers s.lines.number
       ∙ sym (append-nil given)
-      ∙ ap (λ (bytes : List ℕ). given ++ held_reads f [] t.first t.lines.number (told_lines bytes)) (sym nothing)
-      ∙ ap (λ (ks : List (List ℕ)). given ++ held_reads f ks t.first t.lines.number (told_lines (t.lines.rest ++ following))) (sym none);
+      ∙ ap (λ (bytes : List ℕ). given ++ held_reads f [] t.first t.lines.number (lines_stated bytes)) (sym nothing)
+      ∙ ap (λ (ks : List (List ℕ)). given ++ held_reads f ks t.first t.lines.number (lines_stated (t.lines.rest ++ following))) (sym none);
   whole = λ over next. absurd (over (record { kept = none; rest = g.rest; ended = g.ended }));
 }
 
@@ -65,9 +65,9 @@ read_step f p q s t r kept first number header = record {
   header = header;
   stream = λ following may.
       ap (λ (ls : List Line). held_reads f s.kept s.first s.lines.number (map text_of_line ls)) (r.stream false following (λ e. (refl, may e)))
-      ∙ ap (λ (ks : List (List ℕ)). held_reads f ks s.first s.lines.number (told_lines (t.lines.rest ++ following))) (sym kept)
-      ∙ ap (λ (k : ℕ). held_reads f t.kept k s.lines.number (told_lines (t.lines.rest ++ following))) (sym first)
-      ∙ ap (λ (n : ℕ). held_reads f t.kept t.first n (told_lines (t.lines.rest ++ following))) (sym number);
+      ∙ ap (λ (ks : List (List ℕ)). held_reads f ks s.first s.lines.number (lines_stated (t.lines.rest ++ following))) (sym kept)
+      ∙ ap (λ (k : ℕ). held_reads f t.kept k s.lines.number (lines_stated (t.lines.rest ++ following))) (sym first)
+      ∙ ap (λ (n : ℕ). held_reads f t.kept t.first n (lines_stated (t.lines.rest ++ following))) (sym number);
   whole = λ over next.
       ap (λ (ks : List (List ℕ)). but_last (held_reads f ks s.first s.lines.number next)) (sym kept)
       ∙ ap (λ (k : ℕ). but_last (held_reads f t.kept k s.lines.number next)) (sym first)

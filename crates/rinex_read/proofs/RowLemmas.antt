@@ -4,19 +4,19 @@ use Rattle.std.proofs.lemmas.Bool.{and_parts, leb-true}
 use Rattle.std.proofs.lemmas.List.Sums.{sum_by-cons}
 use Rattle.rinex_write.specs.declared.columns.Column.{Column}
 use Rattle.rinex_write.specs.Columns.{joined_rows, are_good, is_good_scale, is_good_rule}
-use Rattle.rinex_read.specs.declared.reason.Reason.{Reason}
+use Rattle.rinex_read.specs.declared.reason.RecordFault.{RecordFault}
 use Rattle.rinex_read.specs.Fields.{◌>>=◌, field_at, read_row, read_rows}
 use Rattle.rinex_read.specs.Mirrors.{with_prefix, flat_rows, do_fit}
 
 column_place : (cs : List Column) (i : ℕ) (d : Column) → i < length cs → drop i cs ≡ get_or cs i d ∷ drop (i + 1) cs
 column_place cs i d h = rw (add-one, drop-cons cs i d)
 
-behind : (now : List ℤ) (z : ℤ) (r : Result (List ℤ) Reason) → with_prefix now (r >>= λ zs. Ok (z ∷ zs)) ≡ with_prefix (now ++ z ∷ []) r
+behind : (now : List ℤ) (z : ℤ) (r : Result (List ℤ) RecordFault) → with_prefix now (r >>= λ zs. Ok (z ∷ zs)) ≡ with_prefix (now ++ z ∷ []) r
 behind now z (Ok ws) = ap Ok (sym (append_assoc now (z ∷ []) ws))
 behind now z (Err e) = refl
 
 -- one more field of a row
-pub row_more : (whole : Result (List ℤ) Reason) (cs : List Column) (now : List ℤ) (i : ℕ) (d : Column) (place : ℕ) (line : List ℕ) (z : ℤ) → i < length cs
+pub row_more : (whole : Result (List ℤ) RecordFault) (cs : List Column) (now : List ℤ) (i : ℕ) (d : Column) (place : ℕ) (line : List ℕ) (z : ℤ) → i < length cs
     → field_at (get_or cs i d) (place + 19 * i) line ≡ Ok z → whole ≡ with_prefix now (read_row (drop i cs) (place + 19 * i) line)
     → whole ≡ with_prefix (now ++ z ∷ []) (read_row (drop (i + 1) cs) (place + 19 * (i + 1)) line)
 row_more whole cs now i d place line z h is so =
@@ -27,7 +27,7 @@ row_more whole cs now i d place line z h is so =
     ∙ ap (λ a. with_prefix (now ++ z ∷ []) (read_row (drop (i + 1) cs) a line)) next
 
 -- a field that cannot be read
-pub row_stops : (whole : Result (List ℤ) Reason) (cs : List Column) (now : List ℤ) (i : ℕ) (d : Column) (place : ℕ) (line : List ℕ) (e : Reason) → i < length cs
+pub row_stops : (whole : Result (List ℤ) RecordFault) (cs : List Column) (now : List ℤ) (i : ℕ) (d : Column) (place : ℕ) (line : List ℕ) (e : RecordFault) → i < length cs
     → field_at (get_or cs i d) (place + 19 * i) line ≡ Err e → whole ≡ with_prefix now (read_row (drop i cs) (place + 19 * i) line) → whole ≡ Err e
 row_stops whole cs now i d place line e h is so =
     so ∙ ap (λ t. with_prefix now (read_row t (place + 19 * i) line)) (column_place cs i d h)
@@ -37,17 +37,17 @@ nothing_left : {A : Type 0} (xs : List A) → drop (length xs) xs ≡ []
 nothing_left [] = refl
 nothing_left (x ∷ xs) = nothing_left xs
 
-pub row_ends : (whole : Result (List ℤ) Reason) (cs : List Column) (now : List ℤ) (i a : ℕ) (line : List ℕ) → i ≡ length cs
+pub row_ends : (whole : Result (List ℤ) RecordFault) (cs : List Column) (now : List ℤ) (i a : ℕ) (line : List ℕ) → i ≡ length cs
     → whole ≡ with_prefix now (read_row (drop i cs) a line) → whole ≡ Ok now
 row_ends whole cs now i a line e so =
     so ∙ ap (λ k. with_prefix now (read_row (drop k cs) a line)) e ∙ ap (λ t. with_prefix now (read_row t a line)) (nothing_left cs) ∙ ap Ok (append-nil now)
 
-prefix_more : (now new : List ℤ) (r f : Result (List ℤ) Reason) → with_prefix now r ≡ Ok new → with_prefix now (r >>= λ zs. f >>= λ ws. Ok (zs ++ ws)) ≡ with_prefix new f
+prefix_more : (now new : List ℤ) (r f : Result (List ℤ) RecordFault) → with_prefix now r ≡ Ok new → with_prefix now (r >>= λ zs. f >>= λ ws. Ok (zs ++ ws)) ≡ with_prefix new f
 prefix_more now new (Ok zs) (Ok ws) e = let is : now ++ zs ≡ new = cc in ap Ok (sym (append_assoc now zs ws) ∙ ap (λ l. l ++ ws) is)
 prefix_more now new (Ok zs) (Err g) e = refl
 prefix_more now new (Err g) f e = absurd (cc)
 
-prefix_stops : (now : List ℤ) (r f : Result (List ℤ) Reason) (e : Reason) → with_prefix now r ≡ Err e → with_prefix now (r >>= λ zs. f >>= λ ws. Ok (zs ++ ws)) ≡ Err e
+prefix_stops : (now : List ℤ) (r f : Result (List ℤ) RecordFault) (e : RecordFault) → with_prefix now r ≡ Err e → with_prefix now (r >>= λ zs. f >>= λ ws. Ok (zs ++ ws)) ≡ Err e
 prefix_stops now (Ok zs) f e h = absurd (cc)
 prefix_stops now (Err g) f e h = h
 
@@ -57,7 +57,7 @@ number_place ns i h = rw (add-one, drop-cons ns i 0)
 line_place : (ls : List (List ℕ)) (i : ℕ) (d : List ℕ) → i < length ls → drop i ls ≡ get_or ls i d ∷ drop (i + 1) ls
 line_place ls i d h = rw (add-one, drop-cons ls i d)
 
-opened : (whole : Result (List ℤ) Reason) (ns : List ℕ) (cs : List Column) (now : List ℤ) (i place : ℕ) (ls : List (List ℕ)) (d : List ℕ) → i < length ns → i < length ls
+opened : (whole : Result (List ℤ) RecordFault) (ns : List ℕ) (cs : List Column) (now : List ℤ) (i place : ℕ) (ls : List (List ℕ)) (d : List ℕ) → i < length ns → i < length ls
     → whole ≡ with_prefix now (flat_rows (drop i ns) cs place (drop i ls))
     → whole ≡ with_prefix now (read_row (take (get_or ns i 0) cs) place (get_or ls i d) >>= λ zs. flat_rows (drop (i + 1) ns) (drop (get_or ns i 0) cs) 4 (drop (i + 1) ls) >>= λ ws. Ok (zs ++ ws))
 opened whole ns cs now i place ls d h k so =
@@ -74,7 +74,7 @@ dropped (suc a) n [] = drop_none n ∙ sym (drop_none (suc a + n))
 dropped (suc a) n (x ∷ xs) = let next : suc (a + n) ≡ suc a + n = omega arith in dropped a n xs ∙ ap (λ k. drop k (x ∷ xs)) next
 
 -- one more row, with its number of columns
-pub rows_more : (whole : Result (List ℤ) Reason) (ns : List ℕ) (cs : List Column) (now new : List ℤ) (i at j place : ℕ) (ls : List (List ℕ)) (d : List ℕ) → i < length ns → i < length ls
+pub rows_more : (whole : Result (List ℤ) RecordFault) (ns : List ℕ) (cs : List Column) (now new : List ℤ) (i at j place : ℕ) (ls : List (List ℕ)) (d : List ℕ) → i < length ns → i < length ls
     → j ≡ get_or ns i 0 → with_prefix now (read_row (take j (drop at cs)) place (get_or ls i d)) ≡ Ok new
     → whole ≡ with_prefix now (flat_rows (drop i ns) (drop at cs) place (drop i ls))
     → whole ≡ with_prefix new (flat_rows (drop (i + 1) ns) (drop (at + get_or ns i 0) cs) 4 (drop (i + 1) ls))
@@ -85,7 +85,7 @@ rows_more whole ns cs now new i at j place ls d h k count is so =
     ∙ ap (λ t. with_prefix new (flat_rows (drop (i + 1) ns) t 4 (drop (i + 1) ls))) (dropped at (get_or ns i 0) cs)
 
 -- a row with a field that cannot be read
-pub rows_stop : (whole : Result (List ℤ) Reason) (ns : List ℕ) (cs : List Column) (now : List ℤ) (i j place : ℕ) (ls : List (List ℕ)) (d : List ℕ) (e : Reason) → i < length ns → i < length ls
+pub rows_stop : (whole : Result (List ℤ) RecordFault) (ns : List ℕ) (cs : List Column) (now : List ℤ) (i j place : ℕ) (ls : List (List ℕ)) (d : List ℕ) (e : RecordFault) → i < length ns → i < length ls
     → j ≡ get_or ns i 0 → with_prefix now (read_row (take j cs) place (get_or ls i d)) ≡ Err e
     → whole ≡ with_prefix now (flat_rows (drop i ns) cs place (drop i ls)) → whole ≡ Err e
 rows_stop whole ns cs now i j place ls d e h k count is so =
@@ -93,12 +93,12 @@ rows_stop whole ns cs now i j place ls d e h k count is so =
     opened whole ns cs now i place ls d h k so
     ∙ prefix_stops now (read_row (take (get_or ns i 0) cs) place (get_or ls i d)) (flat_rows (drop (i + 1) ns) (drop (get_or ns i 0) cs) 4 (drop (i + 1) ls)) e read
 
-pub rows_end : (whole : Result (List ℤ) Reason) (ns : List ℕ) (cs : List Column) (now : List ℤ) (i a : ℕ) (ls : List (List ℕ)) → i ≡ length ns
+pub rows_end : (whole : Result (List ℤ) RecordFault) (ns : List ℕ) (cs : List Column) (now : List ℤ) (i a : ℕ) (ls : List (List ℕ)) → i ≡ length ns
     → whole ≡ with_prefix now (flat_rows (drop i ns) cs a ls) → whole ≡ Ok now
 rows_end whole ns cs now i a ls e so =
     so ∙ ap (λ k. with_prefix now (flat_rows (drop k ns) cs a ls)) e ∙ ap (λ t. with_prefix now (flat_rows t cs a ls)) (nothing_left ns) ∙ ap Ok (append-nil now)
 
-pub rows_start : (r : Result (List ℤ) Reason) → r ≡ with_prefix [] r
+pub rows_start : (r : Result (List ℤ) RecordFault) → r ≡ with_prefix [] r
 rows_start (Ok zs) = refl
 rows_start (Err e) = refl
 

@@ -3,14 +3,14 @@ use Rattle.std.proofs.Common.{◌≡◌, ℕ, ◌+◌, ◌<◌, ◌/◌, ◌%◌
 use Rattle.std.proofs.lemmas.Bool.{le-leb}
 use Rattle.std.proofs.lemmas.List.{length-map}
 use Rattle.scaled_decimal.specs.NumberText.{digits}
-use Rattle.gnss_week.specs.Weeks.{IsMoment}
-use Rattle.gnss_week.specs.Functions.{civil_to}
-use Rattle.gnss_week.proofs.Surface.{civil_to-date, short_date}
+use Rattle.nav_eph.specs.Weeks.{IsMoment}
+use Rattle.nav_eph.specs.Functions.{civil_to}
+use Rattle.nav_eph.proofs.Surface.{civil_to-date, short_date}
 use Rattle.rinex_write.specs.declared.columns.Column.{Column}
 use Rattle.rinex_write.specs.Columns.{AreFields, row_text, row_lines, joined_rows, are_good}
 use Rattle.rinex_write.specs.RowTexts.{RowKind, row_record, row_satellite}
 use Rattle.rinex_write.specs.Texts.{date_text}
-use Rattle.rinex_read.specs.declared.reason.Reason.TheVariants as reasons
+use Rattle.rinex_read.specs.declared.reason.RecordFault.TheVariants as reasons
 use Rattle.rinex_read.specs.Fields.{read_rows}
 use Rattle.rinex_read.specs.Judging.{date_of, moment_at, need}
 use Rattle.rinex_read.specs.RowReads.{flat_said, row_said}

@@ -5,7 +5,7 @@ use Rattle.nav_io.specs.declared.lines.LineFault.{LineFault}
 use Rattle.nav_io.specs.declared.lines.LineFault.TheVariants.{ReadFault, TooLong}
 use Rattle.rinex_read.specs.declared.judged.HeaderFault.{HeaderFault}
 use Rattle.rinex_read.specs.declared.judged.HeaderFault.TheVariants as faults
-use Rattle.rinex_read.specs.Lines.{told_lines}
+use Rattle.rinex_read.specs.Lines.{lines_stated}
 use Rattle.rinex_read.specs.Forms.{Form, LooksAtKept}
 use Rattle.rinex_read.specs.Files.{header_of, reads_behind, file_reads}
 use Rattle.rinex_read.specs.States.{RecordsState, records_to_come, file_by, file_to_come, is_waiting, IsNew, GivesRecord, GivesRead, BreaksRecord, PassesHeader, BreaksHeader}
@@ -14,9 +14,9 @@ use Rattle.rinex_read.proofs.StepLemmas.{nothing_to_come}
 
 pub begins_with_file : {R : Type 0} (f : Form R) → LooksAtKept f → (s : RecordsState) (bytes : List ℕ) → IsNew s → file_to_come f s bytes ≡ file_reads f bytes
 begins_with_file f law s bytes is =
-    ap (λ h. file_by f h s (told_lines (s.lines.rest ++ bytes))) is.header
-    ∙ ap (λ n. reads_behind f (header_of f n (told_lines (s.lines.rest ++ bytes)))) is.number
-    ∙ ap (λ (rest : List ℕ). reads_behind f (header_of f 0 (told_lines (rest ++ bytes)))) is.rest
+    ap (λ h. file_by f h s (lines_stated (s.lines.rest ++ bytes))) is.header
+    ∙ ap (λ n. reads_behind f (header_of f n (lines_stated (s.lines.rest ++ bytes)))) is.number
+    ∙ ap (λ (rest : List ℕ). reads_behind f (header_of f 0 (lines_stated (rest ++ bytes)))) is.rest
     ∙ file_told f law 0 bytes
 
 no_record : {R : Type 0} (f : Form R) (read : R) (o q : Option (List ℕ)) (s t : RecordsState) → s.kept ≡ [] → s.lines.rest ≡ [] → s.lines.ended ≡ true → GivesRecord f o q s t read → ⊥

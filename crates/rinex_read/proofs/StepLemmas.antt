@@ -6,7 +6,7 @@ use Rattle.nav_io.specs.Lines.{Line, line_of, lines_by, pieces, with_prefix}
 use Rattle.nav_io.specs.LinesState.{LinesState, Reads}
 use Rattle.nav_io.proofs.Surface.{reads_none, reads_more}
 use Rattle.rinex_read.specs.Forms.{Form}
-use Rattle.rinex_read.specs.Lines.{text_of_line, told_lines}
+use Rattle.rinex_read.specs.Lines.{text_of_line, lines_stated}
 use Rattle.rinex_read.specs.Files.{but_last, reads}
 use Rattle.rinex_read.specs.States.{IsOver, MayStand, RecordsState, held_reads, records_to_come, file_by, file_to_come, Steps, HeaderSteps}
 use Rattle.rinex_read.proofs.TakeLemmas.{held_nil}
@@ -54,9 +54,9 @@ may_stand p q s t lines r next may ended rest =
 
 pub nothing_to_come : {R : Type 0} (f : Form R) (s : RecordsState) (taken : List ℕ) → s.kept ≡ [] → s.lines.rest ≡ [] → taken ≡ [] → records_to_come f s (taken ++ []) ≡ []
 nothing_to_come f s taken kept rest none =
-    ap (λ (ks : List (List ℕ)). held_reads f ks s.first s.lines.number (told_lines (s.lines.rest ++ (taken ++ [])))) kept
-    ∙ ap (λ (r : List ℕ). reads f s.lines.number (told_lines (r ++ (taken ++ [])))) rest
-    ∙ ap (λ (t : List ℕ). reads f s.lines.number (told_lines (t ++ []))) none
+    ap (λ (ks : List (List ℕ)). held_reads f ks s.first s.lines.number (lines_stated (s.lines.rest ++ (taken ++ [])))) kept
+    ∙ ap (λ (r : List ℕ). reads f s.lines.number (lines_stated (r ++ (taken ++ [])))) rest
+    ∙ ap (λ (t : List ℕ). reads f s.lines.number (lines_stated (t ++ []))) none
 
 -- the end stays
 pub over_stays : {R : Type 0} (f : Form R) (p q : Option (List ℕ)) (s t : RecordsState) (given : List R) → Steps f p q s t given → IsOver s → IsOver t
@@ -64,7 +64,7 @@ over_stays f p q s t given steps over =
     let none = none_behind p q s.lines t.lines steps.lines steps.reads over.ended over.rest in
     let nothing = both_none given (records_to_come f t [])
     (sym (nothing_to_come f s steps.reads.taken over.kept over.rest (steps.reads.after_end over.ended).1) ∙ steps.stream [] (λ e. refl)) in
-    record { kept = held_nil f t.kept t.first t.lines.number (told_lines (t.lines.rest ++ [])) nothing.1; rest = none.1; ended = none.2 }
+    record { kept = held_nil f t.kept t.first t.lines.number (lines_stated (t.lines.rest ++ [])) nothing.1; rest = none.1; ended = none.2 }
 
 -- ---- concatenated
 

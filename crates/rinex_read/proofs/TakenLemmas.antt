@@ -10,8 +10,8 @@ use Rattle.rinex_write.specs.declared.columns.Column.{Column}
 use Rattle.rinex_write.specs.Accuracies.{first_from, ura_greatest, ura_of, sisa_value, sisa_from, sisa_of}
 use Rattle.rinex_write.specs.Columns.{IsField, AreFields, joined_rows, not_known}
 use Rattle.rinex_write.specs.Layouts.{gps_rows, galileo_rows, gps_ionosphere_rows, galileo_ionosphere_rows, gps_kind, galileo_kind, gps_ionosphere_kind, galileo_ionosphere_kind}
-use Rattle.rinex_read.specs.declared.reason.Reason.{Reason}
-use Rattle.rinex_read.specs.declared.reason.Reason.TheVariants as reasons
+use Rattle.rinex_read.specs.declared.reason.RecordFault.{RecordFault}
+use Rattle.rinex_read.specs.declared.reason.RecordFault.TheVariants as reasons
 use Rattle.rinex_read.specs.Lines.{columns}
 use Rattle.rinex_read.specs.Fields.{◌>>=◌, in_range, flag_of, sent_or_unknown, taken, whole, is_beyond, or_unknown, field_of, field_at, read_row, read_rows}
 use Rattle.rinex_read.specs.declared.title.RecordKind.{RecordKind}
@@ -20,12 +20,12 @@ use Rattle.rinex_read.specs.Mirrors.{Gives, IsLayout, kind_by}
 use Rattle.rinex_read.proofs.FieldLemmas.{le_from}
 
 -- what was read before what follows
-pub record Bound {A B : Type 0} (r : Result A Reason) (f : A → Result B Reason) (y : B) : Type 0 where
+pub record Bound {A B : Type 0} (r : Result A RecordFault) (f : A → Result B RecordFault) (y : B) : Type 0 where
   pub value : A
   pub is : r ≡ Ok value
   pub rest : f value ≡ Ok y
 
-pub bound : {A B : Type 0} (r : Result A Reason) (f : A → Result B Reason) (y : B) → (r >>= f) ≡ Ok y → Bound r f y
+pub bound : {A B : Type 0} (r : Result A RecordFault) (f : A → Result B RecordFault) (y : B) → (r >>= f) ≡ Ok y → Bound r f y
 bound (Ok x) f y h = record { value = x; is = refl; rest = h }
 bound (Err e) f y h = absurd (cc)
 
@@ -145,7 +145,7 @@ taken_is (Unread n) blank z good h = cc
 taken_is (Unread n) unread z good h = cc
 taken_is (Unread n) (number w) z good h = cc
 
-unknown_or : (r : Rule) (units : NumberSeen) (t : Result ℤ Reason) (z : ℤ) → has_zero r ≡ true → ((y : ℤ) → t ≡ Ok y → IsField r y) → or_unknown r units t ≡ Ok z
+unknown_or : (r : Rule) (units : NumberSeen) (t : Result ℤ RecordFault) (z : ℤ) → has_zero r ≡ true → ((y : ℤ) → t ≡ Ok y → IsField r y) → or_unknown r units t ≡ Ok z
     → IsField r z
 unknown_or r units (Ok y) z good is h = let same : y ≡ z = cc in subst (IsField r) same (is y refl)
 unknown_or (OrUnknown low high) units (Err reasons.OutOfRange) z good is h = go (is_beyond units) h
@@ -200,7 +200,7 @@ rows_are (r ∷ rs) a (l ∷ ls) zs good h =
     )
 
 -- the contents of a record have the fields of its columns
-pub are_from : {X : Type 0} (view : X → List ℤ) (result : Result X Reason) (rows : List (List Column)) (a : ℕ) (ls : List (List ℕ)) → have_zero (joined_rows rows) ≡ true
+pub are_from : {X : Type 0} (view : X → List ℤ) (result : Result X RecordFault) (rows : List (List Column)) (a : ℕ) (ls : List (List ℕ)) → have_zero (joined_rows rows) ≡ true
     → Gives view result (read_rows rows a ls) → IfOk result (λ f. AreFields (joined_rows rows) (view f))
 are_from view (Ok f) rows a ls good h = rows_are rows a ls (view f) good h
 are_from view (Err e) rows a ls good h = tt

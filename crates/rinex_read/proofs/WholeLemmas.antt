@@ -3,13 +3,13 @@ use Rattle.std.proofs.Common.{◌≡◌, ℕ, ◌+◌, ◌-◌, ◌*◌, ◌/◌
 use Rattle.std.proofs.lemmas.Bool.{leb-true}
 use Rattle.std.proofs.lemmas.Int.{ints}
 use Rattle.scaled_decimal.specs.NumberReading.{is_decimal}
-use Rattle.gnss_week.specs.Weeks.{IsMoment, IsWeek, week_of}
-use Rattle.gnss_week.specs.Functions.{moment_to}
-use Rattle.gnss_week.specs.Dates.{GivesMoment}
-use Rattle.gnss_week.specs.declared.calendar.Civil.{Civil}
-use Rattle.gnss_week.specs.declared.calendar.WeekFault.{WeekFault}
-use Rattle.gnss_week.specs.declared.calendar.WeekFault.TheVariants as weeks
-use Rattle.gnss_week.proofs.Surface.{moment_to-answer}
+use Rattle.nav_eph.specs.Weeks.{IsMoment, IsWeek, week_of}
+use Rattle.nav_eph.specs.Functions.{moment_to}
+use Rattle.nav_eph.specs.Dates.{GivesMoment}
+use Rattle.nav_eph.specs.declared.calendar.Civil.{Civil}
+use Rattle.nav_eph.specs.declared.calendar.WeekFault.{WeekFault}
+use Rattle.nav_eph.specs.declared.calendar.WeekFault.TheVariants as weeks
+use Rattle.nav_eph.proofs.Surface.{moment_to-answer}
 use Rattle.nav_eph.specs.Satellite.{Satellite, IsSat, most}
 use Rattle.nav_eph.specs.declared.sat.System.{System}
 use Rattle.nav_eph.specs.declared.sat.System.TheVariants.{Gps, Gal}
@@ -21,17 +21,17 @@ use Rattle.nav_eph.specs.declared.items.SentSecond.TheVariants.{Unknown, At}
 use Rattle.nav_eph.specs.Ranges.{IsItem}
 use Rattle.rinex_write.specs.Columns.{AreFields, joined_rows}
 use Rattle.rinex_write.specs.Layouts.{Kind, gps_kind, galileo_kind, gps_ionosphere_kind, galileo_ionosphere_kind}
-use Rattle.rinex_read.specs.declared.reason.Reason.{Reason}
-use Rattle.rinex_read.specs.declared.reason.Reason.TheVariants as reasons
+use Rattle.rinex_read.specs.declared.reason.RecordFault.{RecordFault}
+use Rattle.rinex_read.specs.declared.reason.RecordFault.TheVariants as reasons
 use Rattle.rinex_read.specs.declared.judged.Judged.TheVariants as judgments
 use Rattle.rinex_read.specs.Fields.{◌>>=◌, read_rows}
-use Rattle.rinex_read.specs.Judging.{need, first_of, is_kind, named, satellite_of, sat_of, same_sat, date_of, moment_said, moment_at, is_named_week, Said, ephemeris_said, ionosphere_said, field, natural, sent_of, toc_of, gps_of, gps_clock_of, gps_side_of, gps_orbit_a_of, gps_orbit_b_of, galileo_of, galileo_word1_of, galileo_word2_of, galileo_word3_of, galileo_word4_of, gps_ionosphere_of, galileo_ionosphere_of, gps_item, galileo_item, gps_ionosphere_item, galileo_ionosphere_item, gps_read, galileo_read, gps_ionosphere_read, galileo_ionosphere_read, outcome, judged}
+use Rattle.rinex_read.specs.Judging.{need, first_of, is_kind, named, satellite_of, sat_of, same_sat, date_of, moment_stated, moment_at, is_named_week, Stated, ephemeris_stated, ionosphere_stated, field, natural, sent_of, toc_of, gps_of, gps_clock_of, gps_side_of, gps_orbit_a_of, gps_orbit_b_of, galileo_of, galileo_word1_of, galileo_word2_of, galileo_word3_of, galileo_word4_of, gps_ionosphere_of, galileo_ionosphere_of, gps_item, galileo_item, gps_ionosphere_item, galileo_ionosphere_item, gps_read, galileo_read, gps_ionosphere_read, galileo_ionosphere_read, outcome, judged}
 use Rattle.rinex_read.specs.Mirrors.{AreGpsFields, AreGalileoFields}
 use Rattle.rinex_read.proofs.FieldLemmas.{le_from}
 use Rattle.rinex_read.proofs.TakenLemmas.{bound, have_zero, rows_are, gps_zero, galileo_zero, gps_ionosphere_zero, galileo_ionosphere_zero}
 use Rattle.rinex_read.proofs.RangeLemmas.{gps_fields_in, galileo_fields_in, gps_ionosphere_fields_in, galileo_ionosphere_fields_in}
 
-need_ok : (b : Bool) (e : Reason) (x : Bool) → need b e ≡ Ok x → b ≡ true
+need_ok : (b : Bool) (e : RecordFault) (x : Bool) → need b e ≡ Ok x → b ≡ true
 need_ok true e x h = refl
 need_ok false e x h = absurd (cc)
 
@@ -55,7 +55,7 @@ satellite_is system tens ones sat h = go (is_decimal ones && (tens == 32 || is_d
     go true e = named_is system _ sat e
     go false e = absurd (cc)
 
-moment_is : (answer : Result ℕ WeekFault) (date : Civil) (m : ℕ) → GivesMoment date answer → moment_said answer ≡ Ok m → IsMoment m
+moment_is : (answer : Result ℕ WeekFault) (date : Civil) (m : ℕ) → GivesMoment date answer → moment_stated answer ≡ Ok m → IsMoment m
 moment_is (Ok n) date m g h = let is : n ≡ m = cc in subst IsMoment is g.1
 moment_is (Err weeks.NoSuchDate) date m g h = absurd (cc)
 moment_is (Err weeks.BeforeEpoch) date m g h = absurd (cc)
@@ -63,43 +63,43 @@ moment_is (Err weeks.TooFar) date m g h = absurd (cc)
 
 moment_at_is : (line : List ℕ) (m : ℕ) → moment_at line ≡ Ok m → IsMoment m
 moment_at_is line m h =
-    let b = bound (date_of line) (λ date. moment_said (moment_to date)) m h in
+    let b = bound (date_of line) (λ date. moment_stated (moment_to date)) m h in
     moment_is (moment_to b.value) b.value m (moment_to-answer b.value) b.rest
 
 -- the facts about the contents of a record
-record IsSaid (k : Kind) (s : Said) : Type 0 where
+record IsStated (k : Kind) (s : Stated) : Type 0 where
   pub sat : IsOf k.system s.sat
   pub moment : IsMoment s.moment
   pub fields : AreFields (joined_rows k.rows) s.fields
 
-abbrev made : Satellite → ℕ → List ℤ → Result Said Reason
+abbrev made : Satellite → ℕ → List ℤ → Result Stated RecordFault
 made sat m fields = Ok (record { sat = sat; moment = m; fields = fields })
 
-abbrev numbers : Kind → List (List ℕ) → Satellite → ℕ → Result Said Reason
+abbrev numbers : Kind → List (List ℕ) → Satellite → ℕ → Result Stated RecordFault
 numbers k lines sat m = read_rows k.rows 23 lines >>= made sat m
 
-said_so : (k : Kind) (title : List ℕ) (lines : List (List ℕ)) (sat : Satellite) (m : ℕ) (s : Said) → have_zero (joined_rows k.rows) ≡ true → sat_of k.system title ≡ Ok sat → moment_at (first_of lines) ≡ Ok m
-    → numbers k lines sat m ≡ Ok s → IsSaid k s
+said_so : (k : Kind) (title : List ℕ) (lines : List (List ℕ)) (sat : Satellite) (m : ℕ) (s : Stated) → have_zero (joined_rows k.rows) ≡ true → sat_of k.system title ≡ Ok sat → moment_at (first_of lines) ≡ Ok m
+    → numbers k lines sat m ≡ Ok s → IsStated k s
 said_so k title lines sat m s good of_sat of_moment h =
     let b = bound (read_rows k.rows 23 lines) (made sat m) s h in
-    let is : ◌≡◌ {A = Said} (record { sat = sat; moment = m; fields = b.value }) s = cc in
-    subst (IsSaid k) is (record {
+    let is : ◌≡◌ {A = Stated} (record { sat = sat; moment = m; fields = b.value }) s = cc in
+    subst (IsStated k) is (record {
       sat = satellite_is k.system (get_or title 7 32) (get_or title 8 32) sat of_sat;
       moment = moment_at_is (first_of lines) m of_moment;
       fields = rows_are k.rows 23 lines b.value good b.is;
     })
 
-abbrev dated : Kind → List (List ℕ) → Satellite → Bool → Result Said Reason
+abbrev dated : Kind → List (List ℕ) → Satellite → Bool → Result Stated RecordFault
 dated k lines sat same = moment_at (first_of lines) >>= numbers k lines sat
 
-abbrev matched : Kind → List ℕ → List (List ℕ) → Satellite → Bool → Result Said Reason
+abbrev matched : Kind → List ℕ → List (List ℕ) → Satellite → Bool → Result Stated RecordFault
 matched k title lines sat all = need (same_sat title (first_of lines)) reasons.BadSat >>= dated k lines sat
 
-abbrev counted : Kind → List ℕ → List (List ℕ) → Satellite → Result Said Reason
+abbrev counted : Kind → List ℕ → List (List ℕ) → Satellite → Result Stated RecordFault
 counted k title lines sat = need (nat_le (length k.rows) (length lines)) reasons.Short >>= matched k title lines sat
 
-ephemeris_is : (k : Kind) (title : List ℕ) (lines : List (List ℕ)) (s : Said) → have_zero (joined_rows k.rows) ≡ true → ephemeris_said k title lines ≡ Ok s → IsSaid k s
-unfolding ephemeris_said
+ephemeris_is : (k : Kind) (title : List ℕ) (lines : List (List ℕ)) (s : Stated) → have_zero (joined_rows k.rows) ≡ true → ephemeris_stated k title lines ≡ Ok s → IsStated k s
+unfolding ephemeris_stated
 ephemeris_is k title lines s good h =
     let a = bound (sat_of k.system title) (counted k title lines) s h in
     let b = bound (need (nat_le (length k.rows) (length lines)) reasons.Short) (matched k title lines a.value) s a.rest in
@@ -107,13 +107,13 @@ ephemeris_is k title lines s good h =
     let d = bound (moment_at (first_of lines)) (numbers k lines a.value) s c.rest in
     said_so k title lines a.value d.value s good a.is d.is d.rest
 
-abbrev weekly : Kind → List (List ℕ) → Satellite → ℕ → Result Said Reason
+abbrev weekly : Kind → List (List ℕ) → Satellite → ℕ → Result Stated RecordFault
 weekly k lines sat m = need (is_named_week m) reasons.Week >>= λ x. numbers k lines sat m
 
-abbrev sent_on : Kind → List (List ℕ) → Satellite → Bool → Result Said Reason
+abbrev sent_on : Kind → List (List ℕ) → Satellite → Bool → Result Stated RecordFault
 sent_on k lines sat all = moment_at (first_of lines) >>= weekly k lines sat
 
-abbrev all_lines : Kind → List (List ℕ) → Satellite → Result Said Reason
+abbrev all_lines : Kind → List (List ℕ) → Satellite → Result Stated RecordFault
 all_lines k lines sat = need (nat_le (length k.rows) (length lines)) reasons.Short >>= sent_on k lines sat
 
 week_is : (m : ℕ) → is_named_week m ≡ true → IsWeek (week_of m)
@@ -124,14 +124,14 @@ week_is m h = go (nat_le 1 (m / 604800)) (nat_le (m / 604800) 16382) refl refl h
     go true false p q e = absurd (cc)
     go false b p q e = absurd (cc)
 
-same_moment : (k : Kind) (lines : List (List ℕ)) (sat : Satellite) (m : ℕ) (s : Said) → numbers k lines sat m ≡ Ok s → m ≡ s.moment
+same_moment : (k : Kind) (lines : List (List ℕ)) (sat : Satellite) (m : ℕ) (s : Stated) → numbers k lines sat m ≡ Ok s → m ≡ s.moment
 same_moment k lines sat m s h =
     let b = bound (read_rows k.rows 23 lines) (made sat m) s h in
-    let is : ◌≡◌ {A = Said} (record { sat = sat; moment = m; fields = b.value }) s = cc in
-    ap (λ (t : Said). t.moment) is
+    let is : ◌≡◌ {A = Stated} (record { sat = sat; moment = m; fields = b.value }) s = cc in
+    ap (λ (t : Stated). t.moment) is
 
-ionosphere_is : (k : Kind) (title : List ℕ) (lines : List (List ℕ)) (s : Said) → have_zero (joined_rows k.rows) ≡ true → ionosphere_said k title lines ≡ Ok s → IsSaid k s × IsWeek (week_of s.moment)
-unfolding ionosphere_said
+ionosphere_is : (k : Kind) (title : List ℕ) (lines : List (List ℕ)) (s : Stated) → have_zero (joined_rows k.rows) ≡ true → ionosphere_stated k title lines ≡ Ok s → IsStated k s × IsWeek (week_of s.moment)
+unfolding ionosphere_stated
 ionosphere_is k title lines s good h =
     let a = bound (sat_of k.system title) (all_lines k lines) s h in
     let b = bound (need (nat_le (length k.rows) (length lines)) reasons.Short) (sent_on k lines a.value) s a.rest in
@@ -159,7 +159,7 @@ week_between : (z : ℤ) → pos 1 ≤ℤ z → z ≤ℤ pos 16382 → IsWeek (u
 week_between (pos n) low high = (omega (arith, ints), omega (arith, ints))
 week_between (negsuc n) low high = absurd (omega (arith, ints))
 
-gps_item_is : (s : Said) (toc : ℕ) → IsOf Gps s.sat → AreGpsFields s.fields → toc < 37800 → IsItem (GpsItem (gps_of s.sat toc s.fields))
+gps_item_is : (s : Stated) (toc : ℕ) → IsOf Gps s.sat → AreGpsFields s.fields → toc < 37800 → IsItem (GpsItem (gps_of s.sat toc s.fields))
 unfolding gps_of gps_clock_of gps_side_of gps_orbit_a_of gps_orbit_b_of
 gps_item_is s toc sat f small = record {
   ranges = record {
@@ -194,7 +194,7 @@ gps_item_is s toc sat f small = record {
   whole = record { system = sat.0; issue = refl; second = sent_whole (field s.fields 27) f.sent.low };
 }
 
-galileo_item_is : (s : Said) (toc : ℕ) → IsOf Gal s.sat → AreGalileoFields s.fields → toc < 10080 → IsItem (GalItem (galileo_of s.sat toc s.fields))
+galileo_item_is : (s : Stated) (toc : ℕ) → IsOf Gal s.sat → AreGalileoFields s.fields → toc < 10080 → IsItem (GalItem (galileo_of s.sat toc s.fields))
 unfolding galileo_of galileo_word1_of galileo_word2_of galileo_word3_of galileo_word4_of
 galileo_item_is s toc sat f small = record {
   ranges = record {
@@ -236,7 +236,7 @@ galileo_item_is s toc sat f small = record {
 gps_read_is : (title : List ℕ) (lines : List (List ℕ)) (item : NavItem) → gps_read title lines ≡ Ok item → IsItem item
 unfolding gps_kind
 gps_read_is title lines item h =
-    let a = bound (ephemeris_said gps_kind title lines) gps_item item h in
+    let a = bound (ephemeris_stated gps_kind title lines) gps_item item h in
     let said = ephemeris_is gps_kind title lines a.value gps_zero a.is in
     let s = a.value in
     let b = bound (toc_of 16 s.moment (natural s.fields 21) (natural s.fields 11)) (λ toc. Ok (GpsItem (gps_of s.sat toc s.fields))) item a.rest in
@@ -247,7 +247,7 @@ gps_read_is title lines item h =
 galileo_read_is : (title : List ℕ) (lines : List (List ℕ)) (item : NavItem) → galileo_read title lines ≡ Ok item → IsItem item
 unfolding galileo_kind
 galileo_read_is title lines item h =
-    let a = bound (ephemeris_said galileo_kind title lines) galileo_item item h in
+    let a = bound (ephemeris_stated galileo_kind title lines) galileo_item item h in
     let said = ephemeris_is galileo_kind title lines a.value galileo_zero a.is in
     let s = a.value in
     let b = bound (toc_of 60 s.moment (natural s.fields 21) (natural s.fields 11)) (λ toc. Ok (GalItem (galileo_of s.sat toc s.fields))) item a.rest in
@@ -258,7 +258,7 @@ galileo_read_is title lines item h =
 gps_ionosphere_read_is : (title : List ℕ) (lines : List (List ℕ)) (item : NavItem) → gps_ionosphere_read title lines ≡ Ok item → IsItem item
 unfolding gps_ionosphere_kind gps_ionosphere_of
 gps_ionosphere_read_is title lines item h =
-    let a = bound (ionosphere_said gps_ionosphere_kind title lines) gps_ionosphere_item item h in
+    let a = bound (ionosphere_stated gps_ionosphere_kind title lines) gps_ionosphere_item item h in
     let said = ionosphere_is gps_ionosphere_kind title lines a.value gps_ionosphere_zero a.is in
     let s = a.value in
     let f = gps_ionosphere_fields_in s.fields said.0.fields in
@@ -284,7 +284,7 @@ gps_ionosphere_read_is title lines item h =
 galileo_ionosphere_read_is : (title : List ℕ) (lines : List (List ℕ)) (item : NavItem) → galileo_ionosphere_read title lines ≡ Ok item → IsItem item
 unfolding galileo_ionosphere_kind galileo_ionosphere_of
 galileo_ionosphere_read_is title lines item h =
-    let a = bound (ionosphere_said galileo_ionosphere_kind title lines) galileo_ionosphere_item item h in
+    let a = bound (ionosphere_stated galileo_ionosphere_kind title lines) galileo_ionosphere_item item h in
     let said = ionosphere_is galileo_ionosphere_kind title lines a.value galileo_ionosphere_zero a.is in
     let s = a.value in
     let f = galileo_ionosphere_fields_in s.fields said.0.fields in
@@ -298,7 +298,7 @@ galileo_ionosphere_read_is title lines item h =
       whole = record { system = said.0.sat.0; week = said.1 };
     })
 
-outcome_is : (r : Result NavItem Reason) (item : NavItem) → outcome r ≡ judgments.Item item → r ≡ Ok item
+outcome_is : (r : Result NavItem RecordFault) (item : NavItem) → outcome r ≡ judgments.Item item → r ≡ Ok item
 outcome_is (Ok i) item h = let is : i ≡ item = cc in ap Ok is
 outcome_is (Err e) item h = absurd (cc)
 

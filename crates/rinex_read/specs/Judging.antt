@@ -2,10 +2,10 @@
 -- LNAV and INAV, and ION).
 use Rattle.std.specs.Prelude.{ℕ, ◌+◌, ◌-◌, ◌*◌, ◌/◌, ◌%◌, ◌==◌, ◌&&◌, ◌||◌, nat_le, nat_lt, Bool, true, false, if◌then◌else◌, List, [], ◌∷◌, length, Result, Ok, Err, ℤ, pos, int_le, unsigned_abs, get_or}
 use Rattle.scaled_decimal.specs.NumberReading.{trim_start, trim_end, Span, span, is_decimal, is_nothing}
-use Rattle.gnss_week.specs.declared.calendar.Civil.{Civil}
-use Rattle.gnss_week.specs.declared.calendar.WeekFault.{WeekFault}
-use Rattle.gnss_week.specs.declared.calendar.WeekFault.TheVariants as weeks
-use Rattle.gnss_week.specs.Functions.{moment_to}
+use Rattle.nav_eph.specs.declared.calendar.Civil.{Civil}
+use Rattle.nav_eph.specs.declared.calendar.WeekFault.{WeekFault}
+use Rattle.nav_eph.specs.declared.calendar.WeekFault.TheVariants as weeks
+use Rattle.nav_eph.specs.Functions.{moment_to}
 use Rattle.nav_eph.specs.Satellite.{Satellite, most}
 use Rattle.nav_eph.specs.declared.sat.System.{System}
 use Rattle.nav_eph.specs.declared.gps.GpsClock.{GpsClock}
@@ -28,15 +28,15 @@ use Rattle.nav_eph.specs.declared.items.NavItem.{NavItem}
 use Rattle.nav_eph.specs.declared.items.NavItem.TheVariants.{Gps as GpsItem, Gal as GalItem, Ion as IonItem}
 use Rattle.rinex_write.specs.Layouts.{Kind, gps_kind, galileo_kind, gps_ionosphere_kind, galileo_ionosphere_kind}
 use Rattle.rinex_write.specs.Texts.{letter_of}
-use Rattle.rinex_read.specs.declared.reason.Reason.{Reason}
-use Rattle.rinex_read.specs.declared.reason.Reason.TheVariants as reasons
+use Rattle.rinex_read.specs.declared.reason.RecordFault.{RecordFault}
+use Rattle.rinex_read.specs.declared.reason.RecordFault.TheVariants as reasons
 use Rattle.rinex_read.specs.declared.judged.Judged.{Judged}
 use Rattle.rinex_read.specs.declared.judged.Judged.TheVariants as judgments
 use Rattle.rinex_read.specs.Lines.{columns, stands_at}
 use Rattle.rinex_read.specs.Fields.{◌>>=◌, read_rows}
 
 -- true if the condition holds, else the reason
-abbrev pub need : Bool → Reason → Result Bool Reason
+abbrev pub need : Bool → RecordFault → Result Bool RecordFault
 need true e = Ok true
 need false e = Err e
 
@@ -50,17 +50,17 @@ abbrev pub is_kind : Kind → List ℕ → Bool
 is_kind k title = stands_at 2 k.class title && stands_at 6 (letter_of k.system ∷ []) title && stands_at 10 k.message title
 
 -- the satellite of a system with that number
-abbrev pub named : System → ℕ → Result Satellite Reason
+abbrev pub named : System → ℕ → Result Satellite RecordFault
 named system n = if nat_le 1 n && nat_le n (most system) then Ok (record { system = system; number = n }) else Err reasons.BadSat
 
 -- the satellite of a system with a two-digit number, the first digit possibly blank
-abbrev pub satellite_of : System → ℕ → ℕ → Result Satellite Reason
+abbrev pub satellite_of : System → ℕ → ℕ → Result Satellite RecordFault
 satellite_of system tens ones =
     if is_decimal ones && (tens == 32 || is_decimal tens) then named system ((if tens == 32 then 0 else 10 * (tens - 48)) + (ones - 48))
     else Err reasons.BadSat
 
 -- the satellite of a title, in columns 8-9
-abbrev pub sat_of : System → List ℕ → Result Satellite Reason
+abbrev pub sat_of : System → List ℕ → Result Satellite RecordFault
 sat_of system title = satellite_of system (get_or title 7 32) (get_or title 8 32)
 
 -- a line begins with the satellite in columns 7-9 of the title
@@ -68,14 +68,14 @@ abbrev pub same_sat : List ℕ → List ℕ → Bool
 same_sat title line = stands_at 0 (columns 6 3 title) line
 
 -- a decimal number, with blanks before and after it allowed
-abbrev pub digits_alone : Span → Result ℕ Reason
+abbrev pub digits_alone : Span → Result ℕ RecordFault
 digits_alone s = if is_nothing s.rest && nat_le 1 s.count then Ok s.number else Err reasons.NotANumber
 
-unfoldable pub whole_number : List ℕ → Result ℕ Reason
+unfoldable pub whole_number : List ℕ → Result ℕ RecordFault
 whole_number text = digits_alone (span 0 0 (trim_end (trim_start text)))
 
 -- the date of a line: year in columns 5-8, month 10-11, day 13-14, hour 16-17, minute 19-20, second 22-23
-unfoldable pub date_of : List ℕ → Result Civil Reason
+unfoldable pub date_of : List ℕ → Result Civil RecordFault
 date_of line = do
   year ← whole_number (columns 4 4 line)
   month ← whole_number (columns 9 2 line)
@@ -86,30 +86,30 @@ date_of line = do
   Ok (record { year = year; month = month; day = day; hour = hour; minute = minute; second = second })
 
 -- GPS time of a date in seconds since the GPS epoch, or why there is none
-abbrev pub moment_said : Result ℕ WeekFault → Result ℕ Reason
-moment_said (Ok m) = Ok m
-moment_said (Err weeks.NoSuchDate) = Err reasons.NoSuchDate
-moment_said (Err weeks.BeforeEpoch) = Err reasons.Week
-moment_said (Err weeks.TooFar) = Err reasons.Week
+abbrev pub moment_stated : Result ℕ WeekFault → Result ℕ RecordFault
+moment_stated (Ok m) = Ok m
+moment_stated (Err weeks.NoSuchDate) = Err reasons.NoSuchDate
+moment_stated (Err weeks.BeforeEpoch) = Err reasons.Week
+moment_stated (Err weeks.TooFar) = Err reasons.Week
 
 -- GPS time of the date of a line
-abbrev pub moment_at : List ℕ → Result ℕ Reason
-moment_at line = date_of line >>= λ date. moment_said (moment_to date)
+abbrev pub moment_at : List ℕ → Result ℕ RecordFault
+moment_at line = date_of line >>= λ date. moment_stated (moment_to date)
 
 -- the time is in GPS weeks 1 to 16382
 abbrev pub is_named_week : ℕ → Bool
 is_named_week m = nat_le 1 (m / 604800) && nat_le (m / 604800) 16382
 
 -- the contents of a record: satellite, date as GPS time, and fields
-pub record Said : Type 0 where
+pub record Stated : Type 0 where
   pub sat : Satellite
   pub moment : ℕ
   pub fields : List ℤ
 
 -- the contents of an ephemeris record, or the first reason. Tested in this order: satellite, number of lines, the same
 -- satellite in the first line, date, numbers
-unfoldable pub ephemeris_said : Kind → List ℕ → List (List ℕ) → Result Said Reason
-ephemeris_said k title lines = do
+unfoldable pub ephemeris_stated : Kind → List ℕ → List (List ℕ) → Result Stated RecordFault
+ephemeris_stated k title lines = do
   sat ← sat_of k.system title
   all ← need (nat_le (length k.rows) (length lines)) reasons.Short
   same ← need (same_sat title (first_of lines)) reasons.BadSat
@@ -118,8 +118,8 @@ ephemeris_said k title lines = do
   Ok (record { sat = sat; moment = moment; fields = fields })
 
 -- the contents of an ionosphere record, or the first reason. In this order: satellite, number of lines, date, numbers
-unfoldable pub ionosphere_said : Kind → List ℕ → List (List ℕ) → Result Said Reason
-ionosphere_said k title lines = do
+unfoldable pub ionosphere_stated : Kind → List ℕ → List (List ℕ) → Result Stated RecordFault
+ionosphere_stated k title lines = do
   sat ← sat_of k.system title
   all ← need (nat_le (length k.rows) (length lines)) reasons.Short
   moment ← moment_at (first_of lines)
@@ -140,7 +140,7 @@ sent_of z = if int_le z (pos 907199) then At z else Unknown
 
 -- toc in steps of the week: the time of week of the epoch is a multiple of the step, and the epoch is within half a week of
 -- toe, given by its week and steps
-abbrev pub toc_of : ℕ → ℕ → ℕ → ℕ → Result ℕ Reason
+abbrev pub toc_of : ℕ → ℕ → ℕ → ℕ → Result ℕ RecordFault
 toc_of step moment toe_week toe = do
   whole ← need (moment % 604800 % step == 0) reasons.EpochStep
   near ← need (nat_lt (604800 * toe_week + step * toe) (moment + 302400) && nat_le moment (604800 * toe_week + step * toe + 302400)) reasons.EpochFar
@@ -223,8 +223,8 @@ galileo_word4_of toc zs = record {
 }
 
 -- the health of a Galileo satellite from its number: bit 0 E1-B DVS, bits 1-2 E1-B HS, bit 6 E5b DVS, bits 7-8 E5b HS
-abbrev pub health_said : ℤ → ℤ → ℕ → GalHealth
-health_said bgd_a bgd_b n = record {
+abbrev pub health_stated : ℤ → ℤ → ℕ → GalHealth
+health_stated bgd_a bgd_b n = record {
   bgd_a = bgd_a;
   bgd_b = bgd_b;
   hs_e5b = n / 128 % 4;
@@ -241,7 +241,7 @@ galileo_of sat toc zs = record {
   w2 = galileo_word2_of zs;
   w3 = galileo_word3_of zs;
   w4 = galileo_word4_of toc zs;
-  health = health_said (field zs 24) (field zs 25) (natural zs 23);
+  health = health_stated (field zs 24) (field zs 25) (natural zs 23);
   toe_week = natural zs 21;
   sent = sent_of (field zs 26);
 }
@@ -263,33 +263,33 @@ unfoldable pub galileo_ionosphere_of : List ℤ → GalIon
 galileo_ionosphere_of zs = record { ai0 = natural zs 0; ai1 = field zs 1; ai2 = field zs 2; regions = natural zs 3 }
 
 -- the items of the contents, or the reason why there is none
-abbrev pub gps_item : Said → Result NavItem Reason
+abbrev pub gps_item : Stated → Result NavItem RecordFault
 gps_item s = toc_of 16 s.moment (natural s.fields 21) (natural s.fields 11) >>= λ toc. Ok (GpsItem (gps_of s.sat toc s.fields))
 
-abbrev pub galileo_item : Said → Result NavItem Reason
+abbrev pub galileo_item : Stated → Result NavItem RecordFault
 galileo_item s = toc_of 60 s.moment (natural s.fields 21) (natural s.fields 11) >>= λ toc. Ok (GalItem (galileo_of s.sat toc s.fields))
 
-abbrev pub gps_ionosphere_item : Said → Result NavItem Reason
+abbrev pub gps_ionosphere_item : Stated → Result NavItem RecordFault
 gps_ionosphere_item s = Ok (IonItem (record { sat = s.sat; moment = s.moment; content = OfGps (gps_ionosphere_of s.fields) }))
 
-abbrev pub galileo_ionosphere_item : Said → Result NavItem Reason
+abbrev pub galileo_ionosphere_item : Stated → Result NavItem RecordFault
 galileo_ionosphere_item s = Ok (IonItem (record { sat = s.sat; moment = s.moment; content = OfGal (galileo_ionosphere_of s.fields) }))
 
 -- the item of a record of each kind
-abbrev pub gps_read : List ℕ → List (List ℕ) → Result NavItem Reason
-gps_read title lines = ephemeris_said gps_kind title lines >>= gps_item
+abbrev pub gps_read : List ℕ → List (List ℕ) → Result NavItem RecordFault
+gps_read title lines = ephemeris_stated gps_kind title lines >>= gps_item
 
-abbrev pub galileo_read : List ℕ → List (List ℕ) → Result NavItem Reason
-galileo_read title lines = ephemeris_said galileo_kind title lines >>= galileo_item
+abbrev pub galileo_read : List ℕ → List (List ℕ) → Result NavItem RecordFault
+galileo_read title lines = ephemeris_stated galileo_kind title lines >>= galileo_item
 
-abbrev pub gps_ionosphere_read : List ℕ → List (List ℕ) → Result NavItem Reason
-gps_ionosphere_read title lines = ionosphere_said gps_ionosphere_kind title lines >>= gps_ionosphere_item
+abbrev pub gps_ionosphere_read : List ℕ → List (List ℕ) → Result NavItem RecordFault
+gps_ionosphere_read title lines = ionosphere_stated gps_ionosphere_kind title lines >>= gps_ionosphere_item
 
-abbrev pub galileo_ionosphere_read : List ℕ → List (List ℕ) → Result NavItem Reason
-galileo_ionosphere_read title lines = ionosphere_said galileo_ionosphere_kind title lines >>= galileo_ionosphere_item
+abbrev pub galileo_ionosphere_read : List ℕ → List (List ℕ) → Result NavItem RecordFault
+galileo_ionosphere_read title lines = ionosphere_stated galileo_ionosphere_kind title lines >>= galileo_ionosphere_item
 
 -- an item, or a refusal
-abbrev pub outcome : Result NavItem Reason → Judged
+abbrev pub outcome : Result NavItem RecordFault → Judged
 outcome (Ok item) = judgments.Item item
 outcome (Err reason) = judgments.Refused reason
 

@@ -24,5 +24,5 @@ ended_lines bytes = map without_cr (pieces true bytes)
 abbrev pub text_of_line : Line → List ℕ
 text_of_line line = line.text
 
-abbrev pub told_lines : List ℕ → List (List ℕ)
-told_lines bytes = map text_of_line (lines_by false bytes)
+abbrev pub lines_stated : List ℕ → List (List ℕ)
+lines_stated bytes = map text_of_line (lines_by false bytes)

@@ -5,21 +5,21 @@ use Rattle.nav_bits.specs.Signed.{IsSigned}
 use Rattle.rinex_write.specs.declared.columns.Column.{Column}
 use Rattle.rinex_write.specs.Columns.{are_good}
 use Rattle.rinex_write.specs.Layouts.{Kind, gps_kind, galileo_kind, gps_ionosphere_kind, galileo_ionosphere_kind}
-use Rattle.rinex_read.specs.declared.reason.Reason.{Reason}
-use Rattle.rinex_read.specs.declared.reason.Reason.TheVariants as reasons
+use Rattle.rinex_read.specs.declared.reason.RecordFault.{RecordFault}
+use Rattle.rinex_read.specs.declared.reason.RecordFault.TheVariants as reasons
 use Rattle.rinex_read.specs.declared.title.RecordKind.{RecordKind}
 use Rattle.rinex_read.specs.declared.title.RecordKind.TheVariants.{GpsEphemeris, GalileoEphemeris, GpsIonosphere, GalileoIonosphere}
 use Rattle.rinex_read.specs.Fields.{◌>>=◌, read_row}
 use Rattle.rinex_read.specs.declared.judged.HeaderState.{HeaderState}
 use Rattle.rinex_read.specs.declared.judged.HeaderState.TheVariants.{New, Open, Passed, NotRinexNav, OtherVersion}
-use Rattle.rinex_read.specs.Judging.{field, natural, Said}
+use Rattle.rinex_read.specs.Judging.{field, natural, Stated}
 use Rattle.rinex_read.specs.Files.{is_navigation, ends_header}
 use Rattle.rinex_read.specs.Forms.{Form, is_version}
 use Rattle.nav_io.specs.LinesState.{LinesState}
 use Rattle.rinex_read.specs.declared.judged.HeaderFault.{HeaderFault}
 use Rattle.rinex_read.specs.declared.judged.HeaderFault.TheVariants as faults
 use Rattle.rinex_read.specs.States.{RecordsState, held_reads}
-use Rattle.rinex_read.specs.declared.said.RecordSaid.{RecordSaid}
+use Rattle.rinex_read.specs.declared.stated.RecordStated.{RecordStated}
 
 -- the definition of each kind of record
 abbrev pub kind_by : RecordKind → Kind
@@ -29,7 +29,7 @@ kind_by GpsIonosphere = gps_ionosphere_kind
 kind_by GalileoIonosphere = galileo_ionosphere_kind
 
 -- the result, seen by view, is the expected one
-abbrev pub Gives : {X Y : Type 0} → (X → Y) → Result X Reason → Result Y Reason → Type 0
+abbrev pub Gives : {X Y : Type 0} → (X → Y) → Result X RecordFault → Result Y RecordFault → Type 0
 Gives view (Ok x) read = read ≡ Ok (view x)
 Gives view (Err e) read = read ≡ Err e
 
@@ -39,17 +39,17 @@ is_minus [] = false
 is_minus (c ∷ cs) = c == 45
 
 -- fields before those that are read
-abbrev pub with_prefix : List ℤ → Result (List ℤ) Reason → Result (List ℤ) Reason
+abbrev pub with_prefix : List ℤ → Result (List ℤ) RecordFault → Result (List ℤ) RecordFault
 with_prefix zs (Ok ws) = Ok (zs ++ ws)
 with_prefix zs (Err e) = Err e
 
 -- all was read, or the reason is the expected one
-abbrev pub ReadsTo : {T : Type 0} → Result T Reason → List ℤ → Result (List ℤ) Reason → Type 0
+abbrev pub ReadsTo : {T : Type 0} → Result T RecordFault → List ℤ → Result (List ℤ) RecordFault → Type 0
 ReadsTo (Ok x) new read = read ≡ Ok new
 ReadsTo (Err e) new read = read ≡ Err e
 
 -- the fields of lines with these numbers of columns, the columns of all lines being one list
-abbrev pub flat_rows : List ℕ → List Column → ℕ → List (List ℕ) → Result (List ℤ) Reason
+abbrev pub flat_rows : List ℕ → List Column → ℕ → List (List ℕ) → Result (List ℤ) RecordFault
 flat_rows [] cs a ls = Ok []
 flat_rows (n ∷ ns) cs a [] = Err reasons.Short
 flat_rows (n ∷ ns) cs a (l ∷ ls) = read_row (take n cs) a l >>= λ zs. flat_rows ns (drop n cs) 4 ls >>= λ ws. Ok (zs ++ ws)
@@ -105,8 +105,8 @@ pub record IsSentAt (zs : List ℤ) (k : ℕ) : Type 0 where
   pub low : negsuc 302399 ≤ℤ field zs k
 
 -- the contents of a record as the definitions have them
-abbrev pub view_said : RecordSaid → Said
-view_said s = record { sat = s.sat; moment = s.moment; fields = s.fields.items }
+abbrev pub view_stated : RecordStated → Stated
+view_stated s = record { sat = s.sat; moment = s.moment; fields = s.fields.items }
 
 -- the fields of a GPS ephemeris are within their widths
 pub record AreGpsFields (zs : List ℤ) : Type 0 where

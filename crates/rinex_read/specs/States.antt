@@ -8,7 +8,7 @@ use Rattle.rinex_read.specs.declared.judged.HeaderFault.{HeaderFault}
 use Rattle.rinex_read.specs.declared.judged.HeaderFault.TheVariants as faults
 use Rattle.rinex_read.specs.declared.judged.HeaderState.{HeaderState}
 use Rattle.rinex_read.specs.declared.judged.HeaderState.TheVariants.{New, Open, Passed, NotRinexNav, OtherVersion}
-use Rattle.rinex_read.specs.Lines.{text_of_line, told_lines}
+use Rattle.rinex_read.specs.Lines.{text_of_line, lines_stated}
 use Rattle.rinex_read.specs.Forms.{Form}
 use Rattle.rinex_read.specs.Files.{but_last, header_of, header_passed, up_to_next, reads, reads_behind}
 
@@ -30,7 +30,7 @@ held_reads f (k ∷ ks) first n ls = f.judged first ((k ∷ ks) ++ up_to_next f 
 
 -- the records still to be read after the header, if these bytes follow
 abbrev pub records_to_come : {R : Type 0} → Form R → RecordsState → List ℕ → List R
-records_to_come f s following = held_reads f s.kept s.first s.lines.number (told_lines (s.lines.rest ++ following))
+records_to_come f s following = held_reads f s.kept s.first s.lines.number (lines_stated (s.lines.rest ++ following))
 
 -- the records still to be read of the file, if these lines follow
 abbrev pub file_by : {R : Type 0} → Form R → HeaderState → RecordsState → List (List ℕ) → Result (List R) HeaderFault
@@ -42,7 +42,7 @@ file_by f OtherVersion s ls = Err faults.Version
 
 -- the same if these bytes follow
 abbrev pub file_to_come : {R : Type 0} → Form R → RecordsState → List ℕ → Result (List R) HeaderFault
-file_to_come f s following = file_by f s.header s (told_lines (s.lines.rest ++ following))
+file_to_come f s following = file_by f s.header s (lines_stated (s.lines.rest ++ following))
 
 -- after a read that gave no byte nothing follows
 abbrev pub MayCome : RecordsState → List ℕ → Type 0

@@ -1,18 +1,18 @@
 //! The dates of records.
 
 ghost use Rattle.std.specs.Prelude.{◌≡◌, ◌+◌, ◌^◌, ◌<◌, ◌≤◌, length, IfOk};
-ghost use Rattle.gnss_week.specs.Functions.{moment_to};
+ghost use Rattle.nav_eph.specs.Functions.{moment_to};
 ghost use Rattle.rinex_read.specs.Lines.{columns};
-ghost use Rattle.rinex_read.specs.Judging.{date_of, moment_at, moment_said, whole_number};
+ghost use Rattle.rinex_read.specs.Judging.{date_of, moment_at, moment_stated, whole_number};
 
 use crate::line::{PaddedLine, columns};
-use crate::reason::Reason;
-use gnss_week::{Civil, Moment, WeekFault, moment_of};
+use crate::reason::RecordFault;
+use nav_eph::{Civil, Moment, WeekFault, moment_of};
 use scaled_decimal::{leading_digits, trimmed};
 
 // A decimal number, with blanks before and after it allowed.
 #[tactic(auto, unfolding(crate::specs::Judging::whole_number))]
-fn whole_number(text: &[u8]) -> Result<u16, Reason>
+fn whole_number(text: &[u8]) -> Result<u16, RecordFault>
     requires { length text.now ≤ 4 }
     ensures value { result ≡ whole_number text.now }
     ensures few { IfOk result (λ n. n < 10 ^ length text.now) }
@@ -21,12 +21,12 @@ fn whole_number(text: &[u8]) -> Result<u16, Reason>
     if digits.rest.is_empty() && digits.count >= 1 {
         Ok(digits.number as u16)
     } else {
-        Err(Reason::NotANumber)
+        Err(RecordFault::NotANumber)
     }
 }
 
 // The same of two characters.
-fn two_digits(line: &PaddedLine, place: usize) -> Result<u8, Reason>
+fn two_digits(line: &PaddedLine, place: usize) -> Result<u8, RecordFault>
     requires { place + 2 ≤ 80 }
     ensures { result ≡ whole_number (columns place 2 line.now) }
 {
@@ -36,7 +36,7 @@ fn two_digits(line: &PaddedLine, place: usize) -> Result<u8, Reason>
 
 // The date of a line.
 #[tactic(auto, unfolding(crate::specs::Judging::date_of))]
-fn date_of(line: &PaddedLine) -> Result<Civil, Reason>
+fn date_of(line: &PaddedLine) -> Result<Civil, RecordFault>
     ensures { result ≡ date_of line.now }
 {
     let year = whole_number(columns(line, 4, 4))?;
@@ -56,21 +56,21 @@ fn date_of(line: &PaddedLine) -> Result<Civil, Reason>
 }
 
 // GPS time of a date, in seconds since the GPS epoch.
-fn moment_said(date: &Civil) -> Result<Moment, Reason>
-    ensures { result ≡ moment_said (moment_to date.now) }
+fn moment_stated(date: &Civil) -> Result<Moment, RecordFault>
+    ensures { result ≡ moment_stated (moment_to date.now) }
 {
     match moment_of(date) {
         Ok(moment) => Ok(moment),
-        Err(WeekFault::NoSuchDate) => Err(Reason::NoSuchDate),
-        Err(WeekFault::BeforeEpoch) => Err(Reason::Week),
-        Err(WeekFault::TooFar) => Err(Reason::Week),
+        Err(WeekFault::NoSuchDate) => Err(RecordFault::NoSuchDate),
+        Err(WeekFault::BeforeEpoch) => Err(RecordFault::Week),
+        Err(WeekFault::TooFar) => Err(RecordFault::Week),
     }
 }
 
 /// GPS time of the date of a line, in seconds since the GPS epoch.
-pub(crate) fn moment_in(line: &PaddedLine) -> Result<Moment, Reason>
+pub(crate) fn moment_in(line: &PaddedLine) -> Result<Moment, RecordFault>
     ensures { result ≡ moment_at line.now }
 {
     let date = date_of(line)?;
-    moment_said(&date)
+    moment_stated(&date)
 }

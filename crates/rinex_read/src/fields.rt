@@ -12,7 +12,7 @@ ghost use Rattle.rinex_read.specs.Mirrors.{with_prefix};
 
 use crate::accuracy::{sisa_of, ura_of};
 use crate::line::{PaddedLine, columns};
-use crate::reason::Reason;
+use crate::reason::RecordFault;
 use arrayvec::ArrayVec;
 use rinex_write::{Column, NOT_KNOWN, RecordLayout, Rule};
 use scaled_decimal::{DecimalFault, Scale, read, trimmed};
@@ -35,13 +35,13 @@ pub(crate) const WHOLE: Scale = Scale {
 const GREATEST: i64 = 100_000_000;
 
 // The fit interval flag of an interval in hours.
-fn flag_of(hours: i64) -> Result<i64, Reason>
+fn flag_of(hours: i64) -> Result<i64, RecordFault>
     requires { pos 0 ≤ℤ hours }
     ensures { result ≡ flag_of (unsigned_abs hours) }
 {
     match hours {
         0 | 4 => Ok(0),
-        2 | 3 => Err(Reason::Fit),
+        2 | 3 => Err(RecordFault::Fit),
         _ => Ok(1),
     }
 }
@@ -72,7 +72,7 @@ fn is_beyond(text: &[u8]) -> bool
 }
 
 // The field of the text in a column.
-fn field(column: &Column, text: &[u8]) -> Result<i64, Reason>
+fn field(column: &Column, text: &[u8]) -> Result<i64, RecordFault>
     requires text { length text.now ≤ 19 }
     requires scale { is_good_scale column.now.scale ≡ true }
     requires rule { is_good_rule column.now.scale column.now.rule ≡ true }
@@ -81,56 +81,56 @@ fn field(column: &Column, text: &[u8]) -> Result<i64, Reason>
     match column.rule {
         Rule::Plain { low, high } => match read(text, &column.scale, low, high) {
             Ok(number) => Ok(number),
-            Err(DecimalFault::Blank) => Err(Reason::Blank),
-            Err(DecimalFault::NotANumber) => Err(Reason::NotANumber),
-            Err(DecimalFault::OutOfRange) => Err(Reason::OutOfRange),
+            Err(DecimalFault::Blank) => Err(RecordFault::Blank),
+            Err(DecimalFault::NotANumber) => Err(RecordFault::NotANumber),
+            Err(DecimalFault::OutOfRange) => Err(RecordFault::OutOfRange),
         },
         Rule::OrZero { low, high } => match read(text, &column.scale, low, high) {
             Ok(number) => Ok(number),
             Err(DecimalFault::Blank) => Ok(0),
-            Err(DecimalFault::NotANumber) => Err(Reason::NotANumber),
-            Err(DecimalFault::OutOfRange) => Err(Reason::OutOfRange),
+            Err(DecimalFault::NotANumber) => Err(RecordFault::NotANumber),
+            Err(DecimalFault::OutOfRange) => Err(RecordFault::OutOfRange),
         },
         Rule::OrLeast { low, high } => match read(text, &column.scale, low, high) {
             Ok(number) => Ok(number),
             Err(DecimalFault::Blank) => Ok(low),
-            Err(DecimalFault::NotANumber) => Err(Reason::NotANumber),
-            Err(DecimalFault::OutOfRange) => Err(Reason::OutOfRange),
+            Err(DecimalFault::NotANumber) => Err(RecordFault::NotANumber),
+            Err(DecimalFault::OutOfRange) => Err(RecordFault::OutOfRange),
         },
         Rule::OrUnknown { low, high } => match read(text, &column.scale, low, high) {
             Ok(number) => Ok(number),
             Err(DecimalFault::Blank) => Ok(NOT_KNOWN),
-            Err(DecimalFault::NotANumber) => Err(Reason::NotANumber),
+            Err(DecimalFault::NotANumber) => Err(RecordFault::NotANumber),
             Err(DecimalFault::OutOfRange) => {
                 if is_beyond(text) {
                     Ok(NOT_KNOWN)
                 } else {
-                    Err(Reason::OutOfRange)
+                    Err(RecordFault::OutOfRange)
                 }
             }
         },
         Rule::Ura => match read(text, &column.scale, -GREATEST, GREATEST) {
             Ok(number) => Ok(ura_of(number)),
             Err(DecimalFault::Blank) => Ok(15),
-            Err(DecimalFault::NotANumber) => Err(Reason::NotANumber),
-            Err(DecimalFault::OutOfRange) => Err(Reason::OutOfRange),
+            Err(DecimalFault::NotANumber) => Err(RecordFault::NotANumber),
+            Err(DecimalFault::OutOfRange) => Err(RecordFault::OutOfRange),
         },
         Rule::Sisa => match read(text, &column.scale, -GREATEST, GREATEST) {
             Ok(number) => Ok(sisa_of(number)),
             Err(DecimalFault::Blank) => Ok(255),
-            Err(DecimalFault::NotANumber) => Err(Reason::NotANumber),
-            Err(DecimalFault::OutOfRange) => Err(Reason::OutOfRange),
+            Err(DecimalFault::NotANumber) => Err(RecordFault::NotANumber),
+            Err(DecimalFault::OutOfRange) => Err(RecordFault::OutOfRange),
         },
         Rule::Fit => match read(text, &column.scale, 0, 255) {
             Ok(number) => flag_of(number),
             Err(DecimalFault::Blank) => Ok(0),
-            Err(DecimalFault::NotANumber) => Err(Reason::NotANumber),
-            Err(DecimalFault::OutOfRange) => Err(Reason::OutOfRange),
+            Err(DecimalFault::NotANumber) => Err(RecordFault::NotANumber),
+            Err(DecimalFault::OutOfRange) => Err(RecordFault::OutOfRange),
         },
         Rule::Sent => match read(text, &column.scale, -302_400, 907_199) {
             Ok(number) => Ok(number),
             Err(DecimalFault::Blank) => Ok(UNKNOWN),
-            Err(DecimalFault::NotANumber) => Err(Reason::NotANumber),
+            Err(DecimalFault::NotANumber) => Err(RecordFault::NotANumber),
             Err(DecimalFault::OutOfRange) => Ok(UNKNOWN),
         },
         Rule::Unread { number } => Ok(number),
@@ -143,7 +143,7 @@ fn read_row(
     place: usize,
     line: &PaddedLine,
     fields: &mut Fields,
-) -> Result<(), Reason>
+) -> Result<(), RecordFault>
     requires good { are_good columns_of_row.now ≡ true }
     requires line { place + 19 * length columns_of_row.now ≤ 80 }
     requires room { array_vec_len fields.old + length columns_of_row.now ≤ 29 }
@@ -161,7 +161,10 @@ fn read_row(
 
 /// The fields of the lines of a record after its title. The numbers of the first line begin at
 /// offset 23.
-pub(crate) fn read_fields(layout: &RecordLayout, lines: &[PaddedLine]) -> Result<Fields, Reason>
+pub(crate) fn read_fields(
+    layout: &RecordLayout,
+    lines: &[PaddedLine],
+) -> Result<Fields, RecordFault>
     requires layout { IsLayout layout.now.columns.now layout.now.rows.now }
     requires lines { length layout.now.rows.now ≤ length lines.now }
     ensures { Gives (λ fields. fields.items) result

@@ -7,8 +7,8 @@ use crate::judged::{ItemRead, read_at};
 use crate::record::RecordLines;
 use scaled_decimal::is_decimal;
 
-/// A format of navigation files, read by a [`RecordReader`](crate::RecordReader), whose records give
-/// values of the type `R`.
+/// A format of navigation files, read by a [`RecordReader`](crate::RecordReader), whose records
+/// give values of the type `R`.
 ///
 /// Contracts see the format as a ghost: its versions, the first characters of its records, and what
 /// the lines of a record give.

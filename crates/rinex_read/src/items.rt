@@ -2,25 +2,24 @@
 
 ghost use Rattle.std.specs.Prelude.{◌≡◌, ◌+◌, ◌*◌, ◌^◌, ◌<◌, ◌≤◌, IfOk};
 ghost use Rattle.nav_eph.specs.Steps.{IsStep16, IsStep60};
-ghost use Rattle.gnss_week.specs.Weeks.{IsWeek};
+ghost use Rattle.nav_eph.specs.Weeks.{IsWeek};
 ghost use Rattle.rinex_read.specs.Judging.{field, galileo_ionosphere_item};
 ghost use Rattle.rinex_read.specs.Judging.{galileo_ionosphere_of, galileo_item, galileo_of};
 ghost use Rattle.rinex_read.specs.Judging.{gps_ionosphere_item, gps_ionosphere_of, gps_clock_of};
 ghost use Rattle.rinex_read.specs.Judging.{gps_item, gps_of, gps_orbit_a_of, gps_orbit_b_of};
-ghost use Rattle.rinex_read.specs.Judging.{gps_side_of, health_said, natural, sent_of, toc_of};
+ghost use Rattle.rinex_read.specs.Judging.{gps_side_of, health_stated, natural, sent_of, toc_of};
 ghost use Rattle.rinex_read.specs.Judging.{galileo_word1_of, galileo_word2_of};
 ghost use Rattle.rinex_read.specs.Judging.{galileo_word3_of, galileo_word4_of};
 ghost use Rattle.rinex_read.specs.Mirrors.{AreGalileoFields, AreGalileoIonosphereFields};
 ghost use Rattle.rinex_read.specs.Mirrors.{AreGpsFields, AreGpsIonosphereFields, IsBelowAt};
 ghost use Rattle.rinex_read.specs.Mirrors.{IsSentAt, IsSignedAt, IsSisaAt, IsUnsignedAt, IsWeekAt};
 
-use crate::reason::Reason;
-use gnss_week::{Moment, Week};
+use crate::reason::RecordFault;
 use nav_bits::{S, U};
 use nav_eph::{
     GalEph, GalHealth, GalIon, GalWord1, GalWord2, GalWord3, GalWord4, GpsClock, GpsEph, GpsIon,
-    GpsOrbitA, GpsOrbitB, GpsSide, IonContent, IonEph, NavItem, Sat, SentSecond, Sisa, Step16,
-    Step60,
+    GpsOrbitA, GpsOrbitB, GpsSide, IonContent, IonEph, Moment, NavItem, Sat, SentSecond, Sisa,
+    Step16, Step60, Week,
 };
 
 // Field k as an unsigned number, and in two's complement.
@@ -111,7 +110,7 @@ fn sent(fields: &[i64], k: usize) -> SentSecond
 }
 
 // toc in steps of the week, from the epoch.
-fn toc_of(step: u64, moment: Moment, toe_week: u64, toe: u64) -> Result<u64, Reason>
+fn toc_of(step: u64, moment: Moment, toe_week: u64, toe: u64) -> Result<u64, RecordFault>
     requires step { 1 ≤ step }
     requires small { step ≤ 60 }
     requires week { IsWeek toe_week }
@@ -121,14 +120,14 @@ fn toc_of(step: u64, moment: Moment, toe_week: u64, toe: u64) -> Result<u64, Rea
 {
     let second = moment.value() % 604_800;
     if second % step != 0 {
-        return Err(Reason::EpochStep);
+        return Err(RecordFault::EpochStep);
     }
     let near = 604_800 * toe_week + step * toe;
     if near >= moment.value() + 302_400 {
-        return Err(Reason::EpochFar);
+        return Err(RecordFault::EpochFar);
     }
     if moment.value() > near + 302_400 {
-        return Err(Reason::EpochFar);
+        return Err(RecordFault::EpochFar);
     }
     Ok(second / step)
 }
@@ -282,9 +281,9 @@ fn galileo_word4_of(toc: u64, fields: &[i64]) -> GalWord4
 }
 
 // The health of a Galileo satellite.
-fn health_said(fields: &[i64]) -> GalHealth
+fn health_stated(fields: &[i64]) -> GalHealth
     requires { AreGalileoFields fields.now }
-    ensures { result ≡ health_said (field fields.now 24) (field fields.now 25)
+    ensures { result ≡ health_stated (field fields.now 24) (field fields.now 25)
         (natural fields.now 23) }
 {
     let number: U<9> = unsigned(fields, 23);
@@ -312,7 +311,7 @@ fn galileo_of(sat: Sat, toc: u64, fields: &[i64]) -> GalEph
         w2: galileo_word2_of(fields),
         w3: galileo_word3_of(fields),
         w4: galileo_word4_of(toc, fields),
-        health: health_said(fields),
+        health: health_stated(fields),
         toe_week: week(fields, 21),
         sent: sent(fields, 26),
     }
@@ -350,7 +349,7 @@ fn galileo_ionosphere_of(fields: &[i64]) -> GalIon
 }
 
 /// The GPS ephemeris of a satellite with this epoch and these fields.
-pub(crate) fn gps_item(sat: Sat, moment: Moment, fields: &[i64]) -> Result<NavItem, Reason>
+pub(crate) fn gps_item(sat: Sat, moment: Moment, fields: &[i64]) -> Result<NavItem, RecordFault>
     requires { AreGpsFields fields.now }
     ensures { result ≡ gps_item (record { sat = sat; moment = moment; fields = fields.now }) }
 {
@@ -361,7 +360,7 @@ pub(crate) fn gps_item(sat: Sat, moment: Moment, fields: &[i64]) -> Result<NavIt
 }
 
 /// The Galileo ephemeris of a satellite with this epoch and these fields.
-pub(crate) fn galileo_item(sat: Sat, moment: Moment, fields: &[i64]) -> Result<NavItem, Reason>
+pub(crate) fn galileo_item(sat: Sat, moment: Moment, fields: &[i64]) -> Result<NavItem, RecordFault>
     requires { AreGalileoFields fields.now }
     ensures { result ≡ galileo_item (record { sat = sat; moment = moment; fields = fields.now }) }
 {
@@ -376,7 +375,7 @@ pub(crate) fn gps_ionosphere_item(
     sat: Sat,
     moment: Moment,
     fields: &[i64],
-) -> Result<NavItem, Reason>
+) -> Result<NavItem, RecordFault>
     requires { AreGpsIonosphereFields fields.now }
     ensures { result ≡ gps_ionosphere_item
         (record { sat = sat; moment = moment; fields = fields.now }) }
@@ -394,7 +393,7 @@ pub(crate) fn galileo_ionosphere_item(
     sat: Sat,
     moment: Moment,
     fields: &[i64],
-) -> Result<NavItem, Reason>
+) -> Result<NavItem, RecordFault>
     requires { AreGalileoIonosphereFields fields.now }
     ensures { result ≡ galileo_ionosphere_item
         (record { sat = sat; moment = moment; fields = fields.now }) }

@@ -1,7 +1,7 @@
 ghost use Rattle.std.specs.Prelude.{◌≡◌};
 ghost use Rattle.rinex_read.specs.Forms.{read_at};
 
-use crate::reason::Reason;
+use crate::reason::RecordFault;
 use nav_eph::NavItem;
 use nav_io::LineFault;
 
@@ -11,7 +11,7 @@ pub enum Judged {
     /// It gives this item.
     Item(NavItem),
     /// It is of a kind that is read, but gives no item; this is the first reason.
-    Refused(Reason),
+    Refused(RecordFault),
     /// It is of another kind.
     PassedOver,
 }
@@ -31,7 +31,7 @@ pub enum ItemRead {
         /// The number of its first line, counted from 1.
         line: u32,
         /// The first reason.
-        reason: Reason,
+        reason: RecordFault,
     },
     /// A record of another kind.
     PassedOver {

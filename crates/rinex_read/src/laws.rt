@@ -131,7 +131,8 @@ pub fn steps_compose<R, F: FileForm<R>>(form: &F)
     ensures header_none { (left : Option (List ℕ)) (state : RecordsState)
         → HeaderSteps (F.form form.now) left left state state }
     ensures header { (left middle left_new : Option (List ℕ)) (old now new : RecordsState)
-        → HeaderSteps (F.form form.now) left middle old now → HeaderSteps (F.form form.now) middle left_new now new
+        → HeaderSteps (F.form form.now) left middle old now
+        → HeaderSteps (F.form form.now) middle left_new now new
         → HeaderSteps (F.form form.now) left left_new old new }
 {}
 
@@ -143,21 +144,23 @@ pub fn whole_records_are_given<R, F: FileForm<R>>(form: &F)
         → (steps : Steps (F.form form.now) middle left_new now new given) → IsPaused new
         → whole_reads (F.form form.now) (header.steps.reads.taken ++ steps.reads.taken) ≡ Ok given }
     ensures header { (left left_new : Option (List ℕ)) (old new : RecordsState) → IsNew old
-        → (steps : HeaderSteps (F.form form.now) left left_new old new) → is_waiting new.header ≡ true
+        → (steps : HeaderSteps (F.form form.now) left left_new old new)
+        → is_waiting new.header ≡ true
         → IsPaused new → whole_reads (F.form form.now) steps.reads.taken ≡ Err faults.NotRinexNav }
 {
     form.looks_at_kept();
 }
 
 /// The records that are complete in all bytes taken but the last 4,096 were given, also if the
-/// reader broke off; before the end of a header there are none. Those that are complete in the first
-/// bytes of a file are its first.
+/// reader broke off; before the end of a header there are none. Those that are complete in the
+/// first bytes of a file are its first.
 pub fn early_records_are_given<R, F: FileForm<R>>(form: &F)
     ensures records { (left middle left_new : Option (List ℕ)) (old now new : RecordsState)
         (given : List R) → IsNew old → (header : PassesHeader (F.form form.now) left middle old now)
         → (steps : Steps (F.form form.now) middle left_new now new given)
         → AreEarly now.lines steps.reads.taken steps.lines
-        → BeginWith given (early_reads (F.form form.now) (header.steps.reads.taken ++ steps.reads.taken)) }
+        → BeginWith given (early_reads (F.form form.now)
+        (header.steps.reads.taken ++ steps.reads.taken)) }
     ensures header { (left left_new : Option (List ℕ)) (old new : RecordsState) → IsNew old
         → (steps : HeaderSteps (F.form form.now) left left_new old new)
         → AreEarly old.lines steps.reads.taken steps.lines → (new.header ≡ Passed → ⊥)
@@ -184,7 +187,8 @@ pub fn too_many_bytes_stay_too_many<R, F: FileForm<R>>(form: &F)
     ensures read { (read : Option R) (left left_new : Option (List ℕ)) (old new : RecordsState)
         → old.lines.taken ≡ 2 ^ 32 → GivesRead (F.form form.now) read left left_new old new → ⊥ }
     ensures fault { (left left_new : Option (List ℕ)) (old new : RecordsState)
-        → old.lines.taken ≡ 2 ^ 32 → BreaksRecord (F.form form.now) left left_new old new ReadFault → ⊥ }
+        → old.lines.taken ≡ 2 ^ 32 → BreaksRecord (F.form form.now) left left_new old new ReadFault
+        → ⊥ }
     ensures header { (left left_new : Option (List ℕ)) (old new : RecordsState)
         → old.lines.taken ≡ 2 ^ 32 → is_waiting old.header ≡ true
         → PassesHeader (F.form form.now) left left_new old new → ⊥ }

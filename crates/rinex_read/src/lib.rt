@@ -5,10 +5,11 @@
 //! A [`RecordReader`] reads the header of a [`Source`](nav_io::Source) and then its records one by
 //! one, in buffers of fixed size, over a [`FileForm`], which defines the versions that a header may
 //! name, what begins a record and what its lines give. Over [`Rinex4`] a record gives an item, a
-//! rejection with its first [`Reason`], or that it is of another kind, each with the number of its
-//! `>` line. [`RecordLines`] judges a single record. Reading is exact: each number gives the nearest
-//! raw integer, ties to even, and the record that `rinex_write` writes of an item is read as that
-//! item ([`records_are_read`], [`files_are_read`], [`joined_files_are_read`]).
+//! rejection with its first [`RecordFault`], or that it is of another kind, each with the number of
+//! its
+//! `>` line. [`RecordLines`] judges a single record. Reading is exact: each number gives the
+//! nearest raw integer, ties to even, and the record that `rinex_write` writes of an item is read
+//! as that item ([`records_are_read`], [`files_are_read`], [`joined_files_are_read`]).
 //!
 //! Over [`Rinex3`] a record has no title, begins at each line whose first column is not blank, and
 //! is judged as the RINEX 4 record with its title added ([`records3_are_read`],
@@ -42,7 +43,7 @@ mod reader;
 mod reason;
 mod record;
 mod row;
-mod said;
+mod stated;
 mod title;
 
 pub use crate::form::{FileForm, Rinex4};
@@ -57,6 +58,6 @@ pub use crate::laws::{
 pub use crate::laws3::{files3_are_read, headers3_are_read, records3_are_read};
 pub use crate::line::columns;
 pub use crate::reader::RecordReader;
-pub use crate::reason::Reason;
+pub use crate::reason::RecordFault;
 pub use crate::record::RecordLines;
-pub use crate::row::{RowSaid, layouts_are_rows, read_row_lines, written_rows_are_read};
+pub use crate::row::{RowStated, layouts_are_rows, read_row_lines, written_rows_are_read};

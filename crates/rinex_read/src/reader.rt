@@ -90,7 +90,8 @@ fn answer_of(header: HeaderState) -> Result<(), HeaderFault>
 // Processes a line that begins no record: it continues the record in progress, if there is one.
 fn process_more<R, F: FileForm<R>>(form: &F, kept: &mut RecordLines, line: &[u8])
     requires { begins (F.form form.now) line.now ≡ false }
-    ensures { (first number : ℕ) → TakesLine (F.form form.now) kept.old first kept.new first line.now number [] }
+    ensures { (first number : ℕ)
+        → TakesLine (F.form form.now) kept.old first kept.new first line.now number [] }
 {
     form.looks_at_kept();
     if !kept.is_empty() {
@@ -111,7 +112,8 @@ fn process_title<R, F: FileForm<R>>(
         (TakesLine (F.form form.now) kept.old first.old kept.new first.new line.now number []) }
     ensures whole { IfSome result F.whole }
     ensures some { IfSome result (λ read.
-        TakesLine (F.form form.now) kept.old first.old kept.new first.new line.now number (read ∷ [])) }
+        TakesLine (F.form form.now) kept.old first.old kept.new first.new line.now number
+        (read ∷ [])) }
 {
     form.looks_at_kept();
     form.gives_whole();
@@ -260,8 +262,9 @@ impl RecordReader {
     /// Reads the header of a file.
     ///
     /// Its first line has `RINEX VERSION / TYPE` in columns 61-80, `N` in column 21, and in columns
-    /// 1-9 a version of the format, for [`Rinex4`](crate::Rinex4) `4.` and one digit or two; the lines up to the
-    /// next with `END OF HEADER` in columns 61-73 are skipped (RINEX 4.01, header section).
+    /// 1-9 a version of the format, for [`Rinex4`](crate::Rinex4) `4.` and one digit or two; the
+    /// lines up to the next with `END OF HEADER` in columns 61-73 are skipped (RINEX 4.01, header
+    /// section).
     /// `NotRinexNav`: the first line is another one, or no line ends the header. `Version`: another
     /// version. Each further call gives the same error. `Line`: as for `next_item`; after a failed
     /// read a further call continues with the same header, and `TooLong` stays. The other results
@@ -278,7 +281,8 @@ impl RecordReader {
         // The header is refused, whatever bytes follow, or after a read fault the file can be read
         // on.
         ensures fault { IfErr result (λ fault.
-            BreaksHeader (F.form form.now) (S.left source.old) (S.left source.new) self.old self.new fault) }
+            BreaksHeader (F.form form.now) (S.left source.old)
+            (S.left source.new) self.old self.new fault) }
 
         // The result for a header that was read or refused is repeated, and nothing is read.
         ensures passed { self.old.header ≡ Passed
@@ -308,8 +312,9 @@ impl RecordReader {
 
     /// Reads the next record of a file whose header was read; `None` after the last.
     ///
-    /// A record is a line that begins one, for [`Rinex4`](crate::Rinex4) with `>`, and the lines up to the next
-    /// such line or the end. Its number is that of its first line in the file, counted from 1.
+    /// A record is a line that begins one, for [`Rinex4`](crate::Rinex4) with `>`, and the lines up
+    /// to the next such line or the end. Its number is that of its first line in the file, counted
+    /// from 1.
     /// `ReadFault`: a read failed, and the source's count of errors rose; a further call continues
     /// with the same record. `TooLong`: there were more than 4,294,967,295 bytes.
     pub fn next_item<R, F: FileForm<R>, S: Source>(
@@ -321,7 +326,8 @@ impl RecordReader {
 
         // The record is the next of the file, whatever bytes follow.
         ensures read { IfOk result (λ read.
-            GivesRead (F.form form.now) read (S.left source.old) (S.left source.new) self.old self.new) }
+            GivesRead (F.form form.now) read (S.left source.old)
+            (S.left source.new) self.old self.new) }
 
         // What holds of each value that a record gives holds of this one.
         ensures whole { IfOk result (λ read. IfSome read F.whole) }
@@ -330,7 +336,8 @@ impl RecordReader {
 
         // After a fault the same records are still to come.
         ensures fault { IfErr result (λ fault.
-            BreaksRecord (F.form form.now) (S.left source.old) (S.left source.new) self.old self.new fault) }
+            BreaksRecord (F.form form.now) (S.left source.old)
+            (S.left source.new) self.old self.new fault) }
 
         // `ReadFault` only where the source's count of faults rose.
         ensures failed { IsErrOf result LineFault.ReadFault

@@ -3,7 +3,7 @@ use thiserror::Error;
 /// Why a record is rejected: the first of these that holds, in the order in which a record is
 /// judged.
 #[derive(Clone, Copy, PartialEq, Eq, Debug, Error)]
-pub enum Reason {
+pub enum RecordFault {
     /// The title names no satellite of the system, or the second line names another one.
     #[error("satellite")]
     BadSat,

@@ -9,8 +9,8 @@ ghost use Rattle.rinex_read.specs.Kept.{kept_with, padded};
 use crate::items::{galileo_ionosphere_item, galileo_item, gps_ionosphere_item, gps_item};
 use crate::judged::Judged;
 use crate::line::{PaddedLine, padded};
-use crate::reason::Reason;
-use crate::said::{ephemeris_said, ionosphere_said};
+use crate::reason::RecordFault;
+use crate::stated::{ephemeris_stated, ionosphere_stated};
 use crate::title::{RecordKind, is_kind};
 use nav_eph::NavItem;
 use std::marker::Model;
@@ -39,39 +39,39 @@ impl Model for RecordLines {
 }
 
 // The GPS ephemeris of a record.
-fn gps_read(title: &PaddedLine, lines: &[PaddedLine]) -> Result<NavItem, Reason>
+fn gps_read(title: &PaddedLine, lines: &[PaddedLine]) -> Result<NavItem, RecordFault>
     ensures { result ≡ gps_read title.now lines.now }
 {
-    let said = ephemeris_said(RecordKind::GpsEphemeris, title, lines)?;
+    let said = ephemeris_stated(RecordKind::GpsEphemeris, title, lines)?;
     gps_item(said.sat, said.moment, said.fields.as_slice())
 }
 
 // The Galileo ephemeris of a record.
-fn galileo_read(title: &PaddedLine, lines: &[PaddedLine]) -> Result<NavItem, Reason>
+fn galileo_read(title: &PaddedLine, lines: &[PaddedLine]) -> Result<NavItem, RecordFault>
     ensures { result ≡ galileo_read title.now lines.now }
 {
-    let said = ephemeris_said(RecordKind::GalileoEphemeris, title, lines)?;
+    let said = ephemeris_stated(RecordKind::GalileoEphemeris, title, lines)?;
     galileo_item(said.sat, said.moment, said.fields.as_slice())
 }
 
 // The GPS ionosphere parameters of a record.
-fn gps_ionosphere_read(title: &PaddedLine, lines: &[PaddedLine]) -> Result<NavItem, Reason>
+fn gps_ionosphere_read(title: &PaddedLine, lines: &[PaddedLine]) -> Result<NavItem, RecordFault>
     ensures { result ≡ gps_ionosphere_read title.now lines.now }
 {
-    let said = ionosphere_said(RecordKind::GpsIonosphere, title, lines)?;
+    let said = ionosphere_stated(RecordKind::GpsIonosphere, title, lines)?;
     gps_ionosphere_item(said.sat, said.moment, said.fields.as_slice())
 }
 
 // The Galileo ionosphere parameters of a record.
-fn galileo_ionosphere_read(title: &PaddedLine, lines: &[PaddedLine]) -> Result<NavItem, Reason>
+fn galileo_ionosphere_read(title: &PaddedLine, lines: &[PaddedLine]) -> Result<NavItem, RecordFault>
     ensures { result ≡ galileo_ionosphere_read title.now lines.now }
 {
-    let said = ionosphere_said(RecordKind::GalileoIonosphere, title, lines)?;
+    let said = ionosphere_stated(RecordKind::GalileoIonosphere, title, lines)?;
     galileo_ionosphere_item(said.sat, said.moment, said.fields.as_slice())
 }
 
 // An item, or a refusal.
-fn outcome(read: Result<NavItem, Reason>) -> Judged
+fn outcome(read: Result<NavItem, RecordFault>) -> Judged
     ensures { result ≡ outcome read }
 {
     match read {
@@ -173,8 +173,8 @@ impl RecordLines {
 
     /// Judges the record (RINEX 4.01, navigation records: EPH LNAV and INAV, and ION).
     ///
-    /// It gives an item, or the first [`Reason`] why a record of these kinds gives none; records of
-    /// other kinds, and no lines, are skipped.
+    /// It gives an item, or the first [`RecordFault`] why a record of these kinds gives none;
+    /// records of other kinds, and no lines, are skipped.
     pub fn judge(&self) -> Judged
         ensures { result ≡ judged self.now }
     {

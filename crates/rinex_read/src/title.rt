@@ -6,7 +6,7 @@ ghost use Rattle.rinex_read.specs.Judging.{is_kind, named, same_sat, sat_of, sat
 ghost use Rattle.rinex_read.specs.Mirrors.{kind_by};
 
 use crate::line::{PaddedLine, columns, stands_at};
-use crate::reason::Reason;
+use crate::reason::RecordFault;
 use nav_eph::{Sat, System};
 use scaled_decimal::is_decimal;
 
@@ -48,33 +48,33 @@ pub(crate) fn is_kind(kind: RecordKind, title: &PaddedLine) -> bool
 }
 
 // The satellite of a system with that number.
-fn named(system: System, number: u8) -> Result<Sat, Reason>
+fn named(system: System, number: u8) -> Result<Sat, RecordFault>
     ensures { result ≡ named system number }
 {
     match Sat::new(system, number) {
         Some(sat) => Ok(sat),
-        None => Err(Reason::BadSat),
+        None => Err(RecordFault::BadSat),
     }
 }
 
 // The satellite of a system with this two-digit number.
-fn satellite_of(system: System, tens: u8, ones: u8) -> Result<Sat, Reason>
+fn satellite_of(system: System, tens: u8, ones: u8) -> Result<Sat, RecordFault>
     ensures { result ≡ satellite_of system tens ones }
 {
     if !is_decimal(ones) {
-        return Err(Reason::BadSat);
+        return Err(RecordFault::BadSat);
     }
     if tens == b' ' {
         return named(system, ones - b'0');
     }
     if !is_decimal(tens) {
-        return Err(Reason::BadSat);
+        return Err(RecordFault::BadSat);
     }
     named(system, 10 * (tens - b'0') + (ones - b'0'))
 }
 
 /// The satellite of a title.
-pub(crate) fn sat_of(system: System, title: &PaddedLine) -> Result<Sat, Reason>
+pub(crate) fn sat_of(system: System, title: &PaddedLine) -> Result<Sat, RecordFault>
     ensures { result ≡ sat_of system title.now }
 {
     satellite_of(system, title[7], title[8])

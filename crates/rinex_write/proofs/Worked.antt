@@ -1,7 +1,7 @@
 -- The definitions compute known records, character by character.
 use Rattle.std.proofs.Common.{◌≡◌, refl, [], ◌∷◌, pos, negsuc, codes}
 use Rattle.scaled_decimal.specs.NumberText.{number_text, digits, place_from, parts_to}
-use Rattle.gnss_week.specs.Functions.{civil_to, moment_near, year_from, month_from}
+use Rattle.nav_eph.specs.Functions.{civil_to, moment_near, year_from, month_from}
 use Rattle.nav_eph.specs.declared.sat.System.TheVariants.{Gps, Gal}
 use Rattle.nav_eph.specs.declared.items.SentSecond.TheVariants.{At}
 use Rattle.nav_eph.specs.declared.ion.IonContent.TheVariants.{Gps as OfGps, Gal as OfGal}

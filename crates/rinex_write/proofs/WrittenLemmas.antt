@@ -4,7 +4,7 @@ use Rattle.std.proofs.lemmas.Bool.{and_parts, leb-true}
 use Rattle.scaled_decimal.specs.ScaleValue.{size_of}
 use Rattle.scaled_decimal.specs.NumberText.{digits, number_text, AreShown}
 use Rattle.scaled_decimal.proofs.Surface.{AreShown-number_text}
-use Rattle.gnss_week.specs.Functions.{civil_to}
+use Rattle.nav_eph.specs.Functions.{civil_to}
 use Rattle.nav_eph.specs.Satellite.{Satellite}
 use Rattle.nav_eph.specs.declared.sat.System.{System}
 use Rattle.nav_eph.specs.declared.sat.System.TheVariants.{Gps, Gal}

@@ -1,6 +1,6 @@
 -- Items as lists of fields, in the order of their columns, and the epochs of their records.
 use Rattle.std.specs.Prelude.{ℕ, ◌+◌, ◌*◌, List, [], ◌∷◌, Option, None, Some, ℤ, pos}
-use Rattle.gnss_week.specs.Functions.{moment_near}
+use Rattle.nav_eph.specs.Functions.{moment_near}
 use Rattle.nav_eph.specs.declared.items.NavItem.{NavItem}
 use Rattle.nav_eph.specs.declared.items.NavItem.TheVariants.{Gps, Gal, Ion}
 use Rattle.nav_eph.specs.declared.items.GpsEph.{GpsEph}

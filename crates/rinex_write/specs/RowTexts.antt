@@ -1,7 +1,7 @@
 -- The record of a row: a kind of any system, a satellite, a GPS time, and a number for each column.
 use Rattle.std.specs.Prelude.{ℕ, List, [], ◌∷◌, ◌++◌, codes, take, drop, ℤ}
 use Rattle.scaled_decimal.specs.NumberText.{digits}
-use Rattle.gnss_week.specs.Functions.{civil_to}
+use Rattle.nav_eph.specs.Functions.{civil_to}
 use Rattle.rinex_write.specs.declared.columns.Column.{Column}
 use Rattle.rinex_write.specs.Columns.{row_lines}
 use Rattle.rinex_write.specs.Texts.{date_text}

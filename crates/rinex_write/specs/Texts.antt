@@ -2,8 +2,8 @@
 use Rattle.std.specs.Prelude.{◌≡◌, ℕ, ◌+◌, ◌/◌, ◌%◌, ◌<◌, ◌==◌, nat_lt, Bool, false, if◌then◌else◌, List, [], ◌∷◌, ◌++◌, length, get_or, codes, ℤ}
 use Rattle.std.specs.List.{flat_map}
 use Rattle.scaled_decimal.specs.NumberText.{digits, AreShown}
-use Rattle.gnss_week.specs.declared.calendar.Civil.{Civil}
-use Rattle.gnss_week.specs.Functions.{civil_to}
+use Rattle.nav_eph.specs.declared.calendar.Civil.{Civil}
+use Rattle.nav_eph.specs.Functions.{civil_to}
 use Rattle.nav_eph.specs.Satellite.{Satellite}
 use Rattle.nav_eph.specs.declared.sat.System.{System}
 use Rattle.nav_eph.specs.declared.sat.System.TheVariants.{Gps, Gal}

@@ -6,9 +6,8 @@ ghost use Rattle.rinex_write.specs.Fields.{sent_field, gps_fields, galileo_field
 ghost use Rattle.rinex_write.specs.Fields.{gps_ionosphere_fields, galileo_ionosphere_fields};
 ghost use Rattle.rinex_write.specs.Mirrors.{IsSmall};
 
-use gnss_week::Week;
 use nav_bits::U;
-use nav_eph::{GalEph, GalHealth, GalIon, GpsEph, GpsIon, SentSecond, Sisa, Step16, Step60};
+use nav_eph::{GalEph, GalHealth, GalIon, GpsEph, GpsIon, SentSecond, Sisa, Step16, Step60, Week};
 
 // An unsigned number.
 fn unsigned<const W: u32>(number: &U<W>) -> i64

@@ -19,8 +19,9 @@ use crate::layouts::{
     RecordLayout, galileo_ionosphere_layout, galileo_layout, gps_ionosphere_layout, gps_layout,
 };
 use crate::record::{Record, append, append_table, date_columns, satellite_columns};
-use gnss_week::{Moment, Second, civil, nearest_moment};
-use nav_eph::{GalEph, GpsEph, IonContent, IonEph, NavItem, Sat};
+use nav_eph::{
+    GalEph, GpsEph, IonContent, IonEph, Moment, NavItem, Sat, Second, civil, nearest_moment,
+};
 use nav_io::{Failed, Sink};
 
 // Record type and message type in the title of a kind of record.

@@ -16,8 +16,7 @@ use crate::columns::{Column, NOT_KNOWN, Rule};
 use crate::layouts::RecordLayout;
 use crate::numbers::field_number;
 use arrayvec::ArrayVec;
-use gnss_week::Civil;
-use nav_eph::{Sat, System};
+use nav_eph::{Civil, Sat, System};
 use scaled_decimal::print;
 
 /// The text of a record or of a header; no memory is allocated.

@@ -11,7 +11,7 @@ ghost use Rattle.rinex_write.specs.declared.columns.Column.{Column};
 
 use crate::layouts::RecordLayout;
 use crate::record::{Record, append, append_table, date_columns, two_digits};
-use gnss_week::{Moment, civil};
+use nav_eph::{Moment, civil};
 use nav_io::{Failed, Sink};
 
 /// What is before the date of a row: its kind and its satellite.
@@ -119,7 +119,8 @@ pub fn write_row<T: Sink>(
     requires ready { AreReady layout.now.columns.now fields.now }
     ensures { (k : RowKind) → head.now.class ≡ k.class → head.now.message.now ≡ k.message
         → layout.now.columns.now ≡ joined_rows k.rows → layout.now.rows.now ≡ map length k.rows
-        → Writes (T.written out.old) (T.written out.new) (T.faults out.old) (T.faults out.new) result
+        → Writes (T.written out.old) (T.written out.new) (T.faults out.old)
+        (T.faults out.new) result
         (text_of (row_record k head.now.letter head.now.number moment fields.now)) }
 {
     let mut text = Record::new();
@@ -143,7 +144,8 @@ pub fn write_row_body<T: Sink>(
     requires ready { AreReady layout.now.columns.now fields.now }
     ensures { (rows : List (List Column)) → layout.now.columns.now ≡ joined_rows rows
         → layout.now.rows.now ≡ map length rows
-        → Writes (T.written out.old) (T.written out.new) (T.faults out.old) (T.faults out.new) result
+        → Writes (T.written out.old) (T.written out.new) (T.faults out.old)
+        (T.faults out.new) result
         (text_of (row_body rows head.now.letter head.now.number moment fields.now)) }
 {
     let mut text = Record::new();

@@ -1,29 +1,29 @@
 -- What is known of a payload that gives an ephemeris.
 use Rattle.std.proofs.Common.{◌≡◌, ℕ, ◌<◌, ◌≤◌, ◌&&◌, Bool, true, false, if◌then◌else◌, nat_eq, nat_le, nat_lt, refl, ap, ◌∙◌, arith, Result, Ok, Err}
 use Rattle.std.proofs.lemmas.Bool.Decides.{nat_tests}
-use Rattle.gnss_week.specs.Weeks.{IsGpsWeek, IsGalileoWeek}
+use Rattle.nav_eph.specs.Weeks.{IsGpsWeek, IsGalileoWeek}
 use Rattle.nav_eph.specs.declared.items.GpsEph.{GpsEph}
 use Rattle.nav_eph.specs.declared.items.GalEph.{GalEph}
 use Rattle.nav_eph.specs.declared.items.NavItem.TheVariants.{Gps as GpsItem, Gal as GalItem}
 use Rattle.rtcm_eph.specs.declared.message1019.Message1019.{Message1019}
 use Rattle.rtcm_eph.specs.declared.message1046.Message1046.{Message1046}
-use Rattle.rtcm_eph.specs.declared.content.Content.{Content}
-use Rattle.rtcm_eph.specs.declared.content.Content.TheVariants.{Gps as OfGps, Gal as OfGal}
+use Rattle.rtcm_eph.specs.declared.content.EphemerisMessage.{EphemerisMessage}
+use Rattle.rtcm_eph.specs.declared.content.EphemerisMessage.TheVariants.{Gps as OfGps, Gal as OfGal}
 use Rattle.rtcm_eph.specs.declared.fault.MessageFault.{MessageFault}
 use Rattle.rtcm_eph.specs.declared.fault.MessageFault.TheVariants.{NoNumber, OtherMessage, Short, BadSat, BadTime, SpareSisa}
 use Rattle.rtcm_eph.specs.Reading.{GivesItem, content_1019, content_1046, content_by, gps_eph, gal_eph, judged_1019, judged_1046, is_sisa}
 
 -- the choice of the first fault, over any tests
-abbrev by_tests : Bool → Bool → Bool → Bool → Bool → ℕ → Result Content MessageFault → Result Content MessageFault → Result Content MessageFault
+abbrev by_tests : Bool → Bool → Bool → Bool → Bool → ℕ → Result EphemerisMessage MessageFault → Result EphemerisMessage MessageFault → Result EphemerisMessage MessageFault
 by_tests none is_gps short_gps is_gal short_gal number gps gal =
     if none then Err NoNumber
     else (if is_gps then (if short_gps then Err Short else gps)
     else (if is_gal then (if short_gal then Err Short else gal) else Err (OtherMessage number)))
 
-abbrev judged_gps : Bool → Bool → Message1019 → Result Content MessageFault
+abbrev judged_gps : Bool → Bool → Message1019 → Result EphemerisMessage MessageFault
 judged_gps sat times m = if sat then (if times then Ok (OfGps (content_1019 m)) else Err BadTime) else Err BadSat
 
-abbrev judged_gal : Bool → Bool → Bool → Message1046 → Result Content MessageFault
+abbrev judged_gal : Bool → Bool → Bool → Message1046 → Result EphemerisMessage MessageFault
 judged_gal sat times sisa m =
     if sat then (if times then (if sisa then Ok (OfGal (content_1046 m)) else Err SpareSisa) else Err BadTime) else Err BadSat
 

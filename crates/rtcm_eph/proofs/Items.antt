@@ -3,9 +3,9 @@ use Rattle.std.proofs.Common.{◌≡◌, ℕ, ◌*◌, ◌<◌, ◌≤◌, ◌^�
 use Rattle.std.specs.List.{AllByRecursion}
 use Rattle.std.proofs.lemmas.Bool.{and_parts, cond_both, eqb-true, leb-true, ltb-true}
 use Rattle.std.proofs.lemmas.List.Elements.{All-from_recursion, All-weaker}
-use Rattle.gnss_week.specs.Functions.{galileo_week_to, gps_week_to}
-use Rattle.gnss_week.specs.Weeks.{IsGalileoWeek, IsGpsWeek, IsReference, IsWeek}
-use Rattle.gnss_week.proofs.Surface.{galileo_week-meant, galileo_week-only, gps_week-meant, gps_week-only}
+use Rattle.nav_eph.specs.Functions.{galileo_week_to, gps_week_to}
+use Rattle.nav_eph.specs.Weeks.{IsGalileoWeek, IsGpsWeek, IsReference, IsWeek}
+use Rattle.nav_eph.proofs.Surface.{galileo_week-meant, galileo_week-only, gps_week-meant, gps_week-only}
 use Rattle.nav_bits.specs.Bits.{number_at}
 use Rattle.nav_bits.specs.Laws.{number_at-lt}
 use Rattle.nav_bits.proofs.Surface.{signed_of-fits}
@@ -19,10 +19,10 @@ use Rattle.nav_eph.specs.declared.sat.System.TheVariants.{Gps as GpsSystem, Gal 
 use Rattle.nav_eph.specs.declared.items.NavItem.{NavItem}
 use Rattle.nav_eph.specs.declared.items.NavItem.TheVariants.{Gps as GpsItem, Gal as GalItem, Ion as IonItem}
 use Rattle.nav_eph.specs.declared.part.Part.{Part}
-use Rattle.rtcm_eph.specs.declared.content.Content.{Content}
+use Rattle.rtcm_eph.specs.declared.content.EphemerisMessage.{EphemerisMessage}
 use Rattle.rtcm_eph.specs.declared.content.GpsContent.{GpsContent}
 use Rattle.rtcm_eph.specs.declared.content.GalContent.{GalContent}
-use Rattle.rtcm_eph.specs.declared.content.Content.TheVariants.{Gps as OfGps, Gal as OfGal}
+use Rattle.rtcm_eph.specs.declared.content.EphemerisMessage.TheVariants.{Gps as OfGps, Gal as OfGal}
 use Rattle.rtcm_eph.specs.declared.fault.MessageFault.{MessageFault}
 use Rattle.rtcm_eph.specs.declared.read.MessageParts.{MessageParts}
 use Rattle.rtcm_eph.specs.Messages.{message1019_at, message1046_at}
@@ -54,7 +54,7 @@ record HasGalFields (c : GalContent) : Type 0 where
   issue3 : c.w3.iodnav ≡ c.w1.iodnav
   issue4 : c.w4.iodnav ≡ c.w1.iodnav
 
-abbrev HasFields : Result Content MessageFault → Type 0
+abbrev HasFields : Result EphemerisMessage MessageFault → Type 0
 HasFields (Ok (OfGps c)) = HasGpsFields c
 HasFields (Ok (OfGal c)) = HasGalFields c
 HasFields (Err fault) = Unit {0}
@@ -131,7 +131,7 @@ content_fits payload =
 -- ---- the item
 
 -- each answer is that of `item_in`
-gives_only : (r : ℕ) (x : Result Content MessageFault) (answer : Result NavItem MessageFault) → GivesItem r x answer → answer ≡ item_of r x
+gives_only : (r : ℕ) (x : Result EphemerisMessage MessageFault) (answer : Result NavItem MessageFault) → GivesItem r x answer → answer ≡ item_of r x
 gives_only r (Ok (OfGps c)) (Ok (GpsItem e)) is = let week : e.toe_week ≡ gps_week_to r c.week = gps_week-only r c.week e.toe_week is.0 in ap (λ x. Ok (GpsItem x)) is.1 ∙ ap (λ w. Ok (GpsItem (gps_eph c w))) week
 gives_only r (Ok (OfGal c)) (Ok (GalItem e)) is = let week : e.toe_week ≡ galileo_week_to r c.week = galileo_week-only r c.week e.toe_week is.0 in ap (λ x. Ok (GalItem x)) is.1 ∙ ap (λ w. Ok (GalItem (gal_eph c w))) week
 gives_only r (Ok (OfGps c)) (Ok (GalItem e)) is = absurd is
@@ -146,7 +146,7 @@ pub item_only : (r : ℕ) (payload : List ℕ) (answer : Result NavItem MessageF
 unfolding item_in
 item_only r payload answer gives = gives_only r (content_of payload) answer gives
 
-gives_by : (r : ℕ) (x : Result Content MessageFault) → IsReference r → HasFields x → GivesItem r x (item_of r x)
+gives_by : (r : ℕ) (x : Result EphemerisMessage MessageFault) → IsReference r → HasFields x → GivesItem r x (item_of r x)
 gives_by r (Ok (OfGps c)) reference has = (gps_week-meant r c.week reference has.week, refl)
 gives_by r (Ok (OfGal c)) reference has = (galileo_week-meant r c.week reference has.week, refl)
 gives_by r (Err fault) reference has = refl
@@ -162,7 +162,7 @@ gps_week_is r n w reference is = (omega (arith, reference.0, is.from), omega (ar
 galileo_week_is : (r n w : ℕ) → IsReference r → IsGalileoWeek r n w → IsWeek w
 galileo_week_is r n w reference is = (omega (arith, is.from), omega (arith, reference.1, is.to))
 
-whole_by : (r : ℕ) (x : Result Content MessageFault) → IsReference r → HasFields x → IfOk (item_of r x) IsItem
+whole_by : (r : ℕ) (x : Result EphemerisMessage MessageFault) → IsReference r → HasFields x → IfOk (item_of r x) IsItem
 whole_by r (Ok (OfGps c)) reference has = record {
   ranges = record {
     sat = has.sat;
@@ -196,32 +196,32 @@ item_whole r payload reference = whole_by r (content_of payload) reference (cont
 -- ---- the parts
 
 -- what holds of each part
-record IsHeardPart (stamp : ℕ) (p : Part) : Type 0 where
+record IsReceivedPart (stamp : ℕ) (p : Part) : Type 0 where
   at : p.stamp ≡ stamp
   part : IsPart p.sat p.body
   value : stamp < 2 ^ 32 → IsPartValue p
   ranges : HasPartRanges p
 
-abbrev AreHeard : ℕ → Result MessageParts MessageFault → Type 0
-AreHeard stamp (Ok parts) = All (IsHeardPart stamp) (all_parts parts)
-AreHeard stamp (Err fault) = Unit {0}
+abbrev AreWordsReceived : ℕ → Result MessageParts MessageFault → Type 0
+AreWordsReceived stamp (Ok parts) = All (IsReceivedPart stamp) (all_parts parts)
+AreWordsReceived stamp (Err fault) = Unit {0}
 
-heard_by : (stamp : ℕ) (x : Result Content MessageFault) → HasFields x → AreHeard stamp (parts_of stamp x)
+heard_by : (stamp : ℕ) (x : Result EphemerisMessage MessageFault) → HasFields x → AreWordsReceived stamp (parts_of stamp x)
 heard_by stamp (Ok (OfGps c)) has =
     let second : 16 * c.a.toe < 604800 = omega (arith, has.a.toe) in
     let wn : c.week < 4096 = omega (arith, has.week) in
     let ten : c.week < 1024 = has.week in
-    let each : AllByRecursion (IsHeardPart stamp) (all_parts (gps_parts stamp c)) = (
+    let each : AllByRecursion (IsReceivedPart stamp) (all_parts (gps_parts stamp c)) = (
       record { at = refl; part = record { system = has.system; week = ten }; value = λ low. record { stamp = low; body = (has.side, (wn, second)) }; ranges = record { sat = has.sat; body = (has.clock, has.side) } },
       (
         record { at = refl; part = record { system = has.system; week = tt }; value = λ low. record { stamp = low; body = tt }; ranges = record { sat = has.sat; body = (has.a, has.fit) } },
         (record { at = refl; part = record { system = has.system; week = tt }; value = λ low. record { stamp = low; body = tt }; ranges = record { sat = has.sat; body = has.b } }, tt),
       ),
     ) in
-    All-from_recursion (IsHeardPart stamp) (all_parts (gps_parts stamp c)) each
+    All-from_recursion (IsReceivedPart stamp) (all_parts (gps_parts stamp c)) each
 heard_by stamp (Ok (OfGal c)) has =
     let second : 60 * c.w1.toe < 604800 = omega (arith, has.w1.toe) in
-    let each : AllByRecursion (IsHeardPart stamp) (all_parts (gal_parts stamp c)) = (
+    let each : AllByRecursion (IsReceivedPart stamp) (all_parts (gal_parts stamp c)) = (
       record { at = refl; part = record { system = has.system; week = tt }; value = λ low. record { stamp = low; body = tt }; ranges = record { sat = has.sat; body = has.w1 } },
       (
         record { at = refl; part = record { system = has.system; week = tt }; value = λ low. record { stamp = low; body = tt }; ranges = record { sat = has.sat; body = has.w2 } },
@@ -234,21 +234,21 @@ heard_by stamp (Ok (OfGal c)) has =
         ),
       ),
     ) in
-    All-from_recursion (IsHeardPart stamp) (all_parts (gal_parts stamp c)) each
+    All-from_recursion (IsReceivedPart stamp) (all_parts (gal_parts stamp c)) each
 heard_by stamp (Err fault) has = tt
 
-heard : (payload : List ℕ) (stamp : ℕ) (parts : MessageParts) → parts_of stamp (content_of payload) ≡ Ok parts → All (IsHeardPart stamp) (all_parts parts)
-heard payload stamp parts e = subst (AreHeard stamp) e (heard_by stamp (content_of payload) (content_fits payload))
+heard : (payload : List ℕ) (stamp : ℕ) (parts : MessageParts) → parts_of stamp (content_of payload) ≡ Ok parts → All (IsReceivedPart stamp) (all_parts parts)
+heard payload stamp parts e = subst (AreWordsReceived stamp) e (heard_by stamp (content_of payload) (content_fits payload))
 
 pub parts_stamp : (payload : List ℕ) (stamp : ℕ) (parts : MessageParts) → parts_of stamp (content_of payload) ≡ Ok parts → All (λ part. part.stamp ≡ stamp) (all_parts parts)
-parts_stamp payload stamp parts e = All-weaker (IsHeardPart stamp) (λ part. part.stamp ≡ stamp) (λ p h. h.at) (all_parts parts) (heard payload stamp parts e)
+parts_stamp payload stamp parts e = All-weaker (IsReceivedPart stamp) (λ part. part.stamp ≡ stamp) (λ p h. h.at) (all_parts parts) (heard payload stamp parts e)
 
 pub parts_sendable : (payload : List ℕ) (stamp : ℕ) (parts : MessageParts) → parts_of stamp (content_of payload) ≡ Ok parts
     → All (λ part. IsPart part.sat part.body) (all_parts parts)
-parts_sendable payload stamp parts e = All-weaker (IsHeardPart stamp) (λ part. IsPart part.sat part.body) (λ p h. h.part) (all_parts parts) (heard payload stamp parts e)
+parts_sendable payload stamp parts e = All-weaker (IsReceivedPart stamp) (λ part. IsPart part.sat part.body) (λ p h. h.part) (all_parts parts) (heard payload stamp parts e)
 
 pub parts_value : (payload : List ℕ) (stamp : ℕ) (parts : MessageParts) → stamp < 2 ^ 32 → parts_of stamp (content_of payload) ≡ Ok parts → All IsPartValue (all_parts parts)
-parts_value payload stamp parts low e = All-weaker (IsHeardPart stamp) IsPartValue (λ p h. h.value low) (all_parts parts) (heard payload stamp parts e)
+parts_value payload stamp parts low e = All-weaker (IsReceivedPart stamp) IsPartValue (λ p h. h.value low) (all_parts parts) (heard payload stamp parts e)
 
 pub parts_ranges : (payload : List ℕ) (stamp : ℕ) (parts : MessageParts) → parts_of stamp (content_of payload) ≡ Ok parts → All HasPartRanges (all_parts parts)
-parts_ranges payload stamp parts e = All-weaker (IsHeardPart stamp) HasPartRanges (λ p h. h.ranges) (all_parts parts) (heard payload stamp parts e)
+parts_ranges payload stamp parts e = All-weaker (IsReceivedPart stamp) HasPartRanges (λ p h. h.ranges) (all_parts parts) (heard payload stamp parts e)

@@ -4,8 +4,8 @@ use Rattle.std.proofs.lemmas.Bool.{and_parts, cond_both, eqb-false, eqb-true, le
 use Rattle.nav_bits.specs.Bits.{number_at}
 use Rattle.rtcm_eph.specs.declared.message1019.Message1019.{Message1019}
 use Rattle.rtcm_eph.specs.declared.message1046.Message1046.{Message1046}
-use Rattle.rtcm_eph.specs.declared.content.Content.{Content}
-use Rattle.rtcm_eph.specs.declared.content.Content.TheVariants.{Gps as OfGps, Gal as OfGal}
+use Rattle.rtcm_eph.specs.declared.content.EphemerisMessage.{EphemerisMessage}
+use Rattle.rtcm_eph.specs.declared.content.EphemerisMessage.TheVariants.{Gps as OfGps, Gal as OfGal}
 use Rattle.rtcm_eph.specs.declared.fault.MessageFault.{MessageFault}
 use Rattle.rtcm_eph.specs.declared.fault.MessageFault.TheVariants.{NoNumber, OtherMessage, Short, BadSat, BadTime, SpareSisa}
 use Rattle.rtcm_eph.specs.Faults.{HasFaultBy, IsFirstFault, IsFirstOf, order_of}
@@ -84,7 +84,7 @@ order-lt BadTime = omega arith
 order-lt SpareSisa = omega arith
 
 -- the answer is the fault of lowest rank, or there is none
-abbrev Judges : (MessageFault → Type 0) → Result Content MessageFault → Type 0
+abbrev Judges : (MessageFault → Type 0) → Result EphemerisMessage MessageFault → Type 0
 Judges has_fault (Ok content) = (fault : MessageFault) → has_fault fault → ⊥
 Judges has_fault (Err fault) = IsFirstOf has_fault fault
 
@@ -146,7 +146,7 @@ gal_judged bytes number m w some is size =
 
 judges : (bytes number : ℕ) (m : Message1019) (w : Message1046) → Judges (HasFaultBy bytes number m w) (content_by bytes number m w)
 judges bytes number m w =
-    let M : Result Content MessageFault → Type 0 = Judges (HasFaultBy bytes number m w) in
+    let M : Result EphemerisMessage MessageFault → Type 0 = Judges (HasFaultBy bytes number m w) in
     cond_both (nat_lt bytes 2) _ _ M
     (λ none. record {
       has = ltb-true bytes 2 none;
@@ -202,7 +202,7 @@ one_first bytes number m w a b x y =
     let same : order_of a ≡ order_of b = omega (arith, not_below, not_above) in
     is_at bytes number m w a x.has ∙ ap (fault_at number) same ∙ sym (is_at bytes number m w b y.has)
 
-by_judge : (bytes number : ℕ) (m : Message1019) (w : Message1046) (r : Result Content MessageFault) (fault : MessageFault)
+by_judge : (bytes number : ℕ) (m : Message1019) (w : Message1046) (r : Result EphemerisMessage MessageFault) (fault : MessageFault)
     → Judges (HasFaultBy bytes number m w) r → IsFirstOf (HasFaultBy bytes number m w) fault → r ≡ Err fault
 by_judge bytes number m w (Ok content) fault none is = absurd (none fault is.has)
 by_judge bytes number m w (Err other) fault first is = ap Err (one_first bytes number m w other fault first is)
@@ -227,11 +227,11 @@ abbrev fault_or : {A : Type 0} → MessageFault → Result A MessageFault → Me
 fault_or other (Ok value) = other
 fault_or other (Err fault) = fault
 
-pub item_refused : (r : ℕ) (c : Result Content MessageFault) (fault : MessageFault) → (item_of r c ≡ Err fault) ↔ (c ≡ Err fault)
+pub item_refused : (r : ℕ) (c : Result EphemerisMessage MessageFault) (fault : MessageFault) → (item_of r c ≡ Err fault) ↔ (c ≡ Err fault)
 item_refused r (Ok content) fault = (λ e. absurd (subst IsRefused (sym e) tt), λ e. ap (item_of r) e)
 item_refused r (Err other) fault = (λ e. ap Err (ap (fault_or other) e), λ e. ap (item_of r) e)
 
-pub parts_refused : (stamp : ℕ) (c : Result Content MessageFault) (fault : MessageFault) → (parts_of stamp c ≡ Err fault) ↔ (c ≡ Err fault)
+pub parts_refused : (stamp : ℕ) (c : Result EphemerisMessage MessageFault) (fault : MessageFault) → (parts_of stamp c ≡ Err fault) ↔ (c ≡ Err fault)
 parts_refused stamp (Ok (OfGps c)) fault = (λ e. absurd (subst IsRefused (sym e) tt), λ e. ap (parts_of stamp) e)
 parts_refused stamp (Ok (OfGal c)) fault = (λ e. absurd (subst IsRefused (sym e) tt), λ e. ap (parts_of stamp) e)
 parts_refused stamp (Err other) fault = (λ e. ap Err (ap (fault_or other) e), λ e. ap (parts_of stamp) e)

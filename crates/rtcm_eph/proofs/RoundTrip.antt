@@ -4,7 +4,7 @@ use Rattle.std.proofs.lemmas.Bool.Decides.{nat_tests}
 use Rattle.nav_bits.specs.Bits.{bit, number_at}
 use Rattle.nav_bits.specs.Fields.{StandFrom}
 use Rattle.nav_bits.specs.Laws.{number_at-lt}
-use Rattle.gnss_week.specs.Weeks.{IsGpsWeek, IsGalileoWeek}
+use Rattle.nav_eph.specs.Weeks.{IsGpsWeek, IsGalileoWeek}
 use Rattle.nav_eph.specs.Satellite.{IsSat}
 use Rattle.nav_eph.specs.Steps.{IsSisa}
 use Rattle.nav_eph.specs.declared.sat.System.{System}
@@ -16,14 +16,14 @@ use Rattle.nav_eph.specs.declared.items.NavItem.TheVariants.{Gps as GpsItem, Gal
 use Rattle.nav_eph.specs.declared.items.SentSecond.TheVariants.{Unknown}
 use Rattle.rtcm_eph.specs.declared.message1019.Message1019.{Message1019}
 use Rattle.rtcm_eph.specs.declared.message1046.Message1046.{Message1046}
-use Rattle.rtcm_eph.specs.declared.content.Content.{Content}
-use Rattle.rtcm_eph.specs.declared.content.Content.TheVariants.{Gps as OfGps, Gal as OfGal}
+use Rattle.rtcm_eph.specs.declared.content.EphemerisMessage.{EphemerisMessage}
+use Rattle.rtcm_eph.specs.declared.content.EphemerisMessage.TheVariants.{Gps as OfGps, Gal as OfGal}
 use Rattle.rtcm_eph.specs.declared.fault.MessageFault.{MessageFault}
 use Rattle.rtcm_eph.specs.Messages.{fields_1019, fields_1046, message1019_at, message1046_at}
 use Rattle.rtcm_eph.specs.Reading.{GivesItem, content_1019, content_1046, content_by, content_of, gps_eph, gal_eph, is_sisa}
 use Rattle.rtcm_eph.specs.Writing.{message_1019, message_1046}
 use Rattle.rtcm_eph.specs.RoundTrip.{AreBytes, Begins1019, Begins1046, IsGal, IsGps}
-use Rattle.gnss_week.specs.Weeks.{IsNearGalileo, IsNearGps}
+use Rattle.nav_eph.specs.Weeks.{IsNearGalileo, IsNearGps}
 use Rattle.rtcm_eph.proofs.Contents.{GivenGps, GivenGal, given_gps, given_gal, good_1019, good_1046, content_gps, content_gal}
 use Rattle.rtcm_eph.proofs.Heads.{same_bytes}
 use Rattle.rtcm_eph.proofs.Tables.{same_table}
@@ -190,11 +190,11 @@ pub sent_is_read_1019 : (e : GpsEph) (payload : List ℕ) (r : ℕ) (answer : Re
     → answer ≡ Ok (GpsItem (record e { sent = Unknown }))
 sent_is_read_1019 e payload r answer g near begins given =
     answer_1019 e r g near answer
-    (subst (λ (c : Result Content MessageFault). GivesItem r c answer) (sent_content_1019 e payload g begins) given)
+    (subst (λ (c : Result EphemerisMessage MessageFault). GivesItem r c answer) (sent_content_1019 e payload g begins) given)
 
 pub sent_is_read_1046 : (e : GalEph) (payload : List ℕ) (r : ℕ) (answer : Result NavItem MessageFault) → IsGal e
     → IsNearGalileo r e.toe_week → Begins1046 payload e → GivesItem r (content_of payload) answer
     → answer ≡ Ok (GalItem (record e { sent = Unknown }))
 sent_is_read_1046 e payload r answer g near begins given =
     answer_1046 e r g near answer
-    (subst (λ (c : Result Content MessageFault). GivesItem r c answer) (sent_content_1046 e payload g begins) given)
+    (subst (λ (c : Result EphemerisMessage MessageFault). GivesItem r c answer) (sent_content_1046 e payload g begins) given)

@@ -1,8 +1,8 @@
 -- What the payload of an ephemeris message carries, or its first error.
 use Rattle.std.specs.Prelude.{◌≡◌, ℕ, ◌*◌, ◌&&◌, ◌||◌, Bool, List, [], ◌∷◌, length, nat_eq, nat_le, nat_lt, if◌then◌else◌, Result, Ok, Err}
 use Rattle.nav_bits.specs.Bits.{number_at}
-use Rattle.gnss_week.specs.Functions.{galileo_week_to, gps_week_to}
-use Rattle.gnss_week.specs.Weeks.{IsGpsWeek, IsGalileoWeek}
+use Rattle.nav_eph.specs.Functions.{galileo_week_to, gps_week_to}
+use Rattle.nav_eph.specs.Weeks.{IsGpsWeek, IsGalileoWeek}
 use Rattle.nav_eph.specs.declared.part.Part.{Part}
 use Rattle.nav_eph.specs.Conditions.{IsPart}
 use Rattle.nav_eph.specs.declared.sat.System.TheVariants.{Gps, Gal}
@@ -17,8 +17,8 @@ use Rattle.rtcm_eph.specs.declared.message1019.Message1019.{Message1019}
 use Rattle.rtcm_eph.specs.declared.message1046.Message1046.{Message1046}
 use Rattle.rtcm_eph.specs.declared.content.GpsContent.{GpsContent}
 use Rattle.rtcm_eph.specs.declared.content.GalContent.{GalContent}
-use Rattle.rtcm_eph.specs.declared.content.Content.{Content}
-use Rattle.rtcm_eph.specs.declared.content.Content.TheVariants.{Gps as OfGps, Gal as OfGal}
+use Rattle.rtcm_eph.specs.declared.content.EphemerisMessage.{EphemerisMessage}
+use Rattle.rtcm_eph.specs.declared.content.EphemerisMessage.TheVariants.{Gps as OfGps, Gal as OfGal}
 use Rattle.rtcm_eph.specs.declared.fault.MessageFault.{MessageFault}
 use Rattle.rtcm_eph.specs.declared.fault.MessageFault.TheVariants.{NoNumber, OtherMessage, Short, BadSat, BadTime, SpareSisa}
 use Rattle.rtcm_eph.specs.declared.read.MessageParts.{MessageParts}
@@ -95,7 +95,7 @@ content_1046 m = record {
 
 -- message 1019 is accepted if its satellite is 1 to 32 and its times are within the week, in steps
 -- of 16 s
-abbrev pub judged_1019 : Message1019 → Result Content MessageFault
+abbrev pub judged_1019 : Message1019 → Result EphemerisMessage MessageFault
 judged_1019 m =
     if nat_le 1 m.satellite && nat_le m.satellite 32
     then (if nat_lt m.toe 37800 && nat_lt m.toc 37800 then Ok (OfGps (content_1019 m)) else Err BadTime)
@@ -107,7 +107,7 @@ is_sisa n = nat_le n 125 || nat_eq n 255
 
 -- message 1046 is accepted if its satellite is 1 to 36, its times are within the week, in steps of
 -- 60 s, and its SISA index is not spare
-abbrev pub judged_1046 : Message1046 → Result Content MessageFault
+abbrev pub judged_1046 : Message1046 → Result EphemerisMessage MessageFault
 judged_1046 m =
     if nat_le 1 m.satellite && nat_le m.satellite 36
     then (if nat_lt m.toe 10080 && nat_lt m.toc 10080
@@ -117,7 +117,7 @@ judged_1046 m =
 -- what a payload of this many bytes with this message number carries, gps and gal being its fields
 -- as either message. The first of: fewer than two bytes, another message, fewer bytes than the
 -- message takes, an error of its fields
-abbrev pub content_by : ℕ → ℕ → Message1019 → Message1046 → Result Content MessageFault
+abbrev pub content_by : ℕ → ℕ → Message1019 → Message1046 → Result EphemerisMessage MessageFault
 content_by bytes number gps gal =
     if nat_lt bytes 2 then Err NoNumber
     else (if nat_eq number 1019 then (if nat_lt bytes 61 then Err Short else judged_1019 gps)
@@ -125,7 +125,7 @@ content_by bytes number gps gal =
     else Err (OtherMessage number)))
 
 -- what a payload carries, or its first error
-abbrev pub content_of : List ℕ → Result Content MessageFault
+abbrev pub content_of : List ℕ → Result EphemerisMessage MessageFault
 content_of payload = content_by (length payload) (number_at payload 0 12) (message1019_at payload 0) (message1046_at payload 0)
 
 -- the parts of an ephemeris received at a second of the logger; the clock names the week and toe
@@ -143,7 +143,7 @@ gal_parts stamp c = GalParts
     (record { stamp = stamp; sat = c.sat; body = GalW4 c.w4 })
     (record { stamp = stamp; sat = c.sat; body = GalHealth c.health (Toe c.week (60 * c.w1.toe)) })
 
-abbrev pub parts_of : ℕ → Result Content MessageFault → Result MessageParts MessageFault
+abbrev pub parts_of : ℕ → Result EphemerisMessage MessageFault → Result MessageParts MessageFault
 parts_of stamp (Ok (OfGps c)) = Ok (gps_parts stamp c)
 parts_of stamp (Ok (OfGal c)) = Ok (gal_parts stamp c)
 parts_of stamp (Err fault) = Err fault
@@ -155,7 +155,7 @@ ArePartsOf (GalParts w1 w2 w3 w4 health) =
     IsPart w1.sat w1.body × IsPart w2.sat w2.body × IsPart w3.sat w3.body × IsPart w4.sat w4.body × IsPart health.sat health.body
 
 -- the satellite is one of the message's system
-abbrev pub IsOfSystem : Content → Type 0
+abbrev pub IsOfSystem : EphemerisMessage → Type 0
 IsOfSystem (OfGps c) = c.sat.system ≡ Gps
 IsOfSystem (OfGal c) = c.sat.system ≡ Gal
 
@@ -185,13 +185,13 @@ gal_eph c week = record {
 }
 
 -- the item is the content's ephemeris, its week being the one near reference week r with the message's week number
-abbrev pub IsItemOf : ℕ → Content → NavItem → Type 0
+abbrev pub IsItemOf : ℕ → EphemerisMessage → NavItem → Type 0
 IsItemOf r (OfGps c) (GpsItem e) = IsGpsWeek r c.week e.toe_week × (e ≡ gps_eph c e.toe_week)
 IsItemOf r (OfGal c) (GalItem e) = IsGalileoWeek r c.week e.toe_week × (e ≡ gal_eph c e.toe_week)
 IsItemOf _ _ _ = ⊥
 
 -- the result for a payload: an item of its content, or its error
-abbrev pub GivesItem : ℕ → Result Content MessageFault → Result NavItem MessageFault → Type 0
+abbrev pub GivesItem : ℕ → Result EphemerisMessage MessageFault → Result NavItem MessageFault → Type 0
 GivesItem r (Ok content) (Ok item) = IsItemOf r content item
 GivesItem r (Err fault) (Err answer) = answer ≡ fault
 GivesItem _ _ _ = ⊥
@@ -199,11 +199,11 @@ GivesItem _ _ _ = ⊥
 -- ---- the same as functions
 
 -- the ephemeris of a content near reference week r
-abbrev pub item_with : ℕ → Content → NavItem
+abbrev pub item_with : ℕ → EphemerisMessage → NavItem
 item_with r (OfGps c) = GpsItem (gps_eph c (gps_week_to r c.week))
 item_with r (OfGal c) = GalItem (gal_eph c (galileo_week_to r c.week))
 
-abbrev pub item_of : ℕ → Result Content MessageFault → Result NavItem MessageFault
+abbrev pub item_of : ℕ → Result EphemerisMessage MessageFault → Result NavItem MessageFault
 item_of r (Ok content) = Ok (item_with r content)
 item_of r (Err fault) = Err fault
 

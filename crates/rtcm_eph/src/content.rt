@@ -43,7 +43,7 @@ pub struct GalContent {
 
 /// What an ephemeris message carries.
 #[derive(Clone, Copy)]
-pub enum Content {
+pub enum EphemerisMessage {
     /// Message 1019.
     Gps(GpsContent),
     /// Message 1046.

@@ -4,7 +4,7 @@ ghost use Rattle.nav_eph.specs.declared.sat.System.TheVariants.{Gal};
 ghost use Rattle.rtcm_eph.specs.Reading.{IsOfSystem, content_1046, judged_1046};
 ghost use Rattle.rtcm_eph.specs.Writing.{message_1046};
 
-use crate::content::{Content, GalContent};
+use crate::content::{EphemerisMessage, GalContent};
 use crate::fault::MessageFault;
 use crate::message1046::Message1046;
 use crate::satellite::{accuracy_of, index_of, sat_number, satellite_of};
@@ -86,7 +86,7 @@ fn health(m: &Message1046) -> GalHealth
 }
 
 // What message 1046 carries, or its first fault.
-pub(crate) fn judge_1046(m: &Message1046) -> Result<Content, MessageFault>
+pub(crate) fn judge_1046(m: &Message1046) -> Result<EphemerisMessage, MessageFault>
     ensures judged { result ≡ judged_1046 m.now }
     ensures system { IfOk result IsOfSystem }
 {
@@ -106,7 +106,7 @@ pub(crate) fn judge_1046(m: &Message1046) -> Result<Content, MessageFault>
         Some(sisa) => sisa,
         None => return Err(MessageFault::SpareSisa),
     };
-    Ok(Content::Gal(GalContent {
+    Ok(EphemerisMessage::Gal(GalContent {
         sat,
         week: m.week,
         w1: word1(m, toe),

@@ -4,7 +4,7 @@ ghost use Rattle.nav_eph.specs.declared.sat.System.TheVariants.{Gps};
 ghost use Rattle.rtcm_eph.specs.Reading.{IsOfSystem, content_1019, judged_1019};
 ghost use Rattle.rtcm_eph.specs.Writing.{message_1019};
 
-use crate::content::{Content, GpsContent};
+use crate::content::{EphemerisMessage, GpsContent};
 use crate::fault::MessageFault;
 use crate::message1019::Message1019;
 use crate::satellite::{sat_number, satellite_of};
@@ -74,7 +74,7 @@ fn orbit_b(m: &Message1019) -> GpsOrbitB
 }
 
 // What message 1019 carries, or its first fault.
-pub(crate) fn judge_1019(m: &Message1019) -> Result<Content, MessageFault>
+pub(crate) fn judge_1019(m: &Message1019) -> Result<EphemerisMessage, MessageFault>
     ensures judged { result ≡ judged_1019 m.now }
     ensures system { IfOk result IsOfSystem }
 {
@@ -90,7 +90,7 @@ pub(crate) fn judge_1019(m: &Message1019) -> Result<Content, MessageFault>
         Some(toc) => toc,
         None => return Err(MessageFault::BadTime),
     };
-    Ok(Content::Gps(GpsContent {
+    Ok(EphemerisMessage::Gps(GpsContent {
         sat,
         week: m.week,
         clock: clock(m, toc),

@@ -21,7 +21,7 @@ ghost use Rattle.rtcm_eph.specs.declared.read.MessageParts.{MessageParts};
 ghost use Rattle.rtcm_eph.specs.Reading.{GivesItem, all_parts, content_of, item_in, parts_of};
 ghost use Rattle.rtcm_eph.specs.Writing.{bytes_1019, bytes_1046, message_1019, message_1046};
 ghost use Rattle.rtcm_eph.specs.RoundTrip.{AreBytes, Begins1019, Begins1046, IsGal, IsGps};
-ghost use Rattle.gnss_week.specs.Weeks.{IsNearGalileo, IsNearGps, IsReference};
+ghost use Rattle.nav_eph.specs.Weeks.{IsNearGalileo, IsNearGps, IsReference};
 
 /// If the fields of message 1019 are in some bits, reading at their bit offsets gives these fields.
 pub fn one_message_1019()

@@ -9,7 +9,7 @@
 //! - [`write_1019`] and [`write_1046`] give the payload of an ephemeris.
 //!
 //! ```rust
-//! use gnss_week::RefWeek;
+//! use nav_eph::RefWeek;
 //! use rtcm_eph::{MessageFault, read_item};
 //!
 //! let reference = RefWeek::new(2295).ok_or("a reference week")?;
@@ -29,7 +29,7 @@ mod read;
 mod satellite;
 mod write;
 
-pub use crate::content::{Content, GalContent, GpsContent};
+pub use crate::content::{EphemerisMessage, GalContent, GpsContent};
 pub use crate::fault::MessageFault;
 pub use crate::laws::{
     item_function, message_bytes, message_parts, messages_are_the_functions, one_message_1019,

@@ -6,15 +6,17 @@ ghost use Rattle.nav_eph.specs.Ranges.{IsItem};
 ghost use Rattle.rtcm_eph.specs.Reading.{ArePartsOf, GivesItem, IsItemOf, IsOfSystem, content_of};
 ghost use Rattle.rtcm_eph.specs.Reading.{gal_parts, gps_parts, item_in, parts_of};
 
-use crate::content::{Content, GalContent, GpsContent};
+use crate::content::{EphemerisMessage, GalContent, GpsContent};
 use crate::fault::MessageFault;
 use crate::galileo::judge_1046;
 use crate::gps::judge_1019;
 use crate::message1019::Message1019;
 use crate::message1046::Message1046;
-use gnss_week::{RefWeek, Second, gal_week, gps_week};
 use nav_bits::{Layout, U};
-use nav_eph::{Body, GalEph, GpsEph, NavItem, Part, Sat, SentSecond, SentTag};
+use nav_eph::{
+    Body, GalEph, GpsEph, NavItem, Part, RefWeek, Sat, Second, SentSecond, SentTag, gal_week,
+    gps_week,
+};
 
 /// The parts of an ephemeris in one message, each with its reception time tag.
 #[derive(Clone, Copy, PartialEq, Eq)]
@@ -72,7 +74,7 @@ fn number_in(payload: &[u8]) -> u16
 }
 
 // What a payload carries, or its first fault.
-fn read_content(payload: &[u8]) -> Result<Content, MessageFault>
+fn read_content(payload: &[u8]) -> Result<EphemerisMessage, MessageFault>
     ensures content { result ≡ content_of payload.now }
     ensures system { IfOk result IsOfSystem }
 {
@@ -161,18 +163,18 @@ pub fn read_message(payload: &[u8], stamp: u32) -> Result<MessageParts, MessageF
     ensures parts { IfOk result ArePartsOf }
 {
     match read_content(payload) {
-        Ok(Content::Gps(c)) => Ok(gps_parts_of(&c, stamp)),
-        Ok(Content::Gal(c)) => Ok(gal_parts_of(&c, stamp)),
+        Ok(EphemerisMessage::Gps(c)) => Ok(gps_parts_of(&c, stamp)),
+        Ok(EphemerisMessage::Gal(c)) => Ok(gal_parts_of(&c, stamp)),
         Err(fault) => Err(fault),
     }
 }
 
 // The ephemeris of a message, with its full week near the reference week.
-fn item_of(content: &Content, r: RefWeek) -> NavItem
+fn item_of(content: &EphemerisMessage, r: RefWeek) -> NavItem
     ensures { IsItemOf r content.now result }
 {
     match content {
-        Content::Gps(c) => NavItem::Gps(GpsEph {
+        EphemerisMessage::Gps(c) => NavItem::Gps(GpsEph {
             sat: c.sat,
             clock: c.clock,
             side: c.side,
@@ -182,7 +184,7 @@ fn item_of(content: &Content, r: RefWeek) -> NavItem
             toe_week: gps_week(r, c.week),
             sent: SentSecond::Unknown,
         }),
-        Content::Gal(c) => NavItem::Gal(GalEph {
+        EphemerisMessage::Gal(c) => NavItem::Gal(GalEph {
             sat: c.sat,
             w1: c.w1,
             w2: c.w2,

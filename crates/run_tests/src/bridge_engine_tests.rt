@@ -5,23 +5,22 @@ ghost use Rattle.std.specs.Prelude.{◌≤◌};
 
 use capture_lines::{LineItem, read_line};
 use captures::{CaptureTo, run_capture};
-use gnss_week::RefWeek;
-use inav_page::{Halves, read_half};
-use inav_word::read_word;
+use inav::{Halves, read_half, read_word};
 use lnav_subframe::read_subframe;
 use nav_eph::{
     Body, GalEph, GalHealth, GalIon, GalWord1, GalWord2, GalWord3, GalWord4, GpsClock, GpsEph,
-    GpsIon, GpsOrbitA, GpsOrbitB, GpsSide, IonContent, IonEph, NavItem, Part, SentTag, System,
+    GpsIon, GpsOrbitA, GpsOrbitB, GpsSide, IonContent, IonEph, NavItem, Part, RefWeek, SentTag,
+    System,
 };
 use nav_io::{MemSink, MemSource};
 use nav_laws::PlainAssembly;
-use nav_vectors::{Sats, make_capture};
 use one_run::{Text, append, append_decimal, append_hex};
-use outlets::append_issue;
-use periods::{Closed, Key, Verdict};
+use periods::{Closed, PeriodKey, Verdict};
+use sent_captures::{Sats, make_capture};
 use slot_assembly::add_periods;
 use std::alloc::{AllocError, Global};
 use std::test::Fail;
+use streams::append_issue;
 
 // The bytes of a capture that are taken with a short window: some 200 seconds.
 const PREFIX: usize = 40_000;
@@ -135,13 +134,13 @@ fn line_of(closed: &Closed) -> Text {
     append_decimal(&mut text, u64::from(closed.end));
     append(&mut text, b" ");
     match &closed.key {
-        Key::Gps(sat, issue) => append_issue(&mut text, *sat, issue.value()),
-        Key::Gal(sat, issue) => append_issue(&mut text, *sat, issue.value()),
-        Key::GpsIon(content) => {
+        PeriodKey::Gps(sat, issue) => append_issue(&mut text, *sat, issue.value()),
+        PeriodKey::Gal(sat, issue) => append_issue(&mut text, *sat, issue.value()),
+        PeriodKey::GpsIon(content) => {
             append(&mut text, b"ION G ");
             append_hex(&mut text, 16, content.number());
         }
-        Key::GalIon(content) => {
+        PeriodKey::GalIon(content) => {
             append(&mut text, b"ION E ");
             append_hex(&mut text, 11, content.number());
         }

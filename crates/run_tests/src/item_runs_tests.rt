@@ -1,7 +1,7 @@
 //! Small inputs through each run.
 
 use crate::times::times_from;
-use gnss_week::RefWeek;
+use nav_eph::RefWeek;
 use nav_files::{RinexCounts, RinexTo, run_rinex, run_rinex3};
 use nav_io::{MemSink, MemSource};
 use one_run::BridgeFault;

@@ -1,19 +1,19 @@
 //! One ephemeris of each system as an independent encoder writes it, and the reasons not to send.
 
 ghost use Rattle.std.specs.Prelude.{◌↔◌, IsTrue};
-ghost use Rattle.page_send.specs.Sendable.{IsEphemeris};
+ghost use Rattle.sent_captures.specs.Sendable.{IsEphemeris};
 
-use gnss_week::{RefWeek, Week};
 use nav_bits::{S, U};
 use nav_eph::{
-    GalEph, GpsEph, IonContent, IonEph, NavItem, Sat, SentSecond, Sisa, Step16, Step60, System,
+    GalEph, GpsEph, IonContent, IonEph, NavItem, RefWeek, Sat, SentSecond, Sisa, Step16, Step60,
+    System, Week,
 };
 use nav_io::MemSink;
-use nav_samples::{
+use raw_values::{
     galileo_health, galileo_word1, galileo_word2, galileo_word3, galileo_word4, gps_clock,
     gps_orbit_a, gps_orbit_b, gps_side,
 };
-use page_send::{SendFault, can_send, send_item};
+use sent_captures::{SendFault, can_send, send_item};
 use std::alloc::{AllocError, Global};
 use std::test::Fail;
 

@@ -2,10 +2,10 @@
 
 use crate::times::times_from;
 use captures::{CaptureCounts, SeedCounts, SeedTo, run_seed};
-use gnss_week::RefWeek;
+use nav_eph::RefWeek;
 use nav_io::MemSink;
-use nav_vectors::Sats;
 use one_run::BridgeFault;
+use sent_captures::Sats;
 use std::alloc::{AllocError, Global};
 use std::test::Fail;
 

@@ -1,6 +1,6 @@
 //! Files of an independent program, what it sends of them, and what it reports.
 
-use gnss_week::RefWeek;
+use nav_eph::RefWeek;
 use nav_files::{RinexCounts, send_rinex, send_rinex3};
 use nav_io::{MemSink, MemSource};
 use one_run::BridgeFault;

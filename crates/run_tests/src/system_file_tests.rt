@@ -1,14 +1,13 @@
 //! Navigation files of all systems, in both versions. The numbers are those of an independent
 //! writer.
 
+use all_systems::{Kinds, SystemCounts, Version, run_system_file, run_system_merge};
 use nav_io::{MemSink, MemSource};
 use one_run::BridgeFault;
-use outlets::{Target, Times};
 use rinex_write::{HeaderWords, write_header, write_header3};
 use std::alloc::{AllocError, Global};
 use std::test::Fail;
-use system_files::{SystemCounts, Version, run_system_file, run_system_merge};
-use system_streams::Kinds;
+use streams::{Target, Times};
 
 // What the header of a file says.
 const WORDS: HeaderWords = HeaderWords {

@@ -1,7 +1,7 @@
 //! Epochs in week 2295.
 
-use gnss_week::Moment;
-use outlets::Times;
+use nav_eph::Moment;
+use streams::Times;
 
 // Times from one second of the week to another.
 pub(crate) fn times_from(first: u32, last: u32) -> Option<Times> {

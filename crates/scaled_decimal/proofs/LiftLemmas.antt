@@ -6,7 +6,7 @@ use Rattle.std.proofs.lemmas.Int.{ints}
 use Rattle.scaled_decimal.specs.Fractions.{Fraction, IsNearest, scaled}
 use Rattle.scaled_decimal.specs.NumberText.{Parts, carried, parts_to}
 use Rattle.scaled_decimal.specs.ScaleValue.{IsScale}
-use Rattle.scaled_decimal.specs.Mirrors.{IsSize, IsMoved, AreDigitsAt, IsToldPlace}
+use Rattle.scaled_decimal.specs.Mirrors.{IsSize, IsMoved, AreDigitsAt, IsReportedPlace}
 use Rattle.scaled_decimal.proofs.PowerLemmas.{power_pos}
 use Rattle.scaled_decimal.proofs.PrintLemmas.{printed, carried_same}
 use Rattle.scaled_decimal.proofs.InReachLemmas.{in_reach}
@@ -214,7 +214,7 @@ low_of m r a b d false w is from more = at_least _ _ d w.nearest (more refl)
 
 -- the parts that are told
 pub told_parts : (s : Fraction) (n m f c a b r d : ℕ) (whole : Bool) (digits : ℕ) (e : ℤ) → IsScale s → IsSize s f c a b → 0 < n → n ≤ 4294967295 → m ≡ n * f
-    → AreDigitsAt m r a b d → (whole ≡ true → (b ≡ 0) × (r ≤ 1245)) → IsToldPlace d (r + c) whole digits e
+    → AreDigitsAt m r a b d → (whole ≡ true → (b ≡ 0) × (r ≤ 1245)) → IsReportedPlace d (r + c) whole digits e
     → ◌≡◌ {A = Parts} (record { digits = digits; exponent = e }) (parts_to (scaled n s))
 told_parts s n m f c a b r d whole digits e scale size some small m_is at is told =
     let k : ℕ = r + c - 1233 in

@@ -97,7 +97,7 @@ pub record AreDigitsAt (m r a b d : ℕ) : Type 0 where
   pub nearest : IsNearest (record { over = m * 10 ^ lift * 2 ^ a; under = 2 ^ b * 10 ^ lower }) d
 
 -- there are thirteen digits d, of them the first is at 10^(k - 1253), and these are the parts
-pub record IsToldPlace (d k : ℕ) (whole : Bool) (digits : ℕ) (e : ℤ) : Type 0 where
+pub record IsReportedPlace (d k : ℕ) (whole : Bool) (digits : ℕ) (e : ℤ) : Type 0 where
   pub from : 10 ^ 12 ≤ d
   pub more : whole ≡ false → 10 ^ 12 < d
   pub to : d < 10 ^ 13

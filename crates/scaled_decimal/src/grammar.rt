@@ -243,7 +243,8 @@ fn is_letter(c: u8) -> bool
 
 // The number of two digits; None where one of them is not a digit.
 fn two_digits(tens: u8, ones: u8) -> Option<u64>
-    ensures { MatchOption result (Unit {0}) (λ n. (is_decimal tens ≡ true) × (is_decimal ones ≡ true)
+    ensures { MatchOption result (Unit {0}) (λ n. (is_decimal tens ≡ true)
+        × (is_decimal ones ≡ true)
         × (n ≡ (tens - 48) * 10 + (ones - 48)) × (n ≤ 99)) }
 {
     if !is_decimal(tens) || !is_decimal(ones) {

@@ -5,7 +5,7 @@ ghost use Rattle.std.specs.Prelude.{◌<◌, ◌≤◌, MatchOption};
 ghost use Rattle.scaled_decimal.specs.Fractions.{IsNearest, scaled};
 ghost use Rattle.scaled_decimal.specs.NumberText.{parts_to};
 ghost use Rattle.scaled_decimal.specs.ScaleValue.{size_of, AreWithin};
-ghost use Rattle.scaled_decimal.specs.Mirrors.{AreDigitsAt, IsToldPlace};
+ghost use Rattle.scaled_decimal.specs.Mirrors.{AreDigitsAt, IsReportedPlace};
 
 use crate::powers::{rank_of, wide_power_of_five};
 use crate::scales::Scale;
@@ -112,7 +112,8 @@ fn digits_at_rank(over: u128, rank: u32, up: u32, down: u32) -> Option<u128>
 // The parts with these digits, if there are thirteen of them.
 fn parts_with(digits: u128, place: u32, whole: bool) -> Option<Parts>
     requires { place ≤ 2000 }
-    ensures { MatchOption result (Unit {0}) (λ p. IsToldPlace digits place whole p.digits p.exponent) }
+    ensures { MatchOption result (Unit {0})
+        (λ p. IsReportedPlace digits place whole p.digits p.exponent) }
 {
     let least = if whole {
         1_000_000_000_000

@@ -25,7 +25,8 @@ impl Scale {
     pub(crate) fn is_near(&self) -> bool
         requires { IsAccepted self.now }
         ensures near { result ≡ true → AreWithin self.now.factor self.now.two self.now.ten }
-        ensures far { result ≡ false → AreFar self.now.pi self.now.factor self.now.two self.now.ten }
+        ensures far { result ≡ false
+            → AreFar self.now.pi self.now.factor self.now.two self.now.ten }
     {
         self.two >= -59 && self.ten >= -2 && self.factor <= 60
     }

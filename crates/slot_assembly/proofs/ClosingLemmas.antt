@@ -3,8 +3,8 @@ use Rattle.std.proofs.Common.{◌≡◌, ℕ, List, Option, Some, IfSome, refl, 
 use Rattle.nav_eph.specs.declared.galileo.GalHealth.{GalHealth}
 use Rattle.nav_eph.specs.declared.tag.SentTag.{SentTag}
 use Rattle.nav_eph.specs.declared.items.NavItem.{NavItem}
-use Rattle.periods.specs.declared.key.Key.{Key}
-use Rattle.periods.specs.declared.key.Key.TheVariants.{Gps, Gal, GpsIon, GalIon}
+use Rattle.periods.specs.declared.key.PeriodKey.{PeriodKey}
+use Rattle.periods.specs.declared.key.PeriodKey.TheVariants.{Gps, Gal, GpsIon, GalIon}
 use Rattle.periods.specs.declared.closed.Closed.{Closed}
 use Rattle.periods.specs.declared.closed.Finding.{Finding}
 use Rattle.periods.specs.declared.closed.Finding.TheVariants.{Misses}
@@ -20,7 +20,7 @@ use Rattle.slot_assembly.specs.Order.{rank_of}
 use Rattle.slot_assembly.specs.Slots.{kept_at, IsFirstDue, IsFirstDueAt}
 use Rattle.slot_assembly.specs.SlotStanding.{IsRemembered, item_to_keep, known_for}
 
-nothing_kept : (known : List (Rank × NavItem)) (key : Key) → IsRemembered known (rank_of key) (item_to_keep key Misses) known
+nothing_kept : (known : List (Rank × NavItem)) (key : PeriodKey) → IsRemembered known (rank_of key) (item_to_keep key Misses) known
 nothing_kept known (Gps sat issue) = λ x. refl
 nothing_kept known (Gal sat issue) = λ x. refl
 nothing_kept known (GpsIon content) = λ x. refl

@@ -4,7 +4,7 @@ use Rattle.std.proofs.Common.{◌≡◌, ℕ, ◌+◌, ◌<◌, ◌≤◌, ◌^�
 use Rattle.std.proofs.lemmas.List.{append_assoc, append-nil}
 use Rattle.std.proofs.lemmas.List.Elements.{All-append}
 use Rattle.nav_eph.specs.declared.part.Part.{Part}
-use Rattle.periods.specs.declared.key.Place.{Place}
+use Rattle.periods.specs.declared.key.PeriodId.{PeriodId}
 use Rattle.periods.specs.declared.closed.Closed.{Closed}
 use Rattle.nav_eph.specs.Values.{IsPartValue}
 use Rattle.periods.specs.Verdicts.{closed_place}
@@ -16,7 +16,7 @@ use Rattle.periods.proofs.Surface.{all_values, later_parts, closed_of-later, clo
 use Rattle.slot_assembly.proofs.GivenLemmas.{closed_given, HasGiven-more, HasGiven-rise, given_is, given_prefix, last_from-push}
 
 -- the parts, a watermark and the last period of a list
-abbrev pub standing : List Part → ℕ → Option Place → Standing
+abbrev pub standing : List Part → ℕ → Option PeriodId → Standing
 standing parts watermark last = record { parts = parts; watermark = watermark; last = last }
 
 -- Of the parts, all periods closed at the first watermark were given, and after them some of those closed at the second.
@@ -58,8 +58,8 @@ gives_more now new r w before watermark parts given c values next carries h =
     record {
       at_watermark = watermark;
       within = omega arith;
-      stands = subst (λ (o : Option Place). new (standing parts watermark o)) (sym e) (carries at h.stands);
-      gave = subst (λ (o : Option Place). HasGiven r w (Contains parts) watermark o (given ++ c ∷ [])) (sym e)
+      stands = subst (λ (o : Option PeriodId). new (standing parts watermark o)) (sym e) (carries at h.stands);
+      gave = subst (λ (o : Option PeriodId). HasGiven r w (Contains parts) watermark o (given ++ c ∷ [])) (sym e)
           (HasGiven-more r w (Contains parts) watermark (last_from None given) given c (all_values parts (values at h.stands)) (next at h.stands) h.gave);
       no_less = longer_prefix (closed_of r w before parts) given c h.no_less;
     }
@@ -104,7 +104,7 @@ none_at now w v watermark f told = subst (λ (x : ℕ). Tells now (λ at. NoneDu
 
 -- it still stands for some state at the watermark: after a period given, after memory ran out, after any answer, and after a part
 -- taken
-pub stood_giving : (now new : Standing → Type 0) (watermark : ℕ) (q : Place) → Stood now (λ at. at.watermark ≤ watermark) → Carries now new (giving watermark q) → Stood new (λ at. at.watermark ≤ watermark)
+pub stood_giving : (now new : Standing → Type 0) (watermark : ℕ) (q : PeriodId) → Stood now (λ at. at.watermark ≤ watermark) → Carries now new (giving watermark q) → Stood new (λ at. at.watermark ≤ watermark)
 stood_giving now new watermark q s carries = (giving watermark q s.0, carries s.0 s.1, omega arith)
 
 pub stood_same : (now new : Standing → Type 0) (watermark : ℕ) → Stood now (λ at. at.watermark ≤ watermark) → Carries now new unchanged → Stood new (λ at. at.watermark ≤ watermark)

@@ -6,7 +6,7 @@ use Rattle.std.specs.Map.{keys_of}
 use Rattle.std.proofs.lemmas.Bool.{both_ways, cases_lt}
 use Rattle.nav_eph.specs.declared.items.NavItem.{NavItem}
 use Rattle.nav_eph.specs.declared.part.Part.{Part}
-use Rattle.periods.specs.declared.key.Place.{Place}
+use Rattle.periods.specs.declared.key.PeriodId.{PeriodId}
 use Rattle.periods.specs.declared.closed.Finding.{Finding}
 use Rattle.periods.specs.DigestsOf.{digest_finding, verdict_of}
 use Rattle.periods.specs.Periods.{IsPeriod, IsMember, IsBefore}
@@ -42,11 +42,11 @@ first_is s at watermark slot h f =
       after = k.after;
       least = λ z due b.
           let g = h.slots.every z due.period due.after in
-          f.0.least g.0 g.1 (subst (λ (x : Place). IsBefore x (slot_place slot)) (sym g.2) b);
+          f.0.least g.0 g.1 (subst (λ (x : PeriodId). IsBefore x (slot_place slot)) (sym g.2) b);
     }
 
 -- its window reaches the watermark at which there was none
-reaches : (w n : ℕ) (parts : Part → Type 0) (last : Option Place) (q : Place) → NoneDue w parts n last → IsPeriod w parts q → IsAfter last q → n ≤ q.end + w
+reaches : (w n : ℕ) (parts : Part → Type 0) (last : Option PeriodId) (q : PeriodId) → NoneDue w parts n last → IsPeriod w parts q → IsAfter last q → n ≤ q.end + w
 reaches w n parts last q none h a = elim (cases_lt (q.end + w) n) [ inl l ↦ absurd (none q (record { period = h; low = l; after = a })) | inr l ↦ l ]
 
 -- its finding

@@ -5,7 +5,7 @@ use Rattle.std.proofs.lemmas.Bool.{cases_lt}
 use Rattle.std.proofs.lemmas.List.Elements.{Contains-append_left, Contains-push, Contains-push_cases}
 use Rattle.nav_eph.specs.declared.part.Part.{Part}
 use Rattle.periods.proofs.Surface.{In, In-from_contains, contains_from_In}
-use Rattle.periods.specs.declared.key.Place.{Place}
+use Rattle.periods.specs.declared.key.PeriodId.{PeriodId}
 use Rattle.periods.specs.declared.closed.Closed.{Closed}
 use Rattle.nav_eph.specs.Values.{IsPartValue}
 use Rattle.periods.specs.Periods.{IsBefore}
@@ -20,33 +20,33 @@ use Rattle.periods.proofs.Surface.{before_irr, before_trans, All-in, all_of, Pre
 use Rattle.periods.proofs.Surface.{period_key, closed_of-are, closed_of-only}
 
 -- later than the last period
-pub after_trans : (last : Option Place) (a b : Place) → IsAfter last a → IsBefore a b → IsAfter last b
+pub after_trans : (last : Option PeriodId) (a b : PeriodId) → IsAfter last a → IsBefore a b → IsAfter last b
 after_trans None a b h l = tt
 after_trans (Some x) a b h l = before_trans x a b h l
 
 -- a place that ends after all closed periods
-pub after_low : (w watermark : ℕ) (last : Option Place) (q : Place) → GivenBelow w watermark last → watermark ≤ q.end + w → IsAfter last q
+pub after_low : (w watermark : ℕ) (last : Option PeriodId) (q : PeriodId) → GivenBelow w watermark last → watermark ≤ q.end + w → IsAfter last q
 after_low w watermark None q g l = tt
 after_low w watermark (Some x) q g l = inl (omega arith)
 
 -- the last period of a list
-pub last_from-push : (o : Option Place) (cs : List Closed) (c : Closed) → last_from o (cs ++ c ∷ []) ≡ Some (closed_place c)
+pub last_from-push : (o : Option PeriodId) (cs : List Closed) (c : Closed) → last_from o (cs ++ c ∷ []) ≡ Some (closed_place c)
 last_from-push o [] c = refl
 last_from-push o (d ∷ ds) c = last_from-push (Some (closed_place d)) ds c
 
-last_below : (w watermark : ℕ) (o : Option Place) (cs : List Closed) → GivenBelow w watermark o → ((c : Closed) → In cs c → c.end + w < watermark) → GivenBelow w watermark (last_from o cs)
+last_below : (w watermark : ℕ) (o : Option PeriodId) (cs : List Closed) → GivenBelow w watermark o → ((c : Closed) → In cs c → c.end + w < watermark) → GivenBelow w watermark (last_from o cs)
 last_below w watermark o [] g h = g
 last_below w watermark o (c ∷ cs) g h = last_below w watermark (Some (closed_place c)) cs (h c (inl refl)) (λ d i. h d (inr i))
 
 -- what is after the last period is after each
-behind_last : (x : Closed) (cs : List Closed) (q : Place) → IsAscending (x ∷ cs) → IsAfter (last_from (Some (closed_place x)) cs) q → (c : Closed) → In (x ∷ cs) c → IsBefore (closed_place c) q
+behind_last : (x : Closed) (cs : List Closed) (q : PeriodId) → IsAscending (x ∷ cs) → IsAfter (last_from (Some (closed_place x)) cs) q → (c : Closed) → In (x ∷ cs) c → IsBefore (closed_place c) q
 behind_last x [] q h l c (inl e) = subst (λ (z : Closed). IsBefore (closed_place z) q) e l
 behind_last x [] q h l c (inr i) = absurd i
 behind_last x (y ∷ ys) q h l c (inl e) =
     subst (λ (z : Closed). IsBefore (closed_place z) q) e (before_trans (closed_place x) (closed_place y) q h.0.0 (behind_last y ys q h.1 l y (inl refl)))
 behind_last x (y ∷ ys) q h l c (inr i) = behind_last y ys q h.1 l c i
 
-behind_each : (cs : List Closed) (q : Place) → IsAscending cs → IsAfter (last_from None cs) q → (c : Closed) → In cs c → IsBefore (closed_place c) q
+behind_each : (cs : List Closed) (q : PeriodId) → IsAscending cs → IsAfter (last_from None cs) q → (c : Closed) → In cs c → IsBefore (closed_place c) q
 behind_each [] q h l c i = absurd i
 behind_each (x ∷ cs) q h l c i = behind_last x cs q h l c i
 
@@ -75,7 +75,7 @@ ascending_push [] c h l = (tt, tt)
 ascending_push (d ∷ ds) c h l = (push_all (Precedes d) ds c h.0 (l d (inl refl)), ascending_push ds c h.1 (λ x i. l x (inr i)))
 
 -- one more period
-pub HasGiven-more : (r w : ℕ) (parts : Part → Type 0) (watermark : ℕ) (last : Option Place) (given : List Closed) (c : Closed) → ((p : Part) → parts p → IsPartValue p)
+pub HasGiven-more : (r w : ℕ) (parts : Part → Type 0) (watermark : ℕ) (last : Option PeriodId) (given : List Closed) (c : Closed) → ((p : Part) → parts p → IsPartValue p)
     → IsNext r w parts watermark last c → HasGiven r w parts watermark last given → HasGiven r w parts watermark (Some (closed_place c)) (given ++ c ∷ [])
 HasGiven-more r w parts watermark last given c values next h = record {
   ascending = ascending_push given c h.ascending (λ d i. h.below d (contains_from_In given d i) (closed_place c) next.due.after);
@@ -98,12 +98,12 @@ HasGiven-more r w parts watermark last given c values next h = record {
   last_low = next.due.low;
 }
 
-pub below_rise : (w watermark higher : ℕ) (last : Option Place) → watermark ≤ higher → GivenBelow w watermark last → GivenBelow w higher last
+pub below_rise : (w watermark higher : ℕ) (last : Option PeriodId) → watermark ≤ higher → GivenBelow w watermark last → GivenBelow w higher last
 below_rise w watermark higher None l g = tt
 below_rise w watermark higher (Some x) l g = omega arith
 
 -- a higher watermark
-pub HasGiven-rise : (r w : ℕ) (parts : Part → Type 0) (watermark higher : ℕ) (last : Option Place) (given : List Closed) → watermark ≤ higher
+pub HasGiven-rise : (r w : ℕ) (parts : Part → Type 0) (watermark higher : ℕ) (last : Option PeriodId) (given : List Closed) → watermark ≤ higher
     → HasGiven r w parts watermark last given → HasGiven r w parts higher last given
 HasGiven-rise r w parts watermark higher last given l h = record {
   ascending = h.ascending;
@@ -118,7 +118,7 @@ HasGiven-rise r w parts watermark higher last given l h = record {
 }
 
 -- at the end: where none is due, all that is closed was given
-pub given_is : (r w watermark : ℕ) (parts : List Part) (last : Option Place) (given : List Closed) → ((p : Part) → Contains parts p → IsPartValue p)
+pub given_is : (r w watermark : ℕ) (parts : List Part) (last : Option PeriodId) (given : List Closed) → ((p : Part) → Contains parts p → IsPartValue p)
     → NoneDue w (Contains parts) watermark last → HasGiven r w (Contains parts) watermark last given → given ≡ closed_of r w watermark parts
 given_is r w watermark parts last given values none h = closed_of-only r w watermark parts given values (record {
   ascending = h.ascending;
@@ -156,7 +156,7 @@ prefix_of (x ∷ xs) (y ∷ ys) ax ay to from =
     let p = prefix_of xs ys ax.1 ay.1 (λ c i. prefix_tail_in x y c xs ys e ax.0 i (to c (inr i))) (λ c i. prefix_tail_out x y c xs ys e ay.0 i (from c (inr i))) in
     (p.0, λ i. sym e i ∷ p.1 i)
 
-pub given_prefix : (r w watermark : ℕ) (parts : List Part) (last : Option Place) (given : List Closed) → ((p : Part) → Contains parts p → IsPartValue p)
+pub given_prefix : (r w watermark : ℕ) (parts : List Part) (last : Option PeriodId) (given : List Closed) → ((p : Part) → Contains parts p → IsPartValue p)
     → HasGiven r w (Contains parts) watermark last given → IsPeriodPrefix given (closed_of r w watermark parts)
 given_prefix r w watermark parts last given values h =
     let cs = closed_of r w watermark parts in
@@ -176,8 +176,8 @@ given_prefix r w watermark parts last given values h =
     ])
 
 -- later parts, and a period given, make no period due
-pub NoneDue-take : (w n watermark : ℕ) (old new : Part → Type 0) (last : Option Place) → AreLater watermark old new → n ≤ watermark → NoneDue w old n last → NoneDue w new n last
+pub NoneDue-take : (w n watermark : ℕ) (old new : Part → Type 0) (last : Option PeriodId) → AreLater watermark old new → n ≤ watermark → NoneDue w old n last → NoneDue w new n last
 NoneDue-take w n watermark old new last l m none = λ q due. none q (record { period = IsPeriod-was w watermark old new q l (omega (arith, due.low)) due.period; low = due.low; after = due.after })
 
-pub NoneDue-give : (w n : ℕ) (parts : Part → Type 0) (last : Option Place) (q : Place) → IsAfter last q → NoneDue w parts n last → NoneDue w parts n (Some q)
+pub NoneDue-give : (w n : ℕ) (parts : Part → Type 0) (last : Option PeriodId) (q : PeriodId) → IsAfter last q → NoneDue w parts n last → NoneDue w parts n (Some q)
 NoneDue-give w n parts last q after none = λ z due. none z (record { period = due.period; low = due.low; after = after_trans last q z after due.after })

@@ -3,10 +3,10 @@ use Rattle.std.proofs.Common.{◌≡◌, ℕ, ◌+◌, ◌<◌, ◌≤◌, ◌�
 use Rattle.std.proofs.lemmas.Bool.{cases_lt}
 use Rattle.nav_eph.specs.declared.part.Part.{Part}
 use Rattle.periods.proofs.Surface.{IsKnown}
-use Rattle.periods.specs.declared.key.Key.{Key}
-use Rattle.periods.specs.declared.key.Place.{Place}
+use Rattle.periods.specs.declared.key.PeriodKey.{PeriodKey}
+use Rattle.periods.specs.declared.key.PeriodId.{PeriodId}
 use Rattle.periods.specs.Parts.{key_of}
-use Rattle.periods.specs.Periods.{IsHeardAt, IsPeriod}
+use Rattle.periods.specs.Periods.{IsReceivedAt, IsPeriod}
 use Rattle.periods.specs.Touching.{IsTouched}
 use Rattle.periods.proofs.Surface.{some_is, IsKeyValue, IsWithPart, two_at_most}
 use Rattle.slot_assembly.specs.Standing.{IsAfter}
@@ -20,19 +20,19 @@ use Rattle.slot_assembly.proofs.RankOrder.{one_rank, at_rank}
 use Rattle.slot_assembly.proofs.TakeLemmas.{touched_near, near_touched, starts_apart, starts_by}
 
 -- what holds when a part of a key is taken
-pub record Taking (w : ℕ) (old new : Part → Type 0) (last : Option Place) (p : Part) (key : Key) (slots : List (ByStart × Held)) : Type 0 where
+pub record Taking (w : ℕ) (old new : Part → Type 0) (last : Option PeriodId) (p : Part) (key : PeriodKey) (slots : List (ByStart × Held)) : Type 0 where
   pub of_key : key_of p ≡ Some key
   pub with : IsWithPart old new p
-  pub known : (k : Key) → IsKnown w (IsHeardAt old k)
-  pub knows : (k : Key) → IsKnown w (IsHeardAt new k)
+  pub known : (k : PeriodKey) → IsKnown w (IsReceivedAt old k)
+  pub knows : (k : PeriodKey) → IsKnown w (IsReceivedAt new k)
   pub are : AreSlots w old last slots
   pub own : (x : ByStart) (s : Slot) → kept_at slots x ≡ Some s → x ≡ at_of s
   pub value : IsKeyValue key
   pub values : (s : Slot) → IsOpen slots s → IsKeyValue s.key
-  pub behind : (q : Place) → IsPeriod w old q → (p.stamp ≤ q.end + w) → IsAfter last q
-  pub behind_new : (q : Place) → p.stamp ≤ q.end → IsAfter last q
+  pub behind : (q : PeriodId) → IsPeriod w old q → (p.stamp ≤ q.end + w) → IsAfter last q
+  pub behind_new : (q : PeriodId) → p.stamp ≤ q.end → IsAfter last q
 
-module _ (w : ℕ) (old new : Part → Type 0) (last : Option Place) (p : Part) (key : Key) (slots : List (ByStart × Held)) where
+module _ (w : ℕ) (old new : Part → Type 0) (last : Option PeriodId) (p : Part) (key : PeriodKey) (slots : List (ByStart × Held)) where
   -- an open slot that the part touches
   pub record Touched (s : Slot) : Type 0 where
     pub open_one : IsOpen slots s
@@ -47,7 +47,7 @@ module _ (w : ℕ) (old new : Part → Type 0) (last : Option Place) (p : Part) 
       (o, one_rank key s.key t.value (t.values s o) (at_rank (rank_of key) (rank_of s.key) s.start s.start at).0)
 
   at_key : (s : Slot) → Touched s → kept_at slots (by_start (rank_of key) s.start) ≡ Some s
-  at_key s c = subst (λ (k : Key). kept_at slots (by_start (rank_of k) s.start) ≡ Some s) (sym c.same_key) c.open_one
+  at_key s c = subst (λ (k : PeriodKey). kept_at slots (by_start (rank_of k) s.start) ≡ Some s) (sym c.same_key) c.open_one
 
   touched_found : Taking w old new last p key slots → (s : Slot) → kept_at slots (by_start (rank_of key) s.start) ≡ Some s → s.start ≤ p.stamp + w → p.stamp ≤ s.end + w → Touched s
   touched_found t s h l m =
@@ -136,9 +136,9 @@ module _ (w : ℕ) (old new : Part → Type 0) (last : Option Place) (p : Part) 
   finds k slots' t =
       let e : key ≡ t.one.key = some_is key t.one.key (sym k.of_key ∙ t.is_one.key) in
       let first : IsLastTouched slots (rank_of key) (p.stamp + w + 1) p.stamp w t.first =
-      subst (λ (x : Key). IsLastTouched slots (rank_of x) (p.stamp + w + 1) p.stamp w t.first) (sym e) t.is_first in
+      subst (λ (x : PeriodKey). IsLastTouched slots (rank_of x) (p.stamp + w + 1) p.stamp w t.first) (sym e) t.is_first in
       let second : IsSecondTouched slots (rank_of key) p.stamp w t.first t.second =
-      subst (λ (x : Key). IsSecondTouched slots (rank_of x) p.stamp w t.first t.second) (sym e) t.is_second in
+      subst (λ (x : PeriodKey). IsSecondTouched slots (rank_of x) p.stamp w t.first t.second) (sym e) t.is_second in
       record {
         one = first_touched k (p.stamp + w + 1) t.first (omega arith) first;
         other = second_touched k t.first t.second first second;

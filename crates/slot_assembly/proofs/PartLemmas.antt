@@ -5,7 +5,7 @@ use Rattle.std.specs.Ordering.{is_lt}
 use Rattle.std.specs.BTreeMap.Range.{IsLtBy}
 use Rattle.std.proofs.lemmas.Bool.{both_ways, cases_lt}
 use Rattle.nav_eph.specs.declared.part.Part.{Part}
-use Rattle.periods.specs.declared.key.Key.{Key}
+use Rattle.periods.specs.declared.key.PeriodKey.{PeriodKey}
 use Rattle.periods.specs.Parts.{key_of}
 use Rattle.periods.proofs.Surface.{some_is, digest_some}
 use Rattle.slot_assembly.specs.declared.order.Rank.{Rank}
@@ -29,7 +29,7 @@ on_ok (Ok x) P Q f h = f h
 on_ok (Err e) P Q f h = h
 
 -- the slot of a part
-pub one_slot_of : (p : Part) (key : Key) → key_of p ≡ Some key → (one : Slot) × IsOneSlot p one × (one.key ≡ key)
+pub one_slot_of : (p : Part) (key : PeriodKey) → key_of p ≡ Some key → (one : Slot) × IsOneSlot p one × (one.key ≡ key)
 one_slot_of p key e =
     let d = digest_some p key e in
     (record { key = key; start = p.stamp; end = p.stamp; digest = d.0 }, record { key = e; digest = d.1; start = refl; end = refl }, refl)

@@ -4,9 +4,9 @@ use Rattle.std.specs.Ordering.{is_gt, is_lt}
 use Rattle.std.specs.BTreeMap.{is_at}
 use Rattle.std.proofs.lemmas.Bool.Decides.{nat_tests}
 use Rattle.std.specs.BTreeMap.Range.{IsLeBy, IsLtBy}
-use Rattle.periods.specs.declared.key.Key.{Key}
-use Rattle.periods.specs.declared.key.Key.TheVariants.{Gps, Gal, GpsIon, GalIon}
-use Rattle.periods.specs.declared.key.Place.{Place}
+use Rattle.periods.specs.declared.key.PeriodKey.{PeriodKey}
+use Rattle.periods.specs.declared.key.PeriodKey.TheVariants.{Gps, Gal, GpsIon, GalIon}
+use Rattle.periods.specs.declared.key.PeriodId.{PeriodId}
 use Rattle.periods.proofs.Surface.{IsKeyValue, same_place, before_irr}
 use Rattle.periods.specs.Periods.{IsBefore, key_numbers}
 use Rattle.periods.specs.Values.{IsBelow}
@@ -50,7 +50,7 @@ pub is_end_own : (x : ByEnd) → is_at (end_cmp.it x) x ≡ true
 is_end_own x = search rules
 
 -- a key's numbers are those of its rank
-pub numbers_rank : (k : Key) → key_numbers k ≡ (rank_of k).class ∷ (rank_of k).system ∷ (rank_of k).number ∷ (rank_of k).issue ∷ []
+pub numbers_rank : (k : PeriodKey) → key_numbers k ≡ (rank_of k).class ∷ (rank_of k).system ∷ (rank_of k).number ∷ (rank_of k).issue ∷ []
 numbers_rank (Gps s i) = refl
 numbers_rank (Gal s i) = refl
 numbers_rank (GpsIon c) = refl
@@ -73,16 +73,16 @@ not_before y s t b own m n h l =
     (subst (λ (xs : List ℕ). IsBelow (t.end ∷ key_numbers t.key) (s.end ∷ xs)) (numbers_rank s.key) l))
 
 -- keys of the same rank are equal
-numbers_same : (a b : Key) → rank_of a ≡ rank_of b → key_numbers a ≡ key_numbers b
+numbers_same : (a b : PeriodKey) → rank_of a ≡ rank_of b → key_numbers a ≡ key_numbers b
 numbers_same a b e = numbers_rank a ∙ ap (λ (r : Rank). r.class ∷ r.system ∷ r.number ∷ r.issue ∷ []) e ∙ sym (numbers_rank b)
 
-abbrev at_none : Key → Place
+abbrev at_none : PeriodKey → PeriodId
 at_none k = record { end = 0; key = k }
 
-pub one_rank : (a b : Key) → IsKeyValue a → IsKeyValue b → rank_of a ≡ rank_of b → a ≡ b
+pub one_rank : (a b : PeriodKey) → IsKeyValue a → IsKeyValue b → rank_of a ≡ rank_of b → a ≡ b
 one_rank a b v w e =
     let n = numbers_same a b e in
-    ap (λ (q : Place). q.key) (same_place (at_none a) (at_none b) v w
+    ap (λ (q : PeriodId). q.key) (same_place (at_none a) (at_none b) v w
     (λ l. before_irr (at_none b) (subst (λ (xs : List ℕ). IsBelow (0 ∷ xs) (0 ∷ key_numbers b)) n l))
     (λ l. before_irr (at_none b) (subst (λ (xs : List ℕ). IsBelow (0 ∷ key_numbers b) (0 ∷ xs)) n l)))
 

@@ -18,8 +18,8 @@ use Rattle.slot_assembly.specs.Order.{by_sat, by_stamp, sat_place, place_of_heal
 pub same_stamp : (p : BySat) (x : ByStamp) → is_at (sat_cmp.it p) (sat_place x) ≡ is_at (stamp_cmp.it (by_stamp p)) x
 same_stamp p x = grind (arith, nat_tests)
 
-pub heard_is : (x y : BySat) → is_at (sat_cmp.it x) y ≡ true → x ≡ y
-heard_is x y h = search rules
+pub received_is : (x y : BySat) → is_at (sat_cmp.it x) y ≡ true → x ≡ y
+received_is x y h = search rules
 
 pub is_heard_own : (x : BySat) → is_at (sat_cmp.it x) x ≡ true
 is_heard_own x = search rules

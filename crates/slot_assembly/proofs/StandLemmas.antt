@@ -7,10 +7,10 @@ use Rattle.nav_eph.specs.Values.{IsPartValue}
 use Rattle.nav_eph.specs.declared.items.NavItem.{NavItem}
 use Rattle.nav_eph.specs.declared.part.Part.{Part}
 use Rattle.periods.proofs.Surface.{Same, IsEnd-same, IsEndOf-same}
-use Rattle.periods.specs.declared.key.Key.{Key}
-use Rattle.periods.specs.declared.key.Place.{Place}
+use Rattle.periods.specs.declared.key.PeriodKey.{PeriodKey}
+use Rattle.periods.specs.declared.key.PeriodId.{PeriodId}
 use Rattle.periods.specs.Parts.{key_of}
-use Rattle.periods.specs.Periods.{IsHeardAt, IsMember}
+use Rattle.periods.specs.Periods.{IsReceivedAt, IsMember}
 use Rattle.periods.proofs.Surface.{none_some, key_value, period_key, all_values, IsDigest-same, known_parts, with_part, joined_part, later_part, IsWithPart}
 use Rattle.slot_assembly.specs.Standing.{Standing, NoneDue, taking, reaching}
 use Rattle.slot_assembly.proofs.Surface.{after_low, below_rise, NoneDue-take}
@@ -21,32 +21,32 @@ use Rattle.slot_assembly.specs.declared.order.ByStamp.{ByStamp}
 use Rattle.slot_assembly.specs.declared.slot.Held.{Held}
 use Rattle.slot_assembly.specs.contracts.order.RankOrd.TheImpl.{cmp-value as rank_cmp}
 use Rattle.slot_assembly.specs.Slots.{at_of, slot_place, AreIndexed, IsTaken, AreSameSlots, IsFirstDue}
-use Rattle.slot_assembly.specs.Healths.{AreStamped, IsSameHealth, IsHeard, IsForgotten, health_in}
+use Rattle.slot_assembly.specs.Healths.{AreStamped, IsSameHealth, IsReceived, IsForgotten, health_in}
 use Rattle.slot_assembly.specs.SlotStanding.{SlotsState, SlotsStandFor, AreSlots, AreKept, AreKnown, AreSameItems}
 use Rattle.slot_assembly.proofs.StepLemmas.{slots_taken}
 use Rattle.slot_assembly.proofs.KeptLemmas.{kept_keyed, kept_said, kept_forgotten}
-use Rattle.slot_assembly.proofs.HealthChanges.{HeardList}
+use Rattle.slot_assembly.proofs.HealthChanges.{ReceivedList}
 use Rattle.slot_assembly.proofs.KnownLemmas.{are_known_later, are_known_same}
 
 abbrev SlotList : Type 0
 SlotList = List (ByStart × Held)
 
 -- where memory runs out
-slots_same : (w : ℕ) (parts : Part → Type 0) (last : Option Place) (old new : SlotList) → AreSameSlots old new → AreSlots w parts last old → AreSlots w parts last new
+slots_same : (w : ℕ) (parts : Part → Type 0) (last : Option PeriodId) (old new : SlotList) → AreSameSlots old new → AreSlots w parts last old → AreSlots w parts last new
 slots_same w parts last old new same h = record {
   each = λ s i. h.each s (sym (same (at_of s)) ∙ i);
   every = λ q k after. let f = h.every q k after in (f.0, same (at_of f.0) ∙ f.1, f.2);
 }
 
-kept_same : (w n : ℕ) (parts : Part → Type 0) (old new : HeardList) → IsSameHealth old new → AreKept w n parts old → AreKept w n parts new
+kept_same : (w n : ℕ) (parts : Part → Type 0) (old new : ReceivedList) → IsSameHealth old new → AreKept w n parts old → AreKept w n parts new
 kept_same w n parts old new same h = record {
-  was_heard = λ x v i. h.was_heard x v (sym (same x) ∙ i);
+  was_received = λ x v i. h.was_received x v (sym (same x) ∙ i);
   recent = λ x i. h.recent x (subst IsSome (same x) i);
   every = λ sat v i l. same _ ∙ h.every sat v i l;
 }
 
 -- the same parts, watermark and last period given, with another store that stands for them
-stands_as : (s : SlotsState) (at : Standing) (slots : SlotList) (ends : List ByEnd) (heard : HeardList) (stamps : List ByStamp) (known : List (Rank × NavItem)) → AreSlots s.window (Contains at.parts) at.last slots → AreIndexed slots ends
+stands_as : (s : SlotsState) (at : Standing) (slots : SlotList) (ends : List ByEnd) (heard : ReceivedList) (stamps : List ByStamp) (known : List (Rank × NavItem)) → AreSlots s.window (Contains at.parts) at.last slots → AreIndexed slots ends
     → AreKept s.window s.none_at (Contains at.parts) heard → AreStamped heard stamps → AreKnown s.reference s.window (Contains at.parts) at.last known → IsStrictlySortedBy rank_cmp.it (keys_of known) → SlotsStandFor s at
     → SlotsStandFor (record { reference = s.reference; window = s.window; slots = slots; ends = ends; heard = heard; stamps = stamps; watermark = s.watermark; last = s.last; none_at = s.none_at; known = known }) at
 stands_as s at slots ends heard stamps known are_slots indexed kept stamped are_known known_ordered h = record {
@@ -72,7 +72,7 @@ pub stands_slots : (s : SlotsState) (at : Standing) (slots : SlotList) (ends : L
 stands_slots s at slots ends same i h =
     stands_as s at slots ends s.heard s.stamps s.known (slots_same s.window (Contains at.parts) at.last s.slots slots same h.slots) i h.kept h.stamped h.known h.known_ordered h
 
-pub stands_healths : (s : SlotsState) (at : Standing) (heard : HeardList) (stamps : List ByStamp) → IsSameHealth s.heard heard → AreStamped heard stamps → SlotsStandFor s at
+pub stands_healths : (s : SlotsState) (at : Standing) (heard : ReceivedList) (stamps : List ByStamp) → IsSameHealth s.heard heard → AreStamped heard stamps → SlotsStandFor s at
     → SlotsStandFor (record { reference = s.reference; window = s.window; slots = s.slots; ends = s.ends; heard = heard; stamps = stamps; watermark = s.watermark; last = s.last; none_at = s.none_at; known = s.known }) at
 stands_healths s at heard stamps same i h =
     stands_as s at s.slots s.ends heard stamps s.known h.slots h.indexed (kept_same s.window s.none_at (Contains at.parts) s.heard heard same h.kept) i h.known h.known_ordered h
@@ -127,7 +127,7 @@ stands_taken s at p slots ends h l v t i =
     }
 
 -- taking health, which has no key
-heard_no : (old new : Part → Type 0) (p : Part) (key : Key) → IsWithPart old new p → key_of p ≡ None → Same (IsHeardAt old key) (IsHeardAt new key)
+heard_no : (old new : Part → Type 0) (p : Part) (key : PeriodKey) → IsWithPart old new p → key_of p ≡ None → Same (IsReceivedAt old key) (IsReceivedAt new key)
 heard_no old new p key m e = record {
   to = λ x h. record { part = h.part; here = m.keeps h.part h.here; of_key = h.of_key; at_stamp = h.at_stamp };
   from = λ x h. elim (m.only h.part h.here) [
@@ -136,10 +136,10 @@ heard_no old new p key m e = record {
   ];
 }
 
-members_no : (w : ℕ) (old new : Part → Type 0) (p : Part) (q : Place) → IsWithPart old new p → key_of p ≡ None → Same (IsMember w old q) (IsMember w new q)
+members_no : (w : ℕ) (old new : Part → Type 0) (p : Part) (q : PeriodId) → IsWithPart old new p → key_of p ≡ None → Same (IsMember w old q) (IsMember w new q)
 members_no w old new p q m e =
-    let a = IsHeardAt old q.key in
-    let b = IsHeardAt new q.key in
+    let a = IsReceivedAt old q.key in
+    let b = IsReceivedAt new q.key in
     let s = heard_no old new p q.key m e in
     record {
       to = λ x h. record { here = m.keeps x h.here; of_key = h.of_key; ends = IsEndOf-same w a b q.end x.stamp s h.ends };
@@ -150,22 +150,22 @@ members_no w old new p q m e =
       };
     }
 
-slots_heard : (w : ℕ) (old new : Part → Type 0) (p : Part) (last : Option Place) (slots : SlotList) → IsWithPart old new p → key_of p ≡ None → AreSlots w old last slots → AreSlots w new last slots
+slots_heard : (w : ℕ) (old new : Part → Type 0) (p : Part) (last : Option PeriodId) (slots : SlotList) → IsWithPart old new p → key_of p ≡ None → AreSlots w old last slots → AreSlots w new last slots
 slots_heard w old new p last slots m e h = record {
   each = λ s i.
       let k = h.each s i in
       let f = members_no w old new p (slot_place s) m e in
       record {
-        period = IsEnd-same w (IsHeardAt old s.key) (IsHeardAt new s.key) s.end (heard_no old new p s.key m e) k.period;
+        period = IsEnd-same w (IsReceivedAt old s.key) (IsReceivedAt new s.key) s.end (heard_no old new p s.key m e) k.period;
         after = k.after;
         starts = (k.starts.0, f.to k.starts.0 k.starts.1, k.starts.2);
         start = λ x j. k.start x (f.from x j);
         digest = IsDigest-same s.key (IsMember w old (slot_place s)) (IsMember w new (slot_place s)) s.digest f k.digest;
       };
-  every = λ q k after. let s = heard_no old new p q.key m e in h.every q (IsEnd-same w (IsHeardAt new q.key) (IsHeardAt old q.key) q.end (record { to = s.from; from = s.to }) k) after;
+  every = λ q k after. let s = heard_no old new p q.key m e in h.every q (IsEnd-same w (IsReceivedAt new q.key) (IsReceivedAt old q.key) q.end (record { to = s.from; from = s.to }) k) after;
 }
 
-pub stands_heard : (s : SlotsState) (at : Standing) (p : Part) (heard : HeardList) (stamps : List ByStamp) → SlotsStandFor s at → at.watermark ≤ p.stamp → IsPartValue p → key_of p ≡ None → IsHeard s.heard p heard
+pub stands_heard : (s : SlotsState) (at : Standing) (p : Part) (heard : ReceivedList) (stamps : List ByStamp) → SlotsStandFor s at → at.watermark ≤ p.stamp → IsPartValue p → key_of p ≡ None → IsReceived s.heard p heard
     → AreStamped heard stamps
     → SlotsStandFor (record { reference = s.reference; window = s.window; slots = s.slots; ends = s.ends; heard = heard; stamps = stamps; watermark = s.watermark; last = s.last; none_at = s.none_at; known = s.known }) (taking p at)
 stands_heard s at p heard stamps h l v k t i =
@@ -193,9 +193,9 @@ stands_heard s at p heard stamps h l v k t i =
 pub none_is : (s : SlotsState) (at : Standing) (watermark : ℕ) → SlotsStandFor s at → IsFirstDue s.slots s.window watermark None → NoneDue s.window (Contains at.parts) watermark at.last
 none_is s at watermark h none = λ q due.
     let f = h.slots.every q due.period due.after in
-    omega (arith, none f.0 f.1, due.low, ap (λ (x : Place). x.end) f.2)
+    omega (arith, none f.0 f.1, due.low, ap (λ (x : PeriodId). x.end) f.2)
 
-pub stands_reached : (s : SlotsState) (at : Standing) (watermark : ℕ) (heard : HeardList) (stamps : List ByStamp) → SlotsStandFor s at → at.watermark ≤ watermark → IsFirstDue s.slots s.window watermark None → IsForgotten s.window watermark s.heard heard
+pub stands_reached : (s : SlotsState) (at : Standing) (watermark : ℕ) (heard : ReceivedList) (stamps : List ByStamp) → SlotsStandFor s at → at.watermark ≤ watermark → IsFirstDue s.slots s.window watermark None → IsForgotten s.window watermark s.heard heard
     → AreStamped heard stamps
     → SlotsStandFor (record { reference = s.reference; window = s.window; slots = s.slots; ends = s.ends; heard = heard; stamps = stamps; watermark = watermark; last = s.last; none_at = watermark; known = s.known }) (reaching watermark at)
 stands_reached s at watermark heard stamps h l none f i = record {

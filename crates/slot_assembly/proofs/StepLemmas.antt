@@ -4,8 +4,8 @@ use Rattle.std.specs.BTreeMap.{is_at}
 use Rattle.std.proofs.lemmas.Bool.{both_ways}
 use Rattle.nav_eph.specs.declared.part.Part.{Part}
 use Rattle.periods.proofs.Surface.{Same}
-use Rattle.periods.specs.declared.key.Key.{Key}
-use Rattle.periods.specs.declared.key.Place.{Place}
+use Rattle.periods.specs.declared.key.PeriodKey.{PeriodKey}
+use Rattle.periods.specs.declared.key.PeriodId.{PeriodId}
 use Rattle.periods.specs.Periods.{IsPeriod, IsMember}
 use Rattle.periods.specs.Touching.{IsTouched, IsJoined, Stays}
 use Rattle.periods.proofs.Surface.{some_is, IsKeyValue, IsDigest-same, rest_stays}
@@ -23,7 +23,7 @@ use Rattle.slot_assembly.proofs.TakeLemmas.{Sums, sums_same, sums_one, sums_with
 use Rattle.slot_assembly.proofs.JoinLemmas.{Taking, Touched, Finds, finds}
 
 -- an untouched slot stays
-pub IsSlot-stays : (w : ℕ) (old new : Part → Type 0) (last : Option Place) (s : Slot) → IsSlot w old last s → Stays w old new (slot_place s) → IsSlot w new last s
+pub IsSlot-stays : (w : ℕ) (old new : Part → Type 0) (last : Option PeriodId) (s : Slot) → IsSlot w old last s → Stays w old new (slot_place s) → IsSlot w new last s
 IsSlot-stays w old new last s h t = record {
   period = t.period;
   after = h.after;
@@ -79,7 +79,7 @@ starts_differ f s n = by (is_at (start_cmp.it (at_of f)) (at_of s)) refl
     by true k = absurd (n (ap (λ (x : ByStart). x.start) (at_is (at_of f) (at_of s) k)))
     by false k = k
 
-module _ (w : ℕ) (old new : Part → Type 0) (last : Option Place) (p : Part) (key : Key) (slots : List (ByStart × Held)) where
+module _ (w : ℕ) (old new : Part → Type 0) (last : Option PeriodId) (p : Part) (key : PeriodKey) (slots : List (ByStart × Held)) where
   -- the members of the part's slot merged with the slots found
   abbrev FoundMember : Option Slot → Option Slot → Part → Type 0
   FoundMember first second q = ((q ≡ p) ⊎ ((f : Slot) × (first ≡ Some f) × IsMember w old (slot_place f) q)) ⊎ ((f : Slot) × (second ≡ Some f) × IsMember w old (slot_place f) q)
@@ -99,7 +99,7 @@ module _ (w : ℕ) (old new : Part → Type 0) (last : Option Place) (p : Part) 
         left = λ q i. inl i;
         right = λ q i. inr (g, refl, i);
         cases = λ q i. elim i [ inl j ↦ inl j | inr f ↦ inr (subst (λ (s : Slot). IsMember w old (slot_place s) q) (sym (some_is g f.0 f.1)) f.2) ];
-      }) h (subst (λ (z : Key). Sums z (IsMember w old (slot_place g)) g) (sym c.same_key) (sums_slot w old last g (t.are.each g c.open_one)))
+      }) h (subst (λ (z : PeriodKey). Sums z (IsMember w old (slot_place g)) g) (sym c.same_key) (sums_slot w old last g (t.are.each g c.open_one)))
 
   sums_merged : Taking w old new last p key slots → (a : Part → Type 0) (one : Slot) (o : Option Slot) → Sums key a one → ((s : Slot) → o ≡ Some s → Touched w old new last p key slots s)
       → Sums key (FoundOf a o) (merged o one)
@@ -110,11 +110,11 @@ module _ (w : ℕ) (old new : Part → Type 0) (last : Option Place) (p : Part) 
         left = λ q i. inr (g, refl, i);
         right = λ q i. inl i;
         cases = λ q i. elim i [ inl j ↦ inr j | inr f ↦ inl (subst (λ (s : Slot). IsMember w old (slot_place s) q) (sym (some_is g f.0 f.1)) f.2) ];
-      }) (subst (λ (z : Key). Sums z (IsMember w old (slot_place g)) g) (sym c.same_key) (sums_slot w old last g (t.are.each g c.open_one))) h
+      }) (subst (λ (z : PeriodKey). Sums z (IsMember w old (slot_place g)) g) (sym c.same_key) (sums_slot w old last g (t.are.each g c.open_one))) h
 
   -- they are the members of the joined period
-  members_found : Taking w old new last p key slots → (first second : Option Slot) → Finds w old new last p key slots first second → (q : Place) → IsJoined w old p new q
-      → ((z : Place) → IsTouched w old p z → IsAfter last z) → Same (FoundMember first second) (IsMember w new q)
+  members_found : Taking w old new last p key slots → (first second : Option Slot) → Finds w old new last p key slots first second → (q : PeriodId) → IsJoined w old p new q
+      → ((z : PeriodId) → IsTouched w old p z → IsAfter last z) → Same (FoundMember first second) (IsMember w new q)
   members_found t first second f q j behind = record {
     to = λ x i. elim i [
       | inl a ↦ elim a [
@@ -129,10 +129,10 @@ module _ (w : ℕ) (old new : Part → Type 0) (last : Option Place) (p : Part) 
           let s = t.are.every g.0 g.1.is_member.ends.is_end (behind g.0 g.1) in
           let c : Touched w old new last p key slots s.0 = record {
             open_one = s.1;
-            same_key = some_is key s.0.key (sym t.of_key ∙ g.1.of_key ∙ ap (λ (z : Place). Some z.key) (sym s.2));
+            same_key = some_is key s.0.key (sym t.of_key ∙ g.1.of_key ∙ ap (λ (z : PeriodId). Some z.key) (sym s.2));
             touches = subst (IsTouched w old p) (sym s.2) g.1;
           } in
-          let m = subst (λ (z : Place). IsMember w old z x) (sym s.2) g.2 in
+          let m = subst (λ (z : PeriodId). IsMember w old z x) (sym s.2) g.2 in
           elim (f.all s.0 c) [ inl e ↦ inl (inr (s.0, e, m)) | inr e ↦ inr (s.0, e, m) ]
     ];
   }
@@ -147,7 +147,7 @@ module _ (w : ℕ) (old new : Part → Type 0) (last : Option Place) (p : Part) 
       let b = without_was r.one slots' second j.start s r.without_second i in
       let a = without_was r.put r.one first j.start s r.without_first b.0 in
       let same : (g : Slot) → Touched w old new last p key slots g → g.start ≡ j.start → at_of j ≡ at_of g = λ g c e.
-      ap (λ (x : Key). by_start (rank_of x) j.start) (k ∙ c.same_key) ∙ ap (λ (x : ℕ). by_start (rank_of g.key) x) (sym e) in
+      ap (λ (x : PeriodKey). by_start (rank_of x) j.start) (k ∙ c.same_key) ∙ ap (λ (x : ℕ). by_start (rank_of g.key) x) (sym e) in
       elim (put_was slots r.put j s r.has a.0) [
         | inl e ↦ inl e
         | inr o ↦ inr (
@@ -189,23 +189,23 @@ module _ (w : ℕ) (old new : Part → Type 0) (last : Option Place) (p : Part) 
       (λ c. o.1 (record { open_one = o.0; same_key = some_is key s.key (sym t.of_key ∙ c.of_key); touches = c }))
 
   -- the joined slot is that of the joined period
-  joined_slot : (q : Place) (j : Slot) → IsJoined w old p new q → q.key ≡ j.key → IsAfter last q → Sums j.key (IsMember w new q) j → (q ≡ slot_place j) × IsSlot w new last j
+  joined_slot : (q : PeriodId) (j : Slot) → IsJoined w old p new q → q.key ≡ j.key → IsAfter last q → Sums j.key (IsMember w new q) j → (q ≡ slot_place j) × IsSlot w new last j
   joined_slot q j m e after s =
-      let k = subst (λ (x : Key). Sums x (IsMember w new q) j) (sym e) s in
+      let k = subst (λ (x : PeriodKey). Sums x (IsMember w new q) j) (sym e) s in
       let end = sums_end w new q j m.period k in
       let same : q ≡ slot_place j = λ i. record { end = sym end i; key = e i } in (
         same,
         record {
           period = subst (IsPeriod w new) same m.period;
           after = subst (IsAfter last) same after;
-          starts = subst (λ (z : Place). (x : Part) × IsMember w new z x × (x.stamp ≡ j.start)) same s.starts;
-          start = subst (λ (z : Place). (x : Part) → IsMember w new z x → j.start ≤ x.stamp) same s.start;
-          digest = (subst (λ (z : Place). Sums j.key (IsMember w new z) j) same s).digest;
+          starts = subst (λ (z : PeriodId). (x : Part) × IsMember w new z x × (x.stamp ≡ j.start)) same s.starts;
+          start = subst (λ (z : PeriodId). (x : Part) → IsMember w new z x → j.start ≤ x.stamp) same s.start;
+          digest = (subst (λ (z : PeriodId). Sums j.key (IsMember w new z) j) same s).digest;
         },
       )
 
   are_slots : Taking w old new last p key slots → (first second : Option Slot) → Finds w old new last p key slots first second → (j : Slot) → j.key ≡ key → (slots' : List (ByStart × Held)) → IsReplaced slots j first second slots'
-      → (q : Place) → IsJoined w old p new q → q ≡ slot_place j → IsSlot w new last j → AreSlots w new last slots'
+      → (q : PeriodId) → IsJoined w old p new q → q ≡ slot_place j → IsSlot w new last j → AreSlots w new last slots'
   are_slots t first second f j k slots' r q m same h = record {
     each = λ s i. elim (is_left t first second f j k slots' r s i) [
       | inl e ↦ subst (IsSlot w new last) e h
@@ -226,7 +226,7 @@ module _ (w : ℕ) (old new : Part → Type 0) (last : Option Place) (p : Part) 
           let one : j.key ≡ s.key = one_rank j.key s.key (subst IsKeyValue (sym k) t.value) (t.values s o.0) e.0 in
           let end = one_end w new last j s h (IsSlot-stays w old new last s (t.are.each s o.0) (old_stays t s o)) one e.1 in
           let place : q ≡ slot_place s = same ∙ (λ i. record { end = end i; key = one i }) in
-          let member = (old_stays t s o).adds_none p (subst (λ (y : Place). IsMember w new y p) place m.has_new) in
+          let member = (old_stays t s o).adds_none p (subst (λ (y : PeriodId). IsMember w new y p) place m.has_new) in
           absurd (o.1 (record {
             open_one = o.0;
             same_key = sym k ∙ one;
@@ -242,7 +242,7 @@ module _ (w : ℕ) (old new : Part → Type 0) (last : Option Place) (p : Part) 
   merged_key one None h e = e
   merged_key one (Some g) h e = sym (h g refl).same_key
 
-  pub slots_taken : Taking w old new last p key slots → (q : Place) → IsJoined w old p new q → (slots' : List (ByStart × Held)) → IsTaken slots p w slots' → AreSlots w new last slots'
+  pub slots_taken : Taking w old new last p key slots → (q : PeriodId) → IsJoined w old p new q → (slots' : List (ByStart × Held)) → IsTaken slots p w slots' → AreSlots w new last slots'
   slots_taken t q m slots' r =
       let one = r.one in
       let e : key ≡ one.key = some_is key one.key (sym t.of_key ∙ r.is_one.key) in
@@ -250,11 +250,11 @@ module _ (w : ℕ) (old new : Part → Type 0) (last : Option Place) (p : Part) 
       let x = merged r.first one in
       let j = slot_with x r.second in
       let jk : j.key ≡ key = joined_key x r.second ∙ merged_key one r.first f.one (sym e) in
-      let s0 = subst (λ (z : Key). Sums z (λ y. y ≡ p) one) (sym e) (sums_one p one r.is_one) in
+      let s0 = subst (λ (z : PeriodKey). Sums z (λ y. y ≡ p) one) (sym e) (sums_one p one r.is_one) in
       let s1 = sums_merged t (λ y. y ≡ p) one r.first s0 f.one in
       let s2 = sums_found t (FoundOf (λ y. y ≡ p) r.first) x r.second s1 f.other in
-      let behind : (z : Place) → IsTouched w old p z → IsAfter last z = λ z c. t.behind z c.is_member.ends.is_end (omega (arith, c.not_far_before, c.is_member.ends.after)) in
+      let behind : (z : PeriodId) → IsTouched w old p z → IsAfter last z = λ z c. t.behind z c.is_member.ends.is_end (omega (arith, c.not_far_before, c.is_member.ends.after)) in
       let s3 = sums_same key (FoundMember r.first r.second) (IsMember w new q) j (members_found t r.first r.second f q m behind) s2 in
       let qk : q.key ≡ j.key = some_is q.key j.key (sym m.has_new.of_key ∙ t.of_key ∙ ap Some (sym jk)) in
-      let js = joined_slot q j m qk (t.behind_new q m.has_new.ends.after) (subst (λ (z : Key). Sums z (IsMember w new q) j) (sym jk) s3) in
+      let js = joined_slot q j m qk (t.behind_new q m.has_new.ends.after) (subst (λ (z : PeriodKey). Sums z (IsMember w new q) j) (sym jk) s3) in
       are_slots t r.first r.second f j jk slots' r.replaced q m js.0 js.1

@@ -4,8 +4,8 @@ use Rattle.nav_eph.specs.Satellite.{Satellite, place_of}
 use Rattle.nav_eph.specs.Numbers.{gps_ion_number, gal_ion_number, health_number}
 use Rattle.nav_eph.specs.declared.galileo.GalHealth.{GalHealth}
 use Rattle.nav_eph.specs.declared.tag.SentTag.{SentTag}
-use Rattle.periods.specs.declared.key.Key.{Key}
-use Rattle.periods.specs.declared.key.Key.TheVariants.{Gps, Gal, GpsIon, GalIon}
+use Rattle.periods.specs.declared.key.PeriodKey.{PeriodKey}
+use Rattle.periods.specs.declared.key.PeriodKey.TheVariants.{Gps, Gal, GpsIon, GalIon}
 use Rattle.slot_assembly.specs.declared.order.Rank.{Rank}
 use Rattle.slot_assembly.specs.declared.order.ByStart.{ByStart}
 use Rattle.slot_assembly.specs.declared.order.ByEnd.{ByEnd}
@@ -13,7 +13,7 @@ use Rattle.slot_assembly.specs.declared.order.BySat.{BySat}
 use Rattle.slot_assembly.specs.declared.order.ByStamp.{ByStamp}
 
 -- the rank of a key: its numbers in the order of periods
-abbrev pub rank_of : Key → Rank
+abbrev pub rank_of : PeriodKey → Rank
 rank_of (Gps sat issue) = record { class = 0; system = place_of sat.system; number = sat.number; issue = issue }
 rank_of (Gal sat issue) = record { class = 1; system = place_of sat.system; number = sat.number; issue = issue }
 rank_of (GpsIon content) = record { class = 2; system = 0; number = 0; issue = gps_ion_number content }

@@ -6,8 +6,8 @@ use Rattle.nav_eph.specs.declared.items.NavItem.{NavItem}
 use Rattle.nav_eph.specs.declared.part.Part.{Part}
 use Rattle.nav_eph.specs.Values.{IsPartValue}
 use Rattle.periods.proofs.Surface.{Same, same_sym}
-use Rattle.periods.specs.declared.key.Key.{Key}
-use Rattle.periods.specs.declared.key.Place.{Place}
+use Rattle.periods.specs.declared.key.PeriodKey.{PeriodKey}
+use Rattle.periods.specs.declared.key.PeriodId.{PeriodId}
 use Rattle.periods.proofs.Surface.{IsPeriod-same, members_same, IsDigest-same, IsComplete-same, HasValue-to}
 use Rattle.periods.specs.Parts.{HealthOf}
 use Rattle.slot_assembly.specs.Standing.{Standing, with_parts}
@@ -21,7 +21,7 @@ pub parts_are_values : (s : SlotsState) (at : Standing) → SlotsStandFor s at �
 parts_are_values s at h = h.values
 
 -- the slot of a period is the same for equal sets of parts
-IsSlot-same : (w : ℕ) (a b : Part → Type 0) (last : Option Place) (s : Slot) → Same a b → IsSlot w a last s → IsSlot w b last s
+IsSlot-same : (w : ℕ) (a b : Part → Type 0) (last : Option PeriodId) (s : Slot) → Same a b → IsSlot w a last s → IsSlot w b last s
 IsSlot-same w a b last s e h =
     let m = members_same w a b (slot_place s) e in
     record {
@@ -33,7 +33,7 @@ IsSlot-same w a b last s e h =
     }
 
 -- the known item of a key is the same for equal sets of parts
-IsKnownGiven-same : (r w : ℕ) (a b : Part → Type 0) (last : Option Place) (key : Key) (o : Option NavItem) → Same a b → IsKnownGiven r w a last key o → IsKnownGiven r w b last key o
+IsKnownGiven-same : (r w : ℕ) (a b : Part → Type 0) (last : Option PeriodId) (key : PeriodKey) (o : Option NavItem) → Same a b → IsKnownGiven r w a last key o → IsKnownGiven r w b last key o
 IsKnownGiven-same r w a b last key None e h = λ eph f item c g. h eph f item (IsComplete-same r w b a key f item (same_sym a b e) c) g
 IsKnownGiven-same r w a b last key (Some item) e h = record {
   ephemeris = h.ephemeris;
@@ -58,7 +58,7 @@ parts_are_a_set s at other h same =
       };
       indexed = h.indexed;
       kept = record {
-        was_heard = λ x v i. let f = h.kept.was_heard x v i in (f.0, HasValue-to (HealthOf f.0) a b v e.to f.1, f.2);
+        was_received = λ x v i. let f = h.kept.was_received x v i in (f.0, HasValue-to (HealthOf f.0) a b v e.to f.1, f.2);
         recent = h.kept.recent;
         every = λ sat v i l. h.kept.every sat v (HasValue-to (HealthOf sat) b a v e.from i) l;
       };

@@ -6,7 +6,7 @@ use Rattle.std.specs.BTreeMap.{is_at}
 use Rattle.std.specs.BTreeMap.Range.{IsLeBy}
 use Rattle.std.specs.Map.{lookup}
 use Rattle.nav_eph.specs.declared.part.Part.{Part}
-use Rattle.periods.specs.declared.key.Place.{Place}
+use Rattle.periods.specs.declared.key.PeriodId.{PeriodId}
 use Rattle.periods.specs.Parts.{key_of}
 use Rattle.periods.specs.Periods.{IsBefore}
 use Rattle.periods.specs.DigestsOf.{digest_of, digest_join}
@@ -40,7 +40,7 @@ abbrev pub at_of : Slot → ByStart
 at_of s = by_start (rank_of s.key) s.start
 
 -- the end and key of a slot's period
-abbrev pub slot_place : Slot → Place
+abbrev pub slot_place : Slot → PeriodId
 slot_place s = record { end = s.end; key = s.key }
 
 -- the slot is stored

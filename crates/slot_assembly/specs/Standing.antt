@@ -1,7 +1,7 @@
 -- The state that an assembly represents, and the period that it gives next.
 use Rattle.std.specs.Prelude.{ℕ, ◌+◌, ◌<◌, List, [], ◌∷◌, ◌++◌, Option, None, Some}
 use Rattle.nav_eph.specs.declared.part.Part.{Part}
-use Rattle.periods.specs.declared.key.Place.{Place}
+use Rattle.periods.specs.declared.key.PeriodId.{PeriodId}
 use Rattle.periods.specs.declared.closed.Closed.{Closed}
 use Rattle.periods.specs.Periods.{IsPeriod, IsBefore}
 use Rattle.periods.specs.Verdicts.{IsClosed, closed_place}
@@ -10,7 +10,7 @@ use Rattle.periods.specs.Verdicts.{IsClosed, closed_place}
 pub record Standing : Type 0 where
   pub parts : List Part
   pub watermark : ℕ
-  pub last : Option Place
+  pub last : Option PeriodId
 
 -- the assembly represents some state with this property
 abbrev pub Stood : (Standing → Type 0) → (Standing → Type 0) → Type 0
@@ -50,26 +50,26 @@ abbrev pub reaching : ℕ → Standing → Standing
 reaching watermark at = record { parts = at.parts; watermark = watermark; last = at.last }
 
 -- a watermark, and a period given
-abbrev pub giving : ℕ → Place → Standing → Standing
+abbrev pub giving : ℕ → PeriodId → Standing → Standing
 giving watermark place at = record { parts = at.parts; watermark = watermark; last = Some place }
 
 -- the period is after the last one given, if any
-abbrev pub IsAfter : Option Place → Place → Type 0
+abbrev pub IsAfter : Option PeriodId → PeriodId → Type 0
 IsAfter None place = Unit {0}
 IsAfter (Some last) place = IsBefore last place
 
 -- a period that is closed at the watermark and not given yet
-pub record IsDue (window : ℕ) (parts : Part → Type 0) (watermark : ℕ) (last : Option Place) (place : Place) : Type 0 where
+pub record IsDue (window : ℕ) (parts : Part → Type 0) (watermark : ℕ) (last : Option PeriodId) (place : PeriodId) : Type 0 where
   pub period : IsPeriod window parts place
   pub low : place.end + window < watermark
   pub after : IsAfter last place
 
 -- the first period due, with its verdict
-pub record IsNext (r window : ℕ) (parts : Part → Type 0) (watermark : ℕ) (last : Option Place) (closed : Closed) : Type 0 where
+pub record IsNext (r window : ℕ) (parts : Part → Type 0) (watermark : ℕ) (last : Option PeriodId) (closed : Closed) : Type 0 where
   pub due : IsDue window parts watermark last (closed_place closed)
   pub verdict : IsClosed r window parts closed
-  pub least : (place : Place) → IsDue window parts watermark last place → IsBefore place (closed_place closed) → ⊥
+  pub least : (place : PeriodId) → IsDue window parts watermark last place → IsBefore place (closed_place closed) → ⊥
 
 -- no period is due
-abbrev pub NoneDue : ℕ → (Part → Type 0) → ℕ → Option Place → Type 0
-NoneDue window parts watermark last = (place : Place) → IsDue window parts watermark last place → ⊥
+abbrev pub NoneDue : ℕ → (Part → Type 0) → ℕ → Option PeriodId → Type 0
+NoneDue window parts watermark last = (place : PeriodId) → IsDue window parts watermark last place → ⊥

@@ -12,15 +12,14 @@ ghost use Rattle.slot_assembly.specs.contracts.order.RankOrd.TheImpl.{cmp-value 
 use crate::known::{item_before, remember};
 use crate::order::Rank;
 use crate::slot::PackedSlot;
-use gnss_week::RefWeek;
-use nav_eph::{GalHealth, NavItem, SentTag};
-use periods::{Closed, Key, Verdict, judge};
+use nav_eph::{GalHealth, NavItem, RefWeek, SentTag};
+use periods::{Closed, PeriodKey, Verdict, judge};
 use std::alloc::AllocError;
 use std::collections::BTreeMap;
 
 // Puts a partial period in the room of another. A newly written period is cleared to its full size,
 // so where the other is partial too only its end and key are changed.
-fn put_partial(end: u32, key: &Key, into: &mut Option<Closed>)
+fn put_partial(end: u32, key: &PeriodKey, into: &mut Option<Closed>)
     ensures { into.new ≡ Some (record { end = end; key = key.now; verdict = Partial }) }
 {
     if let Some(

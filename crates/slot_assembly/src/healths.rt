@@ -5,14 +5,15 @@ ghost use Rattle.std.specs.BTreeSet.{btree_set_len};
 ghost use Rattle.periods.specs.Mirrors.{or_else};
 ghost use Rattle.slot_assembly.specs.Order.{place_of_health, sat_place};
 ghost use Rattle.slot_assembly.specs.Healths.{AreStamped, HasStamp, IsChosen, IsFirstAbove};
-ghost use Rattle.slot_assembly.specs.Healths.{IsForgotten, IsHeard, IsHeardChanged, IsLastBelow};
+ghost use Rattle.slot_assembly.specs.Healths.{IsForgotten, IsReceived, IsReceivedChanged};
+ghost use Rattle.slot_assembly.specs.Healths.{IsLastBelow};
 ghost use Rattle.slot_assembly.specs.Healths.{IsLooked, IsOldest, IsSameHealth, near_behind};
 ghost use Rattle.slot_assembly.specs.Healths.{near_up};
 
-use crate::order::{BySat, ByStamp, place_in_sat, place_of_heard};
+use crate::order::{BySat, ByStamp, place_in_sat, place_of_received};
 use nav_bits::{S, U};
 use nav_eph::{Body, GalHealth, Part, Sat, SentTag};
-use periods::Key;
+use periods::PeriodKey;
 use std::alloc::AllocError;
 use std::collections::{BTreeMap, BTreeSet};
 
@@ -111,13 +112,13 @@ impl Healths {
     pub(crate) fn choose(
         &self,
         window: u32,
-        key: Key,
+        key: PeriodKey,
         end: u32,
     ) -> Option<(u32, GalHealth, SentTag)>
         ensures { IsChosen self.now.heard.entries window key end result }
     {
         match key {
-            Key::Gal(sat, _) => self.look(sat, window, end),
+            PeriodKey::Gal(sat, _) => self.look(sat, window, end),
             _ => None,
         }
     }
@@ -126,12 +127,12 @@ impl Healths {
     fn put(&mut self, sat: Sat, health: (u32, GalHealth, SentTag)) -> Result<(), AllocError>
         requires stamped { AreStamped self.old.heard.entries self.old.stamps.keys }
         ensures stamped { AreStamped self.new.heard.entries self.new.stamps.keys }
-        ensures ok { OnOk result (IsHeardChanged self.old.heard.entries
+        ensures ok { OnOk result (IsReceivedChanged self.old.heard.entries
             (place_of_health sat health) (Some health) self.new.heard.entries) }
         ensures err { OnErr result (IsSameHealth self.old.heard.entries self.new.heard.entries) }
     {
         let _inside: Option<(S<10>, U<2>)> = None;
-        let place = place_of_heard(sat, &health);
+        let place = place_of_received(sat, &health);
         let stamp = place.among_all();
         self.stamps.insert(stamp)?;
         match self.heard.insert(place, health) {
@@ -147,7 +148,7 @@ impl Healths {
     pub(crate) fn take(&mut self, part: &Part) -> Result<(), AllocError>
         requires stamped { AreStamped self.old.heard.entries self.old.stamps.keys }
         ensures stamped { AreStamped self.new.heard.entries self.new.stamps.keys }
-        ensures ok { OnOk result (IsHeard self.old.heard.entries part.now
+        ensures ok { OnOk result (IsReceived self.old.heard.entries part.now
             self.new.heard.entries) }
         ensures err { OnErr result (IsSameHealth self.old.heard.entries self.new.heard.entries) }
     {
@@ -165,7 +166,7 @@ impl Healths {
         requires stamped { AreStamped self.old.heard.entries self.old.stamps.keys }
         requires there { HasStamp self.old.stamps.keys stamp }
         ensures stamped { AreStamped self.new.heard.entries self.new.stamps.keys }
-        ensures gone { IsHeardChanged self.old.heard.entries (sat_place stamp) None
+        ensures gone { IsReceivedChanged self.old.heard.entries (sat_place stamp) None
             self.new.heard.entries }
         ensures fewer { btree_set_len self.new.stamps < btree_set_len self.old.stamps }
     {

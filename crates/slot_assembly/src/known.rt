@@ -9,13 +9,13 @@ ghost use Rattle.slot_assembly.specs.SlotStanding.{known_for};
 ghost use Rattle.slot_assembly.specs.contracts.order.RankOrd.TheImpl.{cmp-value as rank_cmp};
 
 use crate::order::{Rank, rank_of_key};
-use gnss_week::{Moment, Second, Week};
 use nav_bits::{S, U};
 use nav_eph::{
     GalEph, GalHealth, GalIon, GalWord1, GalWord2, GalWord3, GalWord4, GpsClock, GpsEph, GpsIon,
-    GpsOrbitA, GpsOrbitB, GpsSide, IonContent, IonEph, NavItem, Sat, SentSecond,
+    GpsOrbitA, GpsOrbitB, GpsSide, IonContent, IonEph, Moment, NavItem, Sat, Second, SentSecond,
+    Week,
 };
-use periods::{Finding, Key};
+use periods::{Finding, PeriodKey};
 use std::alloc::AllocError;
 use std::collections::BTreeMap;
 
@@ -46,24 +46,24 @@ type Inside = (
 );
 
 // The item that one of the key is compared with; `None` for an ionosphere.
-pub(crate) fn item_before(known: &BTreeMap<Rank, NavItem>, key: &Key) -> Option<NavItem>
+pub(crate) fn item_before(known: &BTreeMap<Rank, NavItem>, key: &PeriodKey) -> Option<NavItem>
     ensures { result ≡ known_for key.now known.now.entries }
 {
     match key {
-        Key::Gps(_, _) => known.get(&rank_of_key(key)).copied(),
-        Key::Gal(_, _) => known.get(&rank_of_key(key)).copied(),
-        Key::GpsIon(_) => None,
-        Key::GalIon(_) => None,
+        PeriodKey::Gps(_, _) => known.get(&rank_of_key(key)).copied(),
+        PeriodKey::Gal(_, _) => known.get(&rank_of_key(key)).copied(),
+        PeriodKey::GpsIon(_) => None,
+        PeriodKey::GalIon(_) => None,
     }
 }
 
 // The item to store for later comparison: that of a complete ephemeris.
-fn kept_item(key: &Key, finding: &Finding) -> Option<NavItem>
+fn kept_item(key: &PeriodKey, finding: &Finding) -> Option<NavItem>
     ensures { result ≡ item_to_keep key.now finding.now }
 {
     match key {
-        Key::GpsIon(_) => return None,
-        Key::GalIon(_) => return None,
+        PeriodKey::GpsIon(_) => return None,
+        PeriodKey::GalIon(_) => return None,
         _ => {}
     }
     match finding {
@@ -75,7 +75,7 @@ fn kept_item(key: &Key, finding: &Finding) -> Option<NavItem>
 // Stores the item of a complete ephemeris in place of the one before.
 pub(crate) fn remember(
     known: &mut BTreeMap<Rank, NavItem>,
-    key: &Key,
+    key: &PeriodKey,
     finding: &Finding,
 ) -> Result<(), AllocError>
     ensures ordered { IsStrictlySortedBy rank_cmp.it (keys_of known.new.entries) }

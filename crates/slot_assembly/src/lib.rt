@@ -17,7 +17,7 @@
 //! capture. Each call costs a few searches in ordered maps.
 //!
 //! ```rust
-//! use gnss_week::RefWeek;
+//! use nav_eph::RefWeek;
 //! use slot_assembly::{SlotAssembly, add_periods};
 //!
 //! let week = RefWeek::new(2_295).ok_or("a week")?;

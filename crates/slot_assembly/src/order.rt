@@ -7,7 +7,7 @@ ghost use Rattle.slot_assembly.specs.Order.{is_of_sat, place_of_health, rank_of,
 ghost use Rattle.slot_assembly.specs.Order.{start_place};
 
 use nav_eph::{GalHealth, Sat, SentTag};
-use periods::{Key, system_number};
+use periods::{PeriodKey, system_number};
 
 /// The numbers by which keys are ordered: class, system, satellite number, and issue of data or
 /// content.
@@ -64,29 +64,29 @@ const _: () = prove!(size_of::<ByStart>() <= 24);
 const _: () = prove!(size_of::<ByEnd>() <= 32);
 
 // The rank of a key.
-pub(crate) fn rank_of_key(key: &Key) -> Rank
+pub(crate) fn rank_of_key(key: &PeriodKey) -> Rank
     ensures { result ≡ rank_of key.now }
 {
     match key {
-        Key::Gps(sat, issue) => Rank {
+        PeriodKey::Gps(sat, issue) => Rank {
             class: 0,
             system: system_number(sat.system()),
             number: sat.number(),
             issue: issue.value(),
         },
-        Key::Gal(sat, issue) => Rank {
+        PeriodKey::Gal(sat, issue) => Rank {
             class: 1,
             system: system_number(sat.system()),
             number: sat.number(),
             issue: issue.value(),
         },
-        Key::GpsIon(content) => Rank {
+        PeriodKey::GpsIon(content) => Rank {
             class: 2,
             system: 0,
             number: 0,
             issue: content.number(),
         },
-        Key::GalIon(content) => Rank {
+        PeriodKey::GalIon(content) => Rank {
             class: 3,
             system: 0,
             number: 0,
@@ -198,7 +198,7 @@ pub(crate) fn place_in_sat(sat: Sat, stamp: u64, bit_pattern: u64) -> BySat
 }
 
 // The place of a satellite's health.
-pub(crate) fn place_of_heard(sat: Sat, health: &(u32, GalHealth, SentTag)) -> BySat
+pub(crate) fn place_of_received(sat: Sat, health: &(u32, GalHealth, SentTag)) -> BySat
     ensures { result ≡ place_of_health sat health.now }
 {
     place_in_sat(sat, health.0 as u64, health.1.number_with(&health.2))

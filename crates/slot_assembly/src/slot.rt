@@ -5,7 +5,7 @@ ghost use Rattle.nav_eph.specs.declared.galileo.GalHealth.{GalHealth};
 ghost use Rattle.nav_eph.specs.declared.tag.SentTag.{SentTag};
 ghost use Rattle.periods.specs.DigestsOf.{digest_finding, digest_join};
 ghost use Rattle.periods.specs.declared.closed.Finding.TheVariants.{Misses};
-ghost use Rattle.periods.specs.declared.key.Key.{Key};
+ghost use Rattle.periods.specs.declared.key.PeriodKey.{PeriodKey};
 ghost use Rattle.periods.specs.declared.digest.Digest.TheVariants.{Ion};
 ghost use Rattle.slot_assembly.specs.Slots.{IsOne, IsOneSlot, slot_of, slot_place};
 ghost use Rattle.slot_assembly.specs.Slots.{slot_with};
@@ -17,7 +17,7 @@ use nav_eph::{
     GalWord1, GalWord2, GalWord3, GalWord4, GpsClock, GpsOrbitA, GpsOrbitB, GpsSide, Part, Sat,
     SentTag,
 };
-use periods::{Digest, GalDigest, GpsDigest, Key, Place, Seen, Transmission, key_of_part};
+use periods::{Digest, GalDigest, GpsDigest, PeriodId, PeriodKey, Seen, Transmission, key_of_part};
 use std::alloc::{AllocError, Global};
 
 /// An open period: its key, the time tags of its first and last member, and the digest of its
@@ -25,7 +25,7 @@ use std::alloc::{AllocError, Global};
 #[derive(Clone, Copy)]
 pub struct Slot {
     /// The key of its parts.
-    pub key: Key,
+    pub key: PeriodKey,
     /// The time tag of the first member.
     pub start: u32,
     /// The time tag of the last member.
@@ -38,7 +38,7 @@ pub struct Slot {
 #[derive(Clone, Copy)]
 pub struct IonSlot {
     /// The key of its parts.
-    pub key: Key,
+    pub key: PeriodKey,
     /// The time tag of the first member.
     pub start: u32,
     /// The time tag of the last member.
@@ -179,7 +179,7 @@ impl PackedSlot {
     }
 
     // The key of its parts.
-    pub(crate) fn key(&self) -> &Key
+    pub(crate) fn key(&self) -> &PeriodKey
         ensures { result.now ≡ (slot_of self.now).key }
     {
         match self {
@@ -189,15 +189,15 @@ impl PackedSlot {
     }
 
     // The end and key of its period.
-    pub(crate) fn period(&self) -> Place
+    pub(crate) fn period(&self) -> PeriodId
         ensures { result ≡ slot_place (slot_of self.now) }
     {
         match self {
-            PackedSlot::Ephemeris(boxed) => Place {
+            PackedSlot::Ephemeris(boxed) => PeriodId {
                 end: boxed.end,
                 key: boxed.key,
             },
-            PackedSlot::Ionosphere(slot) => Place {
+            PackedSlot::Ionosphere(slot) => PeriodId {
                 end: slot.end,
                 key: slot.key,
             },
@@ -206,7 +206,8 @@ impl PackedSlot {
 
     // A kind of part is missing, and none differs.
     pub(crate) fn lacks_parts(&self) -> bool
-        ensures { result ≡ true → (r : ℕ) (key : Key) (health : Option (ℕ × GalHealth × SentTag))
+        ensures { result ≡ true
+            → (r : ℕ) (key : PeriodKey) (health : Option (ℕ × GalHealth × SentTag))
             → digest_finding r key (slot_of self.now).digest health ≡ Misses }
     {
         match self {

@@ -21,13 +21,12 @@ ghost use Rattle.slot_assembly.specs.declared.slot.Slot.{Slot};
 
 use crate::order::{ByEnd, ByStart, Rank, rank_of_key};
 use crate::slot::{Held, IonSlot, PackedSlot, Slot, one_of};
-use gnss_week::Second;
 use nav_bits::U;
 use nav_eph::{
     GalIon, GalWord1, GalWord2, GalWord3, GalWord4, GpsClock, GpsIon, GpsOrbitA, GpsOrbitB,
-    GpsSide, Part, Sat, SentTag,
+    GpsSide, Part, Sat, Second, SentTag,
 };
-use periods::{Digest, GalDigest, GpsDigest, Key, Seen, Transmission};
+use periods::{Digest, GalDigest, GpsDigest, PeriodKey, Seen, Transmission};
 use std::alloc::{AllocError, Global};
 use std::collections::{BTreeMap, BTreeSet};
 
@@ -58,7 +57,7 @@ type Inside = (
     U<1>,
     Second,
     Sat,
-    Key,
+    PeriodKey,
     Digest,
     IonSlot,
     Slot,
@@ -300,7 +299,7 @@ impl OpenSlots {
     // window; the last of them is at `first`.
     fn join(
         &mut self,
-        key: &Key,
+        key: &PeriodKey,
         first: Option<u32>,
         part: &Part,
         window: u32,
@@ -327,7 +326,12 @@ impl OpenSlots {
 
     // Takes a part of a key. Where it touches a slot that started before it, that slot changes in
     // its place, and no tree does.
-    pub(crate) fn take(&mut self, key: &Key, part: &Part, window: u32) -> Result<(), AllocError>
+    pub(crate) fn take(
+        &mut self,
+        key: &PeriodKey,
+        part: &Part,
+        window: u32,
+    ) -> Result<(), AllocError>
         requires indexed { AreIndexed self.old.slots.entries self.old.ends.keys }
         requires key { key_of part.now ≡ Some key.now }
         ensures indexed { AreIndexed self.new.slots.entries self.new.ends.keys }

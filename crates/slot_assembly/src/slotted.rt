@@ -8,9 +8,8 @@ use crate::closing::close_slot;
 use crate::healths::Healths;
 use crate::order::Rank;
 use crate::slots::OpenSlots;
-use gnss_week::RefWeek;
-use nav_eph::{NavItem, Part};
-use periods::{Closed, Place, key_of_part, note_value};
+use nav_eph::{NavItem, Part, RefWeek};
+use periods::{Closed, PeriodId, key_of_part, note_value};
 use std::alloc::{AllocError, Global};
 use std::collections::{BTreeMap, BTreeSet};
 use std::marker::Model;
@@ -29,7 +28,7 @@ pub struct SlotAssembly {
     reference: RefWeek,
     window: u32,
     watermark: u64,
-    last: Option<Place>,
+    last: Option<PeriodId>,
     none_at: u64,
     known: BTreeMap<Rank, NavItem>,
 }

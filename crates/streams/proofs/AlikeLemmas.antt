@@ -9,7 +9,7 @@ use Rattle.std.specs.FinMap.{slice_cmp-IsAntisymmetric, nat_cmp-IsAntisymmetric}
 use Rattle.std.proofs.lemmas.Cmp.{nat_list_cmp_total}
 use Rattle.nav_bits.specs.Fields.{StandFrom}
 use Rattle.nav_bits.specs.Packed.{AreBytes}
-use Rattle.gnss_week.specs.Weeks.{IsNearGalileo, IsNearGps}
+use Rattle.nav_eph.specs.Weeks.{IsNearGalileo, IsNearGps}
 use Rattle.nav_eph.specs.Items.{same_item}
 use Rattle.nav_eph.specs.Ranges.{HasGalRanges, HasGpsRanges, IsItem}
 use Rattle.nav_eph.specs.declared.items.GpsEph.{GpsEph}
@@ -18,13 +18,13 @@ use Rattle.nav_eph.specs.declared.items.NavItem.{NavItem}
 use Rattle.nav_eph.specs.declared.items.NavItem.TheVariants.{Gps, Gal, Ion}
 use Rattle.nav_eph.specs.declared.items.SentSecond.TheVariants.{Unknown}
 use Rattle.rtcm_eph.specs.declared.fault.MessageFault.{MessageFault}
-use Rattle.rtcm_eph.specs.declared.content.Content.{Content}
-use Rattle.rtcm_eph.specs.declared.content.Content.TheVariants.{Gps as OfGps, Gal as OfGal}
+use Rattle.rtcm_eph.specs.declared.content.EphemerisMessage.{EphemerisMessage}
+use Rattle.rtcm_eph.specs.declared.content.EphemerisMessage.TheVariants.{Gps as OfGps, Gal as OfGal}
 use Rattle.rtcm_eph.specs.Messages.{fields_1019, fields_1046}
 use Rattle.rtcm_eph.specs.Reading.{GivesItem, content_of, item_in}
 use Rattle.rtcm_eph.specs.RoundTrip.{Begins1019, Begins1046, IsGal, IsGps}
 use Rattle.rtcm_eph.specs.Writing.{bytes_1019, bytes_1046, message_1019, message_1046}
-use Rattle.rtcm_frame.specs.State.{payload_of}
+use Rattle.framing.specs.State.{payload_of}
 use Rattle.streams.specs.Streams.{has, items_of_readings, readings}
 use Rattle.streams.specs.Mirrors.{any_alike, sent_alike}
 
@@ -61,7 +61,7 @@ IsRead r (Gps e) = ReadGps r e
 IsRead r (Gal e) = ReadGal r e
 IsRead r (Ion e) = ⊥
 
-is_read : (r : ℕ) (content : Result Content MessageFault) (item : NavItem) → GivesItem r content (Ok item) → IsItem item → IsRead r item
+is_read : (r : ℕ) (content : Result EphemerisMessage MessageFault) (item : NavItem) → GivesItem r content (Ok item) → IsItem item → IsRead r item
 is_read r (Ok (OfGps c)) (Gps e) gives whole = record {
   is = record { whole = whole.whole; number = whole.ranges.sat; toe = whole.ranges.a.toe; toc = whole.ranges.clock.toc };
   near = record { from = gives.0.from; to = gives.0.to };

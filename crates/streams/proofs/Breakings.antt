@@ -5,7 +5,7 @@ use Rattle.std.specs.List.{flat_map}
 use Rattle.std.proofs.KnownBytes.{Appends-trans}
 use Rattle.std.proofs.lemmas.Grind.{flat_map-append}
 use Rattle.nav_io.specs.Prefix.{AppendsPrefix}
-use Rattle.rtcm_frame.specs.Frames.{frames}
+use Rattle.framing.specs.Frames.{frames}
 use Rattle.streams.specs.FrameRuns.{Goes, Breaks}
 
 -- lines were written, and then a write failed

@@ -2,8 +2,8 @@
 use Rattle.std.proofs.Common.{◌≡◌, ℕ, zero, suc, ◌+◌, ◌-◌, ◌<◌, ◌≤◌, ◌&&◌, nat_lt, nat_le, nat_eq, Bool, true, false, cond, List, [], ◌∷◌, ◌++◌, length, take, drop, refl, sym, ap, ◌∙◌, inl, inr, arith, length-append}
 use Rattle.std.proofs.lemmas.Bool.{and_left, and_right, and_cases, and_parts, ltb-true, ltb-false, leb-true, le-ltb, le-leb, cond_both}
 use Rattle.std.proofs.lemmas.List.{take-append-le}
-use Rattle.rtcm_frame.specs.Frames.{announced, frame_size, is_open, is_right, frames_past, decided, open_past, undecided, after_first}
-use Rattle.rtcm_frame.specs.State.{IsWaiting, TakesFrame, TakesNone}
+use Rattle.framing.specs.Frames.{announced, frame_size, is_open, is_right, frames_past, decided, open_past, undecided, after_first}
+use Rattle.framing.specs.State.{IsWaiting, TakesFrame, TakesNone}
 
 -- ---- the form of one frame
 

@@ -4,7 +4,7 @@ use Rattle.std.specs.Prelude.{Option}
 use Rattle.std.specs.Io.KnownBytes.{Appends}
 use Rattle.std.proofs.KnownBytes.{Appends-nil, Appends-trans}
 use Rattle.std.proofs.lemmas.Grind.{flat_map-append}
-use Rattle.rtcm_frame.specs.Frames.{decided, frames}
+use Rattle.framing.specs.Frames.{decided, frames}
 use Rattle.streams.specs.FrameRuns.{Goes}
 
 -- nothing was given

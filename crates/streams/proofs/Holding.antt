@@ -6,8 +6,8 @@ use Rattle.std.specs.Io.KnownBytes.{Appends}
 use Rattle.std.proofs.KnownBytes.{Appends-nil, Appends-trans}
 use Rattle.std.proofs.lemmas.Grind.{flat_map-append}
 use Rattle.nav_io.specs.Prefix.{AppendsPrefix}
-use Rattle.rtcm_frame.specs.Frames.{decided, frames}
-use Rattle.rtcm_frame.specs.State.{TakesFrame, TakesNone}
+use Rattle.framing.specs.Frames.{decided, frames}
+use Rattle.framing.specs.State.{TakesFrame, TakesNone}
 use Rattle.streams.specs.FrameRuns.{Goes, Breaks, Gathers, Holds}
 use Rattle.streams.proofs.DecidedLemmas.{decided_frame, decided_none}
 

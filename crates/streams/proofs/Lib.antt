@@ -1,3 +1,4 @@
+pub mod OutletsSurface
 mod AlikeLemmas
 mod MessageKeys
 mod SentLemmas
@@ -20,4 +21,5 @@ mod SoFar
 mod ListTexts
 mod TakenLemmas
 mod TakenEnds
+pub mod StreamSurface
 pub mod Surface

@@ -4,8 +4,8 @@ use Rattle.std.specs.Prelude.{Option}
 use Rattle.std.proofs.lemmas.List.{take-append-drop}
 use Rattle.std.proofs.Math.Seq.{take-add}
 use Rattle.nav_eph.specs.declared.items.NavItem.{NavItem}
-use Rattle.rtcm_frame.specs.Frames.{decided, frames}
-use Rattle.rtcm_frame.specs.State.{TakesFrame, TakesNone}
+use Rattle.framing.specs.Frames.{decided, frames}
+use Rattle.framing.specs.State.{TakesFrame, TakesNone}
 use Rattle.streams.specs.declared.counts.StreamCounts.{StreamCounts}
 use Rattle.streams.specs.Mirrors.{GivenState, StreamBreaks, StreamGoes, StreamMoves, StreamSoFar, StreamBroke, StreamStops}
 use Rattle.streams.proofs.DecidedLemmas.{decided_frame, decided_none}

@@ -5,8 +5,8 @@ use Rattle.std.specs.Prelude.{Option, Result, Ok, Err, IfErr, OnErr}
 use Rattle.std.specs.Io.KnownBytes.{Consumes, IsAtEnd, Keeps}
 use Rattle.std.proofs.KnownBytes.{Consumes-trans, Consumes-kept}
 use Rattle.nav_eph.specs.declared.items.NavItem.{NavItem}
-use Rattle.rtcm_frame.specs.Frames.{decided, frames, undecided}
-use Rattle.rtcm_frame.specs.State.{DeframerState, IsWaiting}
+use Rattle.framing.specs.Frames.{decided, frames, undecided}
+use Rattle.framing.specs.State.{DeframerState, IsWaiting}
 use Rattle.one_run.specs.declared.fault.BridgeFault.{BridgeFault}
 use Rattle.one_run.specs.declared.fault.BridgeFault.TheVariants.{ReadFault, WriteFault, ReportFault, NotThisForm, TooLong, NoMemory}
 use Rattle.streams.specs.declared.counts.StreamCounts.{StreamCounts}

@@ -4,7 +4,7 @@ use Rattle.std.specs.Prelude.{Option}
 use Rattle.std.specs.Io.KnownBytes.{Consumes}
 use Rattle.std.proofs.KnownBytes.{Consumes-nil, Consumes-trans}
 use Rattle.nav_eph.specs.declared.items.NavItem.{NavItem}
-use Rattle.rtcm_frame.specs.State.{DeframerState, MayFeed}
+use Rattle.framing.specs.State.{DeframerState, MayFeed}
 use Rattle.streams.specs.declared.counts.StreamCounts.{StreamCounts}
 use Rattle.streams.specs.Mirrors.{GivenState, StreamMoves}
 use Rattle.streams.proofs.MoveLemmas.{moves_nowhere, moves_on, moves_fed}

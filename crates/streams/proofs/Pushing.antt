@@ -4,9 +4,9 @@ use Rattle.std.specs.Prelude.{Option, None, Some}
 use Rattle.std.specs.Io.KnownBytes.{Appends}
 use Rattle.std.proofs.KnownBytes.{Appends-nil, Appends-trans}
 use Rattle.nav_io.specs.Prefix.{AppendsPrefix, IsPrefix}
-use Rattle.rtcm_frame.specs.Frames.{decided, frames, undecided}
-use Rattle.rtcm_frame.specs.State.{DeframerState, IsWaiting}
-use Rattle.outlets.specs.Targets.{prefix_text, item_text}
+use Rattle.framing.specs.Frames.{decided, frames, undecided}
+use Rattle.framing.specs.State.{DeframerState, IsWaiting}
+use Rattle.streams.specs.Targets.{prefix_text, item_text}
 use Rattle.one_run.specs.declared.fault.BridgeFault.{BridgeFault}
 use Rattle.one_run.specs.Runs.{AppendsBetween}
 use Rattle.one_run.proofs.Surface.{all_of, all_whole, between_behind, between_whole, between_within, prefix_of, prefix_same, prefix_trans, prefix_within}
@@ -15,7 +15,7 @@ use Rattle.streams.specs.Streams.{Reading, counts_of_readings, flushed_output_by
 use Rattle.streams.specs.Mirrors.{GivenState, IsNext, StreamBroke, StreamMoves, StreamSoFar, StreamStops}
 use Rattle.streams.specs.Pushed.{IsBehind, IsCutShort, IsPushed, IsWhole, StreamRunState}
 use Rattle.streams.proofs.PieceEnds.{flushed_frames}
-use Rattle.streams.proofs.StreamEnds.{NoneGiven, begins, output_longer, readings_append, report_front, report_longer, text_grows, text_of, told_grows, told_of}
+use Rattle.streams.proofs.StreamEnds.{NoneGiven, begins, output_longer, readings_append, report_front, report_longer, text_grows, text_of, told_grows, outcome_of}
 use Rattle.streams.proofs.Stopping.{Stays, ended_stopped, frames_stopped, next_behind}
 
 -- nothing is there that is none of all
@@ -106,7 +106,7 @@ cut s stay bytes whole first done some rest w w1 u u1 next least most broke =
           (subst (λ (l : List Reading). IsPrefix (readings_report 1 (flushed_readings r bytes)) (readings_report 1 l)) (sym low) (report_longer 1 (readings r (decided bytes)) (readings r first)))
           (prefix_trans (readings_report 1 (readings r some)) (readings_report 1 (stream_readings r whole)) (stream_report r whole) told (report_front r whole))
           broke.report;
-      stopped = frames_stopped (text_of r prefix text) (told_of r) (text_grows r prefix text) (told_grows r) stay whole done some rest w w1 u u1 most next broke.output broke.report;
+      stopped = frames_stopped (text_of r prefix text) (outcome_of r) (text_grows r prefix text) (told_grows r) stay whole done some rest w w1 u u1 most next broke.output broke.report;
       counts_last = inl (prefix_within u u1 (readings_report 1 (readings r some)) (readings_report 1 (stream_readings r whole)) told (prefix_of u u1 _ _ broke.report));
     }
 
@@ -191,7 +191,7 @@ cut_counts s stay more before after bytes w w1 w2 u u1 u2 u3 g c waits old no_mo
       report = between_within u u3 (readings_report 1 (flushed_readings r bytes)) (readings_report 1 (stream_readings r bytes)) (stream_report r bytes) (stream_report r bytes)
           (subst (λ (l : List Reading). IsPrefix (readings_report 1 (flushed_readings r bytes)) (readings_report 1 l)) (sym low) (report_longer 1 (readings r (decided bytes)) (readings r (frames s.deframer.rest))))
           (prefix_same (stream_report r bytes)) reported;
-      stopped = ended_stopped (text_of r prefix text) (told_of r) (text_grows r prefix text) (told_grows r) stay bytes w w2 u u3
+      stopped = ended_stopped (text_of r prefix text) (outcome_of r) (text_grows r prefix text) (told_grows r) stay bytes w w2 u u3
           (all_whole w w2 (stream_output_by prefix text r bytes) far.output) (all_of u u3 _ _ reported);
       counts_last = inr far.output;
     }

@@ -7,12 +7,12 @@ use Rattle.std.proofs.KnownBytes.{Appends-trans, Consumes-nil, Consumes-trans, C
 use Rattle.std.proofs.lemmas.Grind.{flat_map-append}
 use Rattle.nav_io.specs.Causes.{Rose}
 use Rattle.nav_io.specs.Prefix.{AppendsPrefix, IsPrefix}
-use Rattle.rtcm_frame.specs.Frames.{decided, frames}
-use Rattle.rtcm_frame.specs.State.{DeframerState, MayFeed}
+use Rattle.framing.specs.Frames.{decided, frames}
+use Rattle.framing.specs.State.{DeframerState, MayFeed}
 use Rattle.one_run.specs.declared.fault.BridgeFault.TheVariants.{ReadFault, WriteFault, TooLong}
 use Rattle.one_run.specs.declared.fault.BridgeFault.{BridgeFault}
 use Rattle.one_run.specs.Causes.{HasItsCause}
-use Rattle.one_run.specs.Runs.{AppendsBetween, Broke, Done, IsAheadOf, Leaves, Says, World, faults_in}
+use Rattle.one_run.specs.Runs.{AppendsBetween, IsBroken, IsDone, IsAheadOf, Leaves, Says, World, faults_in}
 use Rattle.one_run.proofs.Surface.{ahead_at_end, ahead_by, between_whole, no_prefix, none_failed, prefix_behind, prefix_of, prefix_trans, read_failed, whole_prefix, with_rest, write_failed}
 use Rattle.streams.specs.declared.frame_run.FrameCounts.{FrameCounts}
 use Rattle.streams.specs.FrameLines.{frames_meaning, line_of}
@@ -134,7 +134,7 @@ written_ahead (Some bytes) w w1 u u1 ahead = ahead.0
 -- the run broke off
 broke : {S T U : Type 0} (b a : World S T U) (fault : BridgeFault) (taken : List ℕ) → Stays → IsSilent b a → Consumes b.left a.left taken
     → AppendsBetween b.written a.written (least_of line_of taken) (output_of line_of taken) → IsAheadOf frames_meaning.whole b.left b.written a.written b.reported a.reported
-    → HasItsCause {T = Unit {0}} (faults_in b) (faults_in a) (Err fault) → Says frames_meaning taken b a fault → Broke frames_meaning b a fault
+    → HasItsCause {T = Unit {0}} (faults_in b) (faults_in a) (Err fault) → Says frames_meaning taken b a fault → IsBroken frames_meaning b a fault
 broke b a fault taken stay silent consumes text ahead cause says = record {
   taken = taken;
   consumes = consumes;
@@ -158,7 +158,7 @@ pub done_frames : {S T U : Type 0} (b a : World S T U) (l1 w1 : Option (List ℕ
     → last.rest ≡ old.rest → last.finished ≡ true → (last.finished ≡ true → after ≡ [])
     → Goes line_of (not last.finished) last.rest after w1 a.written count counted
     → a.reads_failed ≡ b.reads_failed → a.writes_failed ≡ b.writes_failed
-    → Done frames_meaning b a (record { frames = counted })
+    → IsDone frames_meaning b a (record { frames = counted })
 done_frames b a l1 w1 old last after taken count counted n buffer silent far fits zero read end same finished none goes reads writes =
     let ends = subst (λ (x : Bool). Goes line_of (not x) last.rest after w1 a.written count counted) finished goes in
     let from = subst (λ (l : List ℕ). Goes line_of false l after w1 a.written count counted) same ends in
@@ -217,7 +217,7 @@ far_ahead b a l1 state taken count silent far consumes =
 -- a read failed
 pub broke_read : {S T U : Type 0} (b a : World S T U) (l1 : Option (List ℕ)) (state : DeframerState) (taken count : ℕ)
     → Stays → IsSilent b a → RunsSoFar line_of b.left l1 b.written a.written state taken count → Keeps l1 a.left
-    → Rose b.reads_failed a.reads_failed → a.writes_failed ≡ b.writes_failed → (IsTrue b.never_fails → ⊥) → Broke frames_meaning b a ReadFault
+    → Rose b.reads_failed a.reads_failed → a.writes_failed ≡ b.writes_failed → (IsTrue b.never_fails → ⊥) → IsBroken frames_meaning b a ReadFault
 broke_read b a l1 state taken count stay silent far kept rose writes never =
     let consumes = Consumes-kept b.left l1 a.left far.bytes far.consumes kept in
     broke b a ReadFault far.bytes stay silent consumes (far_between b.left l1 b.written a.written state taken count far)
@@ -227,7 +227,7 @@ broke_read b a l1 state taken count stay silent far kept rose writes never =
 -- a write failed in a piece
 pub broke_piece : {S T U : Type 0} (b a : World S T U) (l1 w1 : Option (List ℕ)) (old : DeframerState) (taken count : ℕ) (piece : List ℕ)
     → Stays → IsSilent b a → RunsSoFar line_of b.left l1 b.written w1 old taken count → Consumes l1 a.left piece → length piece ≤ 16384 → Breaks line_of true (old.rest ++ piece) w1 a.written
-    → Rose b.writes_failed a.writes_failed → a.reads_failed ≡ b.reads_failed → Broke frames_meaning b a WriteFault
+    → Rose b.writes_failed a.writes_failed → a.reads_failed ≡ b.reads_failed → IsBroken frames_meaning b a WriteFault
 broke_piece b a l1 w1 old taken count piece stay silent far read few breaks rose reads =
     let prefix = subst (λ (l : List ℕ). AppendsPrefix w1 a.written (output_of line_of l)) (append-nil (old.rest ++ piece)) (breaks.text [] (λ never. refl)) in
     let consumes = Consumes-trans b.left l1 a.left far.bytes piece far.consumes read in
@@ -246,7 +246,7 @@ broke_piece b a l1 w1 old taken count piece stay silent far read few breaks rose
 -- a write failed after the last byte
 pub broke_last : {S T U : Type 0} (b a : World S T U) (l1 w1 : Option (List ℕ)) (old last : DeframerState) (taken count : ℕ) (n : ℕ) (buffer : List ℕ)
     → Stays → IsSilent b a → RunsSoFar line_of b.left l1 b.written w1 old taken count → n ≡ 0 → Consumes l1 a.left (take n buffer) → IsAtEnd a.left → last.rest ≡ old.rest → last.finished ≡ true
-    → Breaks line_of (not last.finished) last.rest w1 a.written → Rose b.writes_failed a.writes_failed → a.reads_failed ≡ b.reads_failed → Broke frames_meaning b a WriteFault
+    → Breaks line_of (not last.finished) last.rest w1 a.written → Rose b.writes_failed a.writes_failed → a.reads_failed ≡ b.reads_failed → IsBroken frames_meaning b a WriteFault
 broke_last b a l1 w1 old last taken count n buffer stay silent far zero read end same finished breaks rose reads =
     let ends = subst (λ (x : Bool). Breaks line_of (not x) last.rest w1 a.written) finished breaks in
     let from = subst (λ (l : List ℕ). Breaks line_of false l w1 a.written) same ends in
@@ -260,7 +260,7 @@ broke_last b a l1 w1 old last taken count n buffer stay silent far zero read end
 -- too many bytes were there
 pub broke_long : {S T U : Type 0} (b a : World S T U) (state : DeframerState) (taken count : ℕ)
     → Stays → IsSilent b a → RunsSoFar line_of b.left a.left b.written a.written state taken count → 2 ^ 32 ≤ taken → a.reads_failed ≡ b.reads_failed → a.writes_failed ≡ b.writes_failed
-    → Broke frames_meaning b a TooLong
+    → IsBroken frames_meaning b a TooLong
 broke_long b a state taken count stay silent far long reads writes =
     broke b a TooLong far.bytes stay silent far.consumes (far_between b.left a.left b.written a.written state taken count far) (far_ahead b a a.left state taken count silent far far.consumes)
     (none_failed b a reads writes silent.failed) (omega (arith, far.size, far.limit, long))

@@ -3,7 +3,7 @@ use Rattle.std.proofs.Common.{◌≡◌, ◌⊎◌, inl, inr, ℕ, List, [], ◌
 use Rattle.std.specs.Prelude.{IfSome}
 use Rattle.std.specs.Io.KnownBytes.{Appends, Consumes, IsAtEnd}
 use Rattle.nav_io.specs.Prefix.{AppendsPrefix, IsPrefix}
-use Rattle.rtcm_frame.specs.Frames.{decided, frames, undecided}
+use Rattle.framing.specs.Frames.{decided, frames, undecided}
 use Rattle.one_run.specs.Runs.{AppendsAll, AppendsBetween, StopAtOnePlace, Texts}
 use Rattle.one_run.proofs.Surface.{BeginsWith, all_of, all_stopped, all_within, between_within, prefix_nil, prefix_same, stopped_in, taken_all, with_rest}
 use Rattle.streams.specs.Mirrors.{IsNext}

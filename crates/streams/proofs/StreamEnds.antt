@@ -6,13 +6,13 @@ use Rattle.std.proofs.KnownBytes.{Appends-nil, Appends-trans, Consumes-nil}
 use Rattle.nav_io.specs.Causes.{Rose}
 use Rattle.nav_io.specs.Prefix.{AppendsPrefix, IsPrefix}
 use Rattle.nav_eph.specs.declared.items.NavItem.{NavItem}
-use Rattle.rtcm_frame.specs.Frames.{decided, frames}
-use Rattle.rtcm_frame.specs.State.{payload_of}
+use Rattle.framing.specs.Frames.{decided, frames}
+use Rattle.framing.specs.State.{payload_of}
 use Rattle.rtcm_eph.specs.Reading.{item_in}
 use Rattle.one_run.specs.declared.fault.BridgeFault.{BridgeFault}
 use Rattle.one_run.specs.declared.fault.BridgeFault.TheVariants.{ReadFault, WriteFault, ReportFault, NotThisForm, TooLong, NoMemory}
 use Rattle.one_run.specs.Causes.{HasItsCause, faults_of}
-use Rattle.one_run.specs.Runs.{AppendsBetween, Broke, Done, Leaves, Says, Texts, World, faults_in}
+use Rattle.one_run.specs.Runs.{AppendsBetween, IsBroken, IsDone, Leaves, Says, Texts, World, faults_in}
 use Rattle.streams.specs.declared.counts.StreamCounts.{StreamCounts}
 use Rattle.streams.specs.Streams.{Reading, counts_of_readings, has, items_of_readings, least_output_by, least_report, reading_report, readings, readings_output, readings_report, stream_counts, stream_counts_text, stream_meaning_by, stream_output_by, stream_readings, stream_report}
 use Rattle.streams.specs.Mirrors.{BeginsFlushed, GivenState, NothingKept, StreamAll, StreamPart, StreamSoFar, StreamStops, is_given, once_text}
@@ -104,18 +104,18 @@ all_so_far r prefix text left l1 w w1 w2 u u1 g g1 c c1 grew none nothing same a
 abbrev pub text_of : ℕ → List ℕ → (NavItem → List ℕ) → List (List ℕ) → List ℕ
 text_of r prefix text frames = readings_output prefix text (readings r frames)
 
-abbrev pub told_of : ℕ → List (List ℕ) → List ℕ
-told_of r frames = readings_report 1 (readings r frames)
+abbrev pub outcome_of : ℕ → List (List ℕ) → List ℕ
+outcome_of r frames = readings_report 1 (readings r frames)
 
 abbrev pub stream_texts : ℕ → List ℕ → (NavItem → List ℕ) → Texts
-stream_texts r prefix text = decided_texts (text_of r prefix text) (told_of r)
+stream_texts r prefix text = decided_texts (text_of r prefix text) (outcome_of r)
 
 pub text_grows : (r : ℕ) (prefix : List ℕ) (text : NavItem → List ℕ) → Grows (text_of r prefix text)
 text_grows r prefix text some more =
     subst (λ (l : List Reading). IsPrefix (readings_output prefix text (readings r some)) (readings_output prefix text l)) (sym (readings_append r some more))
     (output_longer prefix text (readings r more) (readings r some))
 
-pub told_grows : (r : ℕ) → Grows (told_of r)
+pub told_grows : (r : ℕ) → Grows (outcome_of r)
 told_grows r some more =
     subst (λ (l : List Reading). IsPrefix (readings_report 1 (readings r some)) (readings_report 1 l)) (sym (readings_append r some more))
     (report_longer 1 (readings r some) (readings r more))
@@ -135,7 +135,7 @@ leaves prefix text r before after = record { unread = λ never. cc; silent = λ 
 pub broke_begin : {S T U : Type 0} (r : ℕ) (prefix : List ℕ) (text : NavItem → List ℕ) (b a : World S T U)
     → AppendsPrefix b.written a.written prefix → Rose b.writes_failed a.writes_failed → a.left ≡ b.left → a.reported ≡ b.reported
     → a.reads_failed ≡ b.reads_failed → a.reports_failed ≡ b.reports_failed
-    → Broke (stream_meaning_by prefix text r) b a WriteFault
+    → IsBroken (stream_meaning_by prefix text r) b a WriteFault
 broke_begin r prefix text b a grew rose left reported reads reports =
     let consumes = subst (λ (l : Option (List ℕ)). Consumes b.left l []) (sym left) (Consumes-nil b.left) in
     record {
@@ -194,7 +194,7 @@ pub broke_stream : {S T U : Type 0} (r : ℕ) (prefix : List ℕ) (text : NavIte
     → StreamPart r prefix text b.left a.left w1 a.written b.reported a.reported g g1 c c1 fault
     → HasItsCause {T = Unit {0}} (faults_of b.reads_failed writes b.reports_failed) (faults_of a.reads_failed a.writes_failed a.reports_failed) (Err fault)
     → (IsTrue b.never_fails → IsErrOf {T = Unit {0}} (Err fault) ReadFault → ⊥)
-    → Broke (stream_meaning_by prefix text r) b a fault
+    → IsBroken (stream_meaning_by prefix text r) b a fault
 broke_stream r prefix text b a w1 writes g g1 c c1 fault stay grew same none nothing part cause never =
     let some = part.stops.frames_are in
     let more = part.stops.stream [] (λ last. refl) in
@@ -220,7 +220,7 @@ broke_stream r prefix text b a w1 writes g g1 c c1 fault stay grew same none not
       ahead = ahead;
       stopped = rest_stopped (stream_texts r prefix text) b.left a.left b.written a.written b.reported a.reported part.taken part.consumes
           (λ rest is. let found = part.stops.stream rest (λ last. subst IsAtEnd is (part.end last)) in
-          frames_stopped (text_of r prefix text) (told_of r) (text_grows r prefix text) (told_grows r) stay (part.taken ++ rest) part.stops.done part.stops.frames_are found.0
+          frames_stopped (text_of r prefix text) (outcome_of r) (text_grows r prefix text) (told_grows r) stay (part.taken ++ rest) part.stops.done part.stops.frames_are found.0
           b.written a.written b.reported a.reported found.1 part.stops.next broke.output broke.report);
       counts_last = inl (with_rest b.left a.left part.taken _ part.consumes (λ rest is. (all rest (λ last. subst IsAtEnd is (part.end last))).1));
       cause = subst (λ (n : ℕ). HasItsCause {T = Unit {0}} (faults_of b.reads_failed n b.reports_failed) (faults_in a) (Err fault)) same cause;
@@ -233,7 +233,7 @@ pub broke_counts : {S T U : Type 0} (r : ℕ) (prefix : List ℕ) (text : NavIte
     → Stays → Appends b.written w1 prefix → NoneGiven g → c ≡ counts_of_readings []
     → StreamAll r prefix text b.left a.left w1 a.written b.reported u1 g g1 c c1
     → AppendsPrefix u1 a.reported (stream_counts_text c1) → Rose b.reports_failed a.reports_failed → a.reads_failed ≡ b.reads_failed → a.writes_failed ≡ b.writes_failed
-    → Broke (stream_meaning_by prefix text r) b a ReportFault
+    → IsBroken (stream_meaning_by prefix text r) b a ReportFault
 broke_counts r prefix text b a w1 u1 g g1 c c1 stay grew none nothing all counts rose reads writes =
     let far = all_so_far r prefix text b.left a.left b.written w1 a.written b.reported u1 g g1 c c1 grew none nothing (Appends-nil b.reported) all in
     let same = all_frames all.taken all.moves.frames_are (all.moves.stream [] (λ last. refl)) in
@@ -249,7 +249,7 @@ broke_counts r prefix text b a w1 u1 g g1 c c1 stay grew none nothing all counts
       ahead = ahead_at_end (stream_meaning_by prefix text r).whole b.left a.left b.written a.written b.reported a.reported all.taken all.consumes all.end
           (whole_prefix b.written a.written (stream_output_by prefix text r all.taken) far.output) (prefix_of b.reported a.reported _ _ told);
       stopped = end_stopped (stream_texts r prefix text) b.left a.left b.written a.written b.reported a.reported all.taken all.consumes all.end
-          (ended_stopped (text_of r prefix text) (told_of r) (text_grows r prefix text) (told_grows r) stay all.taken b.written a.written b.reported a.reported
+          (ended_stopped (text_of r prefix text) (outcome_of r) (text_grows r prefix text) (told_grows r) stay all.taken b.written a.written b.reported a.reported
           (all_whole b.written a.written (stream_output_by prefix text r all.taken) far.output) (all_of b.reported a.reported _ _ told));
       counts_last = inr (refl, all.end, far.output);
       cause = report_failed b a rose reads writes;
@@ -263,7 +263,7 @@ pub done_stream : {S T U : Type 0} (r : ℕ) (prefix : List ℕ) (text : NavItem
     → StreamAll r prefix text b.left a.left w1 a.written b.reported u1 g g1 c c1
     → Appends u1 a.reported (stream_counts_text c1)
     → a.reads_failed ≡ b.reads_failed → a.writes_failed ≡ b.writes_failed → a.reports_failed ≡ b.reports_failed
-    → Done (stream_meaning_by prefix text r) b a c1
+    → IsDone (stream_meaning_by prefix text r) b a c1
 done_stream r prefix text b a w1 u1 g g1 c c1 grew none nothing all counts reads writes reports =
     let far = all_so_far r prefix text b.left a.left b.written w1 a.written b.reported u1 g g1 c c1 grew none nothing (Appends-nil b.reported) all in
     record {

@@ -12,12 +12,12 @@ use Rattle.nav_eph.specs.declared.items.NavItem.{NavItem}
 use Rattle.rtcm_eph.specs.declared.fault.MessageFault.{MessageFault}
 use Rattle.rtcm_eph.specs.declared.fault.MessageFault.TheVariants.{NoNumber, OtherMessage, Short, BadSat, BadTime, SpareSisa}
 use Rattle.rtcm_eph.specs.Reading.{item_in}
-use Rattle.rtcm_frame.specs.State.{payload_of}
+use Rattle.framing.specs.State.{payload_of}
 use Rattle.one_run.specs.Runs.{AppendsBetween}
 use Rattle.streams.specs.declared.counts.StreamCounts.{StreamCounts}
-use Rattle.outlets.specs.Times.{times_of, with_item as timed}
-use Rattle.outlets.specs.declared.times.Times.{Times}
-use Rattle.outlets.proofs.Surface.{times_more}
+use Rattle.streams.specs.Times.{times_of, with_item as timed}
+use Rattle.streams.specs.declared.times.Times.{Times}
+use Rattle.streams.proofs.OutletsSurface.{times_more}
 use Rattle.streams.specs.Streams.{Reading, readings, has, items_of_readings, first_places, first_places_behind, reading_report, readings_report, counts_of_readings, is_refused, is_unused, readings_output}
 use Rattle.streams.specs.Mirrors.{GivenState, KeptPlaces, StandsIn, StreamBroke, StreamSoFar, any_alike, is_given, once_text, sent_alike, with_fault, with_item, with_refusal, with_unused}
 use Rattle.streams.proofs.AlikeLemmas.{Laws, looked_for, read_own}

@@ -2,7 +2,7 @@
 use Rattle.std.proofs.Common.{◌≡◌, ℕ, List, ◌++◌, sym, ap, ◌∙◌, subst, append_assoc}
 use Rattle.nav_io.specs.Prefix.{IsPrefix}
 use Rattle.nav_eph.specs.declared.items.NavItem.{NavItem}
-use Rattle.rtcm_frame.specs.Frames.{decided, frames, undecided}
+use Rattle.framing.specs.Frames.{decided, frames, undecided}
 use Rattle.streams.specs.Streams.{Reading, flushed_output_by, flushed_readings, readings, readings_output, readings_report, stream_counts, stream_counts_text, stream_output_by, stream_report}
 use Rattle.streams.proofs.DecidedLemmas.{decided_behind}
 use Rattle.streams.proofs.StreamEnds.{output_longer, readings_append, report_longer}

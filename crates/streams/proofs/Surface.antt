@@ -1,4 +1,4 @@
--- What proofs of other crates cite: ephemerides that are given once, and counts.
-pub use Rattle.streams.proofs.AlikeLemmas.{Laws, looked_for, read_own}
-pub use Rattle.streams.proofs.KnownLemmas.{adds_nothing, is_known, known_more, none_known}
-pub use Rattle.streams.proofs.StreamLemmas.{any_more, counts_are, items_more, items_same, readings_more}
+-- Lemmas that proofs of other crates cite.
+pub use Rattle.streams.proofs.OutletsSurface.{times_behind}
+pub use Rattle.streams.proofs.StreamSurface.{Laws, adds_nothing, any_more, counts_are, is_known, items_more}
+pub use Rattle.streams.proofs.StreamSurface.{items_same, known_more, looked_for, none_known, read_own, readings_more}

@@ -5,12 +5,12 @@ use Rattle.std.specs.Io.KnownBytes.{Appends, Consumes, IsAtEnd, Keeps}
 use Rattle.std.proofs.KnownBytes.{Appends-nil, Appends-trans, Consumes-kept, Consumes-nil, Consumes-trans}
 use Rattle.nav_io.specs.Causes.{Rose}
 use Rattle.nav_io.specs.Prefix.{AppendsPrefix, IsPrefix}
-use Rattle.rtcm_frame.specs.Frames.{decided, frames}
-use Rattle.rtcm_frame.specs.State.{DeframerState, MayFeed}
+use Rattle.framing.specs.Frames.{decided, frames}
+use Rattle.framing.specs.State.{DeframerState, MayFeed}
 use Rattle.one_run.specs.declared.fault.BridgeFault.{BridgeFault}
 use Rattle.one_run.specs.declared.fault.BridgeFault.TheVariants.{ReadFault, WriteFault, ReportFault, NotThisForm, TooLong, NoMemory}
 use Rattle.one_run.specs.Causes.{HasItsCause, faults_of}
-use Rattle.one_run.specs.Runs.{AppendsBetween, Broke, CountsAreLast, Done, Leaves, Says, World, faults_in}
+use Rattle.one_run.specs.Runs.{AppendsBetween, IsBroken, CountsAreLast, IsDone, Leaves, Says, World, faults_in}
 use Rattle.one_run.proofs.Surface.{ahead_at_end, ahead_by, all_of, between, between_behind, between_whole, between_within, no_prefix, nothing_told, prefix_nil, prefix_of, prefix_same, prefix_trans, prefix_within, report_failed, taken_all, whole_prefix, with_rest, write_failed}
 use Rattle.streams.specs.Mirrors.{BeginsFlushed, IsStreamFault}
 use Rattle.streams.specs.Taken.{Gives, Stops, Takes, TakesAll, TakesPart, frames_meaning_by, least_by}
@@ -214,7 +214,7 @@ to_whole text whole grows within some more = prefix_trans (text some) (text (som
 -- the leading text is not written to its end
 pub broke_begin : {C S T U : Type 0} {text whole told reported : List (List ℕ) → List ℕ} (count : List (List ℕ) → C) {b a : World S T U}
     → Laws text whole told reported → AppendsPrefix b.written a.written (text []) → Rose b.writes_failed a.writes_failed → a.left ≡ b.left → a.reported ≡ b.reported
-    → a.reads_failed ≡ b.reads_failed → a.reports_failed ≡ b.reports_failed → Broke (frames_meaning_by text whole told reported count) b a WriteFault
+    → a.reads_failed ≡ b.reads_failed → a.reports_failed ≡ b.reports_failed → IsBroken (frames_meaning_by text whole told reported count) b a WriteFault
 broke_begin {text = text} {whole = whole} {told = told} {reported = reported} count {b = b} {a = a} laws grew rose left same reads reports =
     let consumes = subst (λ (l : Option (List ℕ)). Consumes b.left l []) (sym left) (Consumes-nil b.left) in
     let front : (bytes : List ℕ) → AppendsPrefix b.written a.written (whole (frames bytes)) = λ bytes. prefix_within b.written a.written (text []) _ (to_whole text whole laws.grows laws.text [] (frames bytes)) grew in
@@ -259,7 +259,7 @@ pub broke_frames : {X C S T U : Type 0} {text whole told reported : List (List �
     → TakesPart text told holds b.left a.left w1 a.written b.reported a.reported s fault
     → HasItsCause {T = Unit {0}} (faults_of b.reads_failed writes b.reports_failed) (faults_of a.reads_failed a.writes_failed a.reports_failed) (Err fault)
     → (IsTrue b.never_fails → IsErrOf {T = Unit {0}} (Err fault) ReadFault → ⊥)
-    → Broke (frames_meaning_by text whole told reported count) b a fault
+    → IsBroken (frames_meaning_by text whole told reported count) b a fault
 broke_frames {text = text} {whole = whole} {told = told} {reported = reported} count {b = b} {a = a} {fault = fault} laws stay held grew same part cause never =
     let taken = part.taken in
     let stops = part.stops in
@@ -324,7 +324,7 @@ broke_end : {X C S T U : Type 0} {text whole told reported : List (List ℕ) →
     → AppendsBetween b.reported a.reported (told (frames all.taken)) (reported (frames all.taken))
     → AppendsPrefix b.reported a.reported (told (frames all.taken)) ⊎ ((fault ≡ ReportFault) × Appends b.written a.written (whole (frames all.taken))) → HasItsCause {T = Unit {0}} (faults_in b) (faults_in a) (Err fault)
     → Says (frames_meaning_by text whole told reported count) all.taken b a fault
-    → Broke (frames_meaning_by text whole told reported count) b a fault
+    → IsBroken (frames_meaning_by text whole told reported count) b a fault
 broke_end {text = text} {whole = whole} {told = told} {reported = reported} count {b = b} {a = a} w w1 w2 u1 {fault = fault} laws stay all wrote said last cause says =
     record {
       taken = all.taken;
@@ -352,7 +352,7 @@ pub broke_last : {X C S T U : Type 0} {text whole told reported : List (List ℕ
     → Laws text whole told reported → Stays → holds s [] → Appends b.written w1 (text []) → (all : TakesAll text told holds b.left a.left w1 w2 b.reported a.reported s s1)
     → whole (frames all.taken) ≡ text (frames all.taken) ++ tail → AppendsPrefix w2 a.written tail
     → Rose b.writes_failed a.writes_failed → a.reads_failed ≡ b.reads_failed → a.reports_failed ≡ b.reports_failed
-    → Broke (frames_meaning_by text whole told reported count) b a WriteFault
+    → IsBroken (frames_meaning_by text whole told reported count) b a WriteFault
 broke_last {text = text} {whole = whole} {told = told} {reported = reported} count {b = b} {a = a} {w1 = w1} {w2 = w2} tail laws stay held grew all is part rose reads reports =
     let far = all_given b.written laws held grew all in
     let wrote = subst (AppendsBetween b.written a.written (text (frames all.taken))) (sym is) (between_behind b.written w2 a.written (text (frames all.taken)) tail far.0 part) in
@@ -368,7 +368,7 @@ pub broke_counts : {X C S T U : Type 0} {text whole told reported : List (List �
     → whole (frames all.taken) ≡ text (frames all.taken) ++ last → Appends w2 a.written last
     → reported (frames all.taken) ≡ told (frames all.taken) ++ tail → AppendsPrefix u1 a.reported tail
     → Rose b.reports_failed a.reports_failed → a.reads_failed ≡ b.reads_failed → a.writes_failed ≡ b.writes_failed
-    → Broke (frames_meaning_by text whole told reported count) b a ReportFault
+    → IsBroken (frames_meaning_by text whole told reported count) b a ReportFault
 broke_counts {text = text} {whole = whole} {told = told} {reported = reported} count {b = b} {a = a} {w1 = w1} {w2 = w2} {u1 = u1} tail last laws stay held grew all ends wrote is counts rose reads writes =
     let far = all_given b.written laws held grew all in
     let output = subst (AppendsBetween b.written a.written (text (frames all.taken))) (sym ends) (between_behind b.written w2 a.written (text (frames all.taken)) last far.0 (whole_prefix w2 a.written last wrote)) in
@@ -382,7 +382,7 @@ pub done_frames : {X C S T U : Type 0} {text whole told reported : List (List �
     → counts ≡ count (frames all.taken) → whole (frames all.taken) ≡ text (frames all.taken) ++ last → Appends w2 a.written last
     → reported (frames all.taken) ≡ told (frames all.taken) ++ tail → Appends u1 a.reported tail
     → a.reads_failed ≡ b.reads_failed → a.writes_failed ≡ b.writes_failed → a.reports_failed ≡ b.reports_failed
-    → Done (frames_meaning_by text whole told reported count) b a counts
+    → IsDone (frames_meaning_by text whole told reported count) b a counts
 done_frames {C = C} {text = text} {whole = whole} {told = told} {reported = reported} count {b = b} {a = a} {w2 = w2} {u1 = u1} tail last laws held grew all counted ends wrote is counts reads writes reports =
     let far = all_given b.written laws held grew all in
     record {

@@ -4,8 +4,8 @@ use Rattle.std.specs.Prelude.{Option}
 use Rattle.std.proofs.lemmas.List.{take-append-drop}
 use Rattle.std.proofs.Math.Seq.{take-add}
 use Rattle.std.specs.Io.KnownBytes.{Appends}
-use Rattle.rtcm_frame.specs.Frames.{decided, frames}
-use Rattle.rtcm_frame.specs.State.{TakesFrame, TakesNone}
+use Rattle.framing.specs.Frames.{decided, frames}
+use Rattle.framing.specs.State.{TakesFrame, TakesNone}
 use Rattle.one_run.specs.Runs.{AppendsBetween}
 use Rattle.streams.specs.Taken.{Gives, GivesBetween, HasRoomFor, Holds, Stops, Takes}
 use Rattle.streams.proofs.DecidedLemmas.{decided_frame, decided_none}

@@ -1,7 +1,7 @@
 -- The line of a frame, and what a run makes of a stream of frames.
 use Rattle.std.specs.Prelude.{ℕ, ◌^◌, ◌+◌, ◌*◌, ◌/◌, true, false, List, [], ◌∷◌, ◌++◌, length, Some, codes, decimal}
-use Rattle.rtcm_frame.specs.Frames.{frames}
-use Rattle.rtcm_frame.specs.State.{payload_of}
+use Rattle.framing.specs.Frames.{frames}
+use Rattle.framing.specs.State.{payload_of}
 use Rattle.one_run.specs.Runs.{Meaning}
 use Rattle.streams.specs.declared.frame_run.FrameCounts.{FrameCounts}
 use Rattle.streams.specs.FrameRuns.{least_of, output_of, flushed_of}

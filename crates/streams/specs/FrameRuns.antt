@@ -3,7 +3,7 @@ use Rattle.std.specs.Prelude.{◌≡◌, ◌+◌, ◌-◌, ℕ, Bool, true, fals
 use Rattle.std.specs.List.{flat_map}
 use Rattle.std.specs.Io.KnownBytes.{Appends}
 use Rattle.nav_io.specs.Prefix.{AppendsPrefix}
-use Rattle.rtcm_frame.specs.Frames.{decided, frames}
+use Rattle.framing.specs.Frames.{decided, frames}
 
 -- the lines of these frames
 abbrev pub text_of : (List ℕ → List ℕ) → List (List ℕ) → List ℕ

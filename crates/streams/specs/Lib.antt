@@ -1,4 +1,8 @@
+pub mod ItemTexts
+pub mod PeriodLines
 pub mod Targets
+pub mod Times
+pub mod StreamTargets
 pub mod Streams
 pub mod Mirrors
 pub mod Pushed

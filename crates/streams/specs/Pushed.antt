@@ -2,10 +2,10 @@
 use Rattle.std.specs.Prelude.{◌≡◌, ◌+◌, ◌≤◌, ◌^◌, ◌⊎◌, ℕ, List, ◌++◌, length, Option, Some}
 use Rattle.std.specs.Io.KnownBytes.{Appends}
 use Rattle.nav_io.specs.Prefix.{AppendsPrefix}
-use Rattle.rtcm_frame.specs.Frames.{decided, frames}
-use Rattle.rtcm_frame.specs.State.{DeframerState, MayFeed}
-use Rattle.outlets.specs.Targets.{prefix_text, item_text}
-use Rattle.outlets.specs.declared.target.Target.{Target}
+use Rattle.framing.specs.Frames.{decided, frames}
+use Rattle.framing.specs.State.{DeframerState, MayFeed}
+use Rattle.streams.specs.Targets.{prefix_text, item_text}
+use Rattle.streams.specs.declared.target.Target.{Target}
 use Rattle.one_run.specs.Runs.{AppendsBetween, StopAtOnePlace, Texts}
 use Rattle.one_run.specs.declared.fault.BridgeFault.{BridgeFault}
 use Rattle.one_run.specs.declared.fault.BridgeFault.TheVariants.{TooLong}

@@ -3,18 +3,18 @@ use Rattle.std.specs.Prelude.{ℕ, ◌^◌, ◌+◌, ◌-◌, ◌||◌, Bool, tr
 use Rattle.std.specs.List.{flat_map}
 use Rattle.nav_eph.specs.Items.{same_item}
 use Rattle.nav_eph.specs.declared.items.NavItem.{NavItem}
-use Rattle.rtcm_frame.specs.Frames.{decided, frames}
-use Rattle.rtcm_frame.specs.State.{payload_of}
+use Rattle.framing.specs.Frames.{decided, frames}
+use Rattle.framing.specs.State.{payload_of}
 use Rattle.rtcm_eph.specs.Reading.{item_in}
 use Rattle.rtcm_eph.specs.declared.fault.MessageFault.{MessageFault}
 use Rattle.rtcm_eph.specs.declared.fault.MessageFault.TheVariants.{NoNumber, OtherMessage, Short, BadSat, BadTime, SpareSisa}
 use Rattle.one_run.specs.Reports.{report_line, count_line}
 use Rattle.one_run.specs.Runs.{Meaning}
-use Rattle.streams.specs.declared.target.StreamTo.{StreamTo}
+use Rattle.streams.specs.declared.stream_target.StreamTo.{StreamTo}
 use Rattle.streams.specs.declared.counts.StreamCounts.{StreamCounts}
-use Rattle.outlets.specs.Targets.{prefix_text, item_text}
-use Rattle.outlets.specs.Times.{times_of}
-use Rattle.streams.specs.Targets.{target_of_stream}
+use Rattle.streams.specs.Targets.{prefix_text, item_text}
+use Rattle.streams.specs.Times.{times_of}
+use Rattle.streams.specs.StreamTargets.{target_of_stream}
 
 -- the reading of a frame: its item for the reference week r, or the first error
 abbrev pub Reading : Type 0

@@ -1,7 +1,7 @@
 -- What a run makes of the frames of a stream, and a stream while they are processed.
 use Rattle.std.specs.Prelude.{◌≡◌, ◌+◌, ◌-◌, ◌^◌, ◌<◌, ◌≤◌, ℕ, Bool, true, false, List, [], ◌∷◌, ◌++◌, length, take, Option, Some}
 use Rattle.std.specs.Io.KnownBytes.{Appends, Consumes, IsAtEnd}
-use Rattle.rtcm_frame.specs.Frames.{decided, frames}
+use Rattle.framing.specs.Frames.{decided, frames}
 use Rattle.one_run.specs.Runs.{AppendsBetween, Meaning}
 use Rattle.one_run.specs.declared.fault.BridgeFault.{BridgeFault}
 use Rattle.one_run.specs.declared.fault.BridgeFault.TheVariants.{ReadFault, NotThisForm, TooLong, NoMemory}

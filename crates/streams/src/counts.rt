@@ -3,8 +3,8 @@
 ghost use Rattle.std.specs.Prelude.{◌≡◌, []};
 ghost use Rattle.streams.specs.Streams.{counts_of_readings, stream_counts_text};
 
+use crate::Times;
 use one_run::{Text, append_count};
-use outlets::Times;
 
 /// What a run over a stream counts.
 #[derive(Clone, Copy, PartialEq, Eq)]

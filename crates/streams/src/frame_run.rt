@@ -6,22 +6,22 @@ ghost use Rattle.std.specs.Prelude.{length, take, IfOk, OnOk, OnErr, Some};
 ghost use Rattle.std.specs.Io.KnownBytes.{Appends};
 ghost use Rattle.nav_io.specs.Causes.{HasCause};
 ghost use Rattle.nav_io.specs.Prefix.{AppendsPrefix};
-ghost use Rattle.rtcm_frame.specs.State.{MayFeed, IsWaiting};
+ghost use Rattle.framing.specs.State.{MayFeed, IsWaiting};
 ghost use Rattle.one_run.specs.Runs.{Ran};
 ghost use Rattle.streams.specs.FrameLines.{frames_meaning, line_of};
 ghost use Rattle.streams.specs.FrameRuns.{Goes, Breaks, Gathers};
 
 use crate::line::{FrameLine, frame_line};
 use arrayvec::ArrayVec;
+use framing::{Deframer, Frame, decided_frames_stay};
 use nav_io::{Failed, MOST_TAKEN, Sink, Source, read_piece};
 use one_run::BridgeFault;
-use rtcm_frame::{Deframer, Frame, decided_frames_stay};
 
 // The number of bytes that one read asks for.
 const PIECE: usize = 16_384;
 
 // Lines that are written together: those of the frames that one feed of bytes decides.
-type Gathered = ArrayVec<u8, 1024>;
+type LineBatch = ArrayVec<u8, 1024>;
 
 /// What a run over the frames of a stream counts.
 #[derive(Clone, Copy, PartialEq, Eq)]
@@ -110,7 +110,8 @@ fn process_some<T: Sink>(
     requires room { frames.old + length deframer.old.rest + length piece.now < 2 ^ 64 }
     ensures some { IfOk result (λ count. 0 < count) }
     ensures within { IfOk result (λ count. count ≤ length piece.now) }
-    ensures goes { IfOk result (λ count. Goes line_of true (deframer.old.rest ++ take count piece.now)
+    ensures goes { IfOk result
+        (λ count. Goes line_of true (deframer.old.rest ++ take count piece.now)
         deframer.new.rest (T.written output.old) (T.written output.new) frames.old frames.new) }
     ensures may_feed { OnOk result (MayFeed deframer.new) }
     ensures room { IfOk result (λ count. frames.new + length deframer.new.rest
@@ -125,7 +126,7 @@ fn process_some<T: Sink>(
 }
 
 // Writes the lines that were gathered, if any.
-fn write_gathered<T: Sink>(lines: &Gathered, output: &mut T) -> Result<(), Failed>
+fn write_gathered<T: Sink>(lines: &LineBatch, output: &mut T) -> Result<(), Failed>
     ensures text { OnOk result
         (Appends (T.written output.old) (T.written output.new) lines.now.items) }
     ensures part { OnErr result
@@ -139,7 +140,7 @@ fn write_gathered<T: Sink>(lines: &Gathered, output: &mut T) -> Result<(), Faile
 }
 
 // Appends a line to the gathered ones; where there is no room for it, those are written first.
-fn gather<T: Sink>(line: &FrameLine, lines: &mut Gathered, output: &mut T) -> Result<(), Failed>
+fn gather<T: Sink>(line: &FrameLine, lines: &mut LineBatch, output: &mut T) -> Result<(), Failed>
     ensures gathers { OnOk result (Gathers (T.written output.old) (T.written output.new)
         lines.old.items lines.new.items line.now.items) }
     ensures part { OnErr result
@@ -174,7 +175,7 @@ fn process_frames<T: Sink>(
         (T.written output.old) (T.written output.new)) }
     ensures cause { HasCause (T.faults output.old) (T.faults output.new) result }
 {
-    let mut lines = Gathered::new();
+    let mut lines = LineBatch::new();
     let mut frame = Frame::without_payload();
     'giving: while deframer.next_into(&mut frame) {
         gather(&frame_line(&frame), &mut lines, output)?;

@@ -7,8 +7,8 @@ ghost use Rattle.std.specs.Prelude.{IsErrOf, IfOk, IfErr, IfSome, OnOk, OnErr, I
 ghost use Rattle.std.specs.Io.KnownBytes.{Appends};
 ghost use Rattle.nav_eph.specs.declared.items.NavItem.{NavItem};
 ghost use Rattle.nav_io.specs.Prefix.{AppendsPrefix};
-ghost use Rattle.rtcm_frame.specs.State.{MayFeed, IsWaiting, payload_of};
-ghost use Rattle.outlets.specs.Targets.{prefix_text, item_text};
+ghost use Rattle.framing.specs.State.{MayFeed, IsWaiting, payload_of};
+ghost use Rattle.streams.specs.Targets.{prefix_text, item_text};
 ghost use Rattle.rtcm_eph.specs.declared.fault.MessageFault.{MessageFault};
 ghost use Rattle.one_run.specs.Causes.{HasItsCause, faults_of};
 ghost use Rattle.one_run.specs.Reports.{report_line};
@@ -20,15 +20,14 @@ ghost use Rattle.streams.specs.Mirrors.{with_fault, with_item, with_refusal, wit
 
 use crate::counts::StreamCounts;
 use crate::given::ItemsGiven;
-use gnss_week::RefWeek;
-use nav_eph::{NavItem, equality_is_decided};
+use crate::{Target, with_item};
+use framing::{Deframer, Frame};
+use nav_eph::{NavItem, RefWeek, equality_is_decided};
 use nav_io::{Failed, Sink};
 use one_run::{BridgeFault, report_text};
-use outlets::{Target, with_item};
 use rtcm_eph::{
     MessageFault, item_function, message_bytes, read_item, sent_1019_is_read, sent_1046_is_read,
 };
-use rtcm_frame::{Deframer, Frame};
 
 // Reports that the frame with this number is refused, and counts it.
 fn refuse<U: Sink>(
@@ -68,7 +67,7 @@ fn pass(counts: &mut StreamCounts)
 }
 
 // Counts the frame with this number as refused or not used, and reports it where it is refused.
-fn tell_fault<U: Sink>(
+fn report_fault<U: Sink>(
     fault: MessageFault,
     number: u64,
     report: &mut U,
@@ -179,7 +178,7 @@ fn convert_frame<T: Sink, U: Sink>(
     }
     match read_item(payload, r) {
         Ok(item) => give_item(to, &item, payload, given, output, counts),
-        Err(fault) => tell_fault(fault, counts.frames + 1, report, counts),
+        Err(fault) => report_fault(fault, counts.frames + 1, report, counts),
     }
 }
 

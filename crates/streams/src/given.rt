@@ -9,14 +9,14 @@ ghost use Rattle.streams.specs.Mirrors.{StandsIn, has_key, is_given, sent_alike}
 
 use crate::messages::Messages;
 use crate::seen::{RecentMessages, place_of};
-use crate::sent::{sent_1019, sent_1046};
+use crate::stream_sent::{sent_1019, sent_1046};
 use nav_eph::NavItem;
 use std::alloc::{AllocError, Global};
 use std::marker::Model;
 
 /// The RTCM messages of the ephemerides that were given, each once: two ephemerides of a stream are
-/// equal where the same message encodes them. A cache of payloads as they came saves the decoding of
-/// most repeats.
+/// equal where the same message encodes them. A cache of payloads as they came saves the decoding
+/// of most repeats.
 #[derive(Drop)]
 pub struct ItemsGiven {
     gps: Messages<61>,

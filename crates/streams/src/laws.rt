@@ -8,13 +8,13 @@ ghost use Rattle.nav_eph.specs.declared.items.NavItem.{NavItem};
 ghost use Rattle.rinex_write.specs.Texts.{rinex_text};
 ghost use Rattle.rinex_write.specs.Texts3.{rinex3_text};
 ghost use Rattle.rinex_write.specs.declared.words.HeaderWords.{HeaderWords};
-ghost use Rattle.outlets.specs.ItemTexts.{rtcm_item};
+ghost use Rattle.streams.specs.ItemTexts.{rtcm_item};
 ghost use Rattle.streams.specs.Streams.{flushed_output_by, flushed_readings, readings_report};
 ghost use Rattle.streams.specs.Streams.{stream_list, stream_meaning};
 ghost use Rattle.streams.specs.Streams.{stream_output_by, stream_report};
-ghost use Rattle.streams.specs.declared.target.StreamTo.TheVariants as streams;
+ghost use Rattle.streams.specs.declared.stream_target.StreamTo.TheVariants as streams;
 
-use rtcm_frame::decided_frames_stay;
+use framing::decided_frames_stay;
 
 /// What a run writes of a stream is the text of the list of its items.
 pub fn what_is_written_of_a_stream_is_the_text_of_its_list()

@@ -6,8 +6,8 @@ ghost use Rattle.arrayvec.specs.ArrayVec.{array_vec_len};
 ghost use Rattle.streams.specs.FrameLines.{line_of, number_text};
 
 use arrayvec::ArrayVec;
+use framing::Frame;
 use itoa::Buffer;
-use rtcm_frame::Frame;
 
 /// A line, which is built in place and takes no memory.
 pub type FrameLine = ArrayVec<u8, 96>;

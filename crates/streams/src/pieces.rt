@@ -2,19 +2,19 @@
 
 ghost use Rattle.std.specs.Prelude.{◌≡◌, ◌⊎◌, ◌+◌, ◌^◌, ◌<◌, ◌≤◌};
 ghost use Rattle.std.specs.Prelude.{[], false, length, IsTrue, IsErrOf, IfErr, OnOk};
-ghost use Rattle.outlets.specs.Targets.{prefix_text, item_text};
+ghost use Rattle.streams.specs.Targets.{prefix_text, item_text};
 ghost use Rattle.one_run.specs.Causes.{HasItsCause, faults_of};
 ghost use Rattle.streams.specs.Mirrors.{StreamAll, StreamPart};
 ghost use Rattle.streams.specs.Streams.{counts_of_readings};
 
+use crate::Target;
 use crate::counts::StreamCounts;
 use crate::frames::{process_frames, process_piece};
 use crate::given::ItemsGiven;
-use gnss_week::RefWeek;
+use framing::Deframer;
+use nav_eph::RefWeek;
 use nav_io::{Failed, MOST_TAKEN, Sink, Source, read_piece};
 use one_run::BridgeFault;
-use outlets::Target;
-use rtcm_frame::Deframer;
 
 // The number of bytes that one read asks for.
 const PIECE: usize = 16_384;

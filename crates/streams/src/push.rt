@@ -5,21 +5,21 @@ ghost use Rattle.std.specs.Prelude.{◌++◌, length, Option, None, Some, Err};
 ghost use Rattle.std.specs.Prelude.{IfErr, IfOk, IfSome, OnErr, OnOk};
 ghost use Rattle.nav_io.specs.Writes.{Writes};
 ghost use Rattle.one_run.specs.Causes.{HasItsCause, faults_of};
-ghost use Rattle.outlets.specs.Targets.{prefix_text};
+ghost use Rattle.streams.specs.Targets.{prefix_text};
 ghost use Rattle.streams.specs.Pushed.{IsCutShort, IsPushed, IsPushFault, IsWhole};
 ghost use Rattle.streams.specs.Mirrors.{IsStreamFault};
 ghost use Rattle.streams.specs.Streams.{stream_counts};
-ghost use Rattle.streams.specs.Targets.{target_of_stream};
+ghost use Rattle.streams.specs.StreamTargets.{target_of_stream};
 
+use crate::Target;
 use crate::counts::{StreamCounts, stream_counts_text};
 use crate::frames::{process_frames, process_piece};
 use crate::given::ItemsGiven;
-use crate::target::StreamTo;
-use gnss_week::RefWeek;
+use crate::stream_target::StreamTo;
+use framing::{Deframer, decided_frames_stay};
+use nav_eph::RefWeek;
 use nav_io::{Failed, Sink};
 use one_run::BridgeFault;
-use outlets::Target;
-use rtcm_frame::{Deframer, decided_frames_stay};
 use std::alloc::Global;
 use std::marker::Model;
 
@@ -83,7 +83,8 @@ impl StreamRun {
         output: &mut T,
     ) -> Result<StreamRun, Failed>
         ensures writes { Writes (T.written output.old) (T.written output.new)
-            (T.faults output.old) (T.faults output.new) result (prefix_text (target_of_stream to.now)) }
+            (T.faults output.old) (T.faults output.new) result (prefix_text
+            (target_of_stream to.now)) }
         ensures run { IfOk result (λ run. (run.to ≡ target_of_stream to.now) × (run.week ≡ r)
             × (run.taken ≡ 0) × (run.fault ≡ None)) }
         ensures pushed { IfOk result (λ run. (begun : Option (List ℕ))

@@ -1,64 +1,42 @@
-//! The messages that encode ephemerides read from payloads: mostly the payload is already that
-//! message.
+//! The messages of items.
 
-ghost use Rattle.std.specs.Prelude.{◌≡◌, ◌+◌, ◌*◌, length};
-ghost use Rattle.nav_eph.specs.Ranges.{HasGalRanges, HasGpsRanges};
-ghost use Rattle.nav_eph.specs.declared.items.NavItem.TheVariants.{Gal, Gps};
-ghost use Rattle.rtcm_eph.specs.Writing.{bytes_1019, bytes_1046};
-ghost use Rattle.streams.specs.Mirrors.{IsReadOf};
+ghost use Rattle.std.specs.Prelude.{◌≤◌, length};
+ghost use Rattle.nav_io.specs.Writes.{Writes};
+ghost use Rattle.framing.specs.Writing.{frame_bytes};
+ghost use Rattle.streams.specs.ItemTexts.{rtcm_item};
 
-use nav_bits::Bits;
-use nav_eph::{GalEph, GpsEph};
-use rtcm_eph::{message_bytes, read_1019_is_sent, read_1046_is_sent, write_1019, write_1046};
+use arrayvec::ArrayVec;
+use framing::write_frame;
+use nav_eph::NavItem;
+use nav_io::{Failed, Sink};
+use rtcm_eph::{write_1019, write_1046};
 
-// Each field of a GPS ephemeris fits its width in bits.
-fn gps_ranges(e: GpsEph)
-    ensures { HasGpsRanges e }
-{}
-
-// Each field of a Galileo ephemeris fits its width in bits.
-fn gal_ranges(e: GalEph)
-    ensures { HasGalRanges e }
-{}
-
-// The bits of these bytes.
-fn bits_of<const N: usize>(bytes: &[u8]) -> Bits<N>
-    requires { length bytes.now ≡ N }
-    ensures { result ≡ bytes.now }
+/// Appends the frame of an ephemeris to a sink: message 1019 or 1046 (RTCM 10403.3,
+/// 3.5). For ionosphere parameters nothing is written.
+#[tactic(auto, unfolding(crate::specs::ItemTexts::rtcm_item))]
+pub fn write_message<T: Sink>(item: &NavItem, out: &mut T) -> Result<(), Failed>
+    ensures { Writes (T.written out.old) (T.written out.new) (T.faults out.old) (T.faults out.new)
+        result (rtcm_item item.now) }
 {
-    let mut copied = [0; N];
-    copied.copy_from_slice(bytes);
-    Bits::from_bytes(copied)
+    match item {
+        NavItem::Gps(eph) => write_payload(write_1019(eph).bytes(), out),
+        NavItem::Gal(eph) => write_payload(write_1046(eph).bytes(), out),
+        NavItem::Ion(_) => Ok(()),
+    }
 }
 
-// Message 1019 of an ephemeris read from a payload: the payload itself, if it has no further bytes.
-pub(crate) fn sent_1019(eph: &GpsEph, payload: &[u8]) -> Bits<61>
-    requires read { IsReadOf payload.now (Gps eph.now) }
-    ensures { result ≡ bytes_1019 eph.now }
+/// Appends the frame of a payload (RTCM 10403.3, section 4).
+///
+/// # Errors
+///
+/// `Failed` only if the sink's count of errors rose in this call or is at its maximum; a prefix of
+/// the frame was appended then.
+pub fn write_payload<T: Sink>(payload: &[u8], out: &mut T) -> Result<(), Failed>
+    requires { length payload.now ≤ 1023 }
+    ensures { Writes (T.written out.old) (T.written out.new) (T.faults out.old) (T.faults out.new)
+        result (frame_bytes payload.now) }
 {
-    if payload.len() != 61 {
-        return write_1019(eph);
-    }
-    gps_ranges(*eph);
-    message_bytes();
-    read_1019_is_sent();
-    bits_of(payload)
-}
-
-// Message 1046 of an ephemeris read from a payload: the payload itself with its reserved bits
-// cleared, if it has no further bytes.
-pub(crate) fn sent_1046(eph: &GalEph, payload: &[u8]) -> Bits<63>
-    requires read { IsReadOf payload.now (Gal eph.now) }
-    ensures { result ≡ bytes_1046 eph.now }
-{
-    if payload.len() != 63 {
-        return write_1046(eph);
-    }
-    gal_ranges(*eph);
-    message_bytes();
-    read_1046_is_sent();
-    let mut bits = bits_of(payload);
-    bits.put(502, 2, 0);
-    bits.are_bytes();
-    bits
+    let mut frame = ArrayVec::new();
+    write_frame(payload, &mut frame);
+    out.write(frame.as_slice())
 }

@@ -1,17 +1,17 @@
 //! The run over a stream.
 
-ghost use Rattle.outlets.specs.Targets.{prefix_text, item_text};
+ghost use Rattle.streams.specs.Targets.{prefix_text, item_text};
 ghost use Rattle.one_run.specs.Runs.{Ran};
 ghost use Rattle.streams.specs.Streams.{stream_meaning_by};
 
+use crate::Target;
 use crate::counts::{StreamCounts, stream_counts_text};
 use crate::given::ItemsGiven;
 use crate::pieces::process_pieces;
-use gnss_week::RefWeek;
+use framing::decided_frames_stay;
+use nav_eph::RefWeek;
 use nav_io::{Failed, Sink, Source};
 use one_run::BridgeFault;
-use outlets::Target;
-use rtcm_frame::decided_frames_stay;
 use std::alloc::Global;
 
 // Reads a stream to its end, and writes the conversion of its items while it reads.

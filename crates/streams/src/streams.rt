@@ -5,8 +5,8 @@ ghost use Rattle.streams.specs.Streams.{stream_meaning};
 
 use crate::counts::StreamCounts;
 use crate::stream::convert_stream;
-use crate::target::StreamTo;
-use gnss_week::RefWeek;
+use crate::stream_target::StreamTo;
+use nav_eph::RefWeek;
 use nav_io::{Sink, Source};
 use one_run::BridgeFault;
 use std::alloc::Global;

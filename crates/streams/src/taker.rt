@@ -5,7 +5,7 @@ ghost use Rattle.std.specs.Prelude.{ℕ, true, not, List, [], length, take};
 ghost use Rattle.std.specs.Prelude.{IsTrue, IsErrOf, IfOk, IfErr, OnOk, OnErr};
 ghost use Rattle.nav_io.specs.Prefix.{IsPrefix};
 ghost use Rattle.nav_io.specs.Writes.{Writes};
-ghost use Rattle.rtcm_frame.specs.State.{MayFeed, IsWaiting};
+ghost use Rattle.framing.specs.State.{MayFeed, IsWaiting};
 ghost use Rattle.one_run.specs.Causes.{HasItsCause, faults_of};
 ghost use Rattle.one_run.specs.Runs.{Ran};
 ghost use Rattle.streams.specs.Mirrors.{IsStreamFault};
@@ -13,9 +13,9 @@ ghost use Rattle.streams.specs.Taken.{Gives, GivesBetween, HasRoomFor, Holds};
 ghost use Rattle.streams.specs.Taken.{Stops, Takes, TakesAll, TakesPart, frames_meaning_by};
 
 use crate::pieces::fault_at;
+use framing::{Deframer, Frame, decided_frames_stay};
 use nav_io::{Failed, MOST_TAKEN, Sink, Source, read_piece};
 use one_run::{BridgeFault, Text};
-use rtcm_frame::{Deframer, Frame, decided_frames_stay};
 
 // The number of bytes that one read asks for.
 const PIECE: usize = 16_384;
@@ -49,7 +49,8 @@ pub trait FrameTaker {
             → IsPrefix (text self.now some) (text self.now (some ++ more)) }
         ensures more { (some more : List (List ℕ))
             → IsPrefix (told self.now some) (told self.now (some ++ more)) }
-        ensures text { (some : List (List ℕ)) → IsPrefix (text self.now some) (whole self.now some) }
+        ensures text { (some : List (List ℕ))
+            → IsPrefix (text self.now some) (whole self.now some) }
         ensures told { (some : List (List ℕ))
             → IsPrefix (told self.now some) (reported self.now some) }
         ensures silent { told self.now [] ≡ [] };

@@ -1,31 +1,16 @@
-//! What a stream is converted to.
-
-ghost use Rattle.std.specs.Prelude.{◌≡◌};
-ghost use Rattle.streams.specs.Targets.{target_of_stream};
-
-use outlets::Target;
 use rinex_write::HeaderWords;
 
-/// What a stream is converted to.
+/// The output format of items and periods.
 #[derive(Clone, Copy)]
-pub enum StreamTo {
-    /// A navigation file of RINEX 4.01, with these texts in its header.
+pub enum Target {
+    /// A navigation file (RINEX 4.01) with this header content.
     Rinex(HeaderWords),
-    /// A navigation file of RINEX 3.05, without ionosphere records.
+    /// A navigation file (RINEX 3.05) with this header content; ionosphere parameters are left out.
     Rinex3(HeaderWords),
     /// A frame for each ephemeris, of message 1019 or 1046 (RTCM 10403.3).
     Rtcm,
-}
-
-impl StreamTo {
-    // The target of the items.
-    pub(crate) fn target(&self) -> Target
-        ensures { result ≡ target_of_stream self.now }
-    {
-        match self {
-            StreamTo::Rinex(words) => Target::Rinex(*words),
-            StreamTo::Rinex3(words) => Target::Rinex3(*words),
-            StreamTo::Rtcm => Target::Rtcm,
-        }
-    }
+    /// A line for each item or period.
+    ToList,
+    /// Only the counts.
+    Count,
 }

@@ -1,6 +1,6 @@
 //! Records of RINEX 4 that are carried: texts of another program.
 
-use carried_records::{exact_text, record_text};
+use rinex_lines::{exact_text, record_text};
 
 // The columns of a number, and its exact text; empty if it has none.
 struct NumberRow {

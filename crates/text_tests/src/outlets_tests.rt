@@ -1,13 +1,13 @@
 //! The texts of an ephemeris, and of a report.
 
-use gnss_week::RefWeek;
+use nav_eph::RefWeek;
 use nav_io::MemSink;
-use nav_samples::MESSAGE_1019_OF_G05;
 use one_run::{Text, append_count, report_text};
-use outlets::{item_line, write_message};
+use raw_values::MESSAGE_1019_OF_G05;
 use rtcm_eph::read_item;
 use std::alloc::{AllocError, Global};
 use std::test::Fail;
+use streams::{item_line, write_message};
 
 // Whether an ephemeris is listed and sent.
 fn is_listed_and_sent(alloc: Global) -> Result<bool, AllocError> {

@@ -2,7 +2,7 @@
 //! is written.
 
 use nav_io::{LineFault, MemSink, MemSource};
-use rinex_read::{HeaderFault, ItemRead, Reason, RecordReader, Rinex3};
+use rinex_read::{HeaderFault, ItemRead, RecordFault, RecordReader, Rinex3};
 use rinex_write::{HeaderWords, write_header3, write_item, write_item3};
 use std::alloc::{AllocError, Global};
 use std::test::Fail;
@@ -216,7 +216,7 @@ G32 2024 01 14 00 00 00 2.853730693460D-04-3.347508936713D-09 1.193489751472D-15
 #[derive(Clone, Copy)]
 enum Want {
     Item { line: u32 },
-    Refused { line: u32, reason: Reason },
+    Refused { line: u32, reason: RecordFault },
     PassedOver { line: u32 },
 }
 
@@ -270,12 +270,12 @@ static FILES: [FileRow; 2] = [
             Want::Item { line: 6 },
             Want::Refused {
                 line: 15,
-                reason: Reason::NotANumber,
+                reason: RecordFault::NotANumber,
             },
             Want::PassedOver { line: 23 },
             Want::Refused {
                 line: 31,
-                reason: Reason::Short,
+                reason: RecordFault::Short,
             },
             Want::Item { line: 36 },
             Want::Item { line: 44 },
@@ -327,7 +327,7 @@ static RECORDS: [FileRow; 7] = [
         bytes: SIX_LINES,
         reads: &[Want::Refused {
             line: 5,
-            reason: Reason::Short,
+            reason: RecordFault::Short,
         }],
         four: None,
         three: Some(b""),

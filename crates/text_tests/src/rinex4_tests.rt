@@ -1,16 +1,15 @@
 //! Records, headers and files of version 4, read and written: those of an independent program,
 //! records with one fault each, a read that fails and sinks that fail.
 
-use gnss_week::Moment;
 use nav_bits::{S, U};
-use nav_eph::{GalIon, IonContent, IonEph, NavItem, Sat, SentSecond, System};
+use nav_eph::{GalIon, IonContent, IonEph, Moment, NavItem, Sat, SentSecond, System};
 use nav_io::{Failed, LineFault, MemSink, MemSource};
-use nav_samples::{
+use raw_values::{
     ClockNumbers, E01_OF_ISSUE_0, E01_OF_ISSUE_378, E11_OF_ZEROES, G01_OF_WEEK_1783, G05_OF_ZEROES,
     G32_OF_WEEK_2294, GalIonNumbers, GalNumbers, GpsIonNumbers, GpsNumbers, OrbitANumbers,
     OrbitBNumbers, SideNumbers,
 };
-use rinex_read::{HeaderFault, ItemRead, Judged, Reason, RecordLines, RecordReader, Rinex4};
+use rinex_read::{HeaderFault, ItemRead, Judged, RecordFault, RecordLines, RecordReader, Rinex4};
 use rinex_write::{HeaderWords, write_header, write_item};
 use std::alloc::{AllocError, Global};
 use std::test::Fail;
@@ -62,7 +61,7 @@ enum Item {
 }
 
 // Whether an ionosphere is said by that satellite at that moment.
-fn is_said_by(ion: &IonEph, system: System, sat: u8, moment: u64) -> bool {
+fn is_stated_by(ion: &IonEph, system: System, sat: u8, moment: u64) -> bool {
     ion.sat.system() == system && ion.sat.number() == sat && ion.moment.value() == moment
 }
 
@@ -81,7 +80,7 @@ fn is_item(read: &NavItem, item: &Item) -> bool {
                 numbers,
             },
         ) => {
-            is_said_by(ion, System::Gps, *sat, *moment)
+            is_stated_by(ion, System::Gps, *sat, *moment)
                 && match &ion.content {
                     IonContent::Gps(content) => numbers.are_of(content),
                     IonContent::Gal(_) => false,
@@ -95,7 +94,7 @@ fn is_item(read: &NavItem, item: &Item) -> bool {
                 numbers,
             },
         ) => {
-            is_said_by(ion, System::Gal, *sat, *moment)
+            is_stated_by(ion, System::Gal, *sat, *moment)
                 && match &ion.content {
                     IonContent::Gal(content) => numbers.are_of(content),
                     IonContent::Gps(_) => false,
@@ -109,7 +108,7 @@ fn is_item(read: &NavItem, item: &Item) -> bool {
 #[derive(Clone, Copy)]
 enum Want {
     Item { line: u32, item: Item },
-    Refused { line: u32, reason: Reason },
+    Refused { line: u32, reason: RecordFault },
     PassedOver { line: u32 },
     Fault(LineFault),
 }
@@ -600,7 +599,7 @@ static FILES: [FileRow; 14] = [
         reads: &[
             Want::Refused {
                 line: 5,
-                reason: Reason::Short,
+                reason: RecordFault::Short,
             },
             Want::PassedOver { line: 12 },
             Want::Item {
@@ -678,7 +677,7 @@ struct ChangeRow {
 enum Change {
     // An ephemeris of zeroes with this transmission time.
     Item(SentSecond),
-    Refused(Reason),
+    Refused(RecordFault),
     PassedOver,
 }
 
@@ -689,85 +688,85 @@ static CHANGES: [ChangeRow; 20] = [
         name: "satellite 33 in the first line",
         place: 7,
         characters: b"33",
-        judged: Change::Refused(Reason::BadSat),
+        judged: Change::Refused(RecordFault::BadSat),
     },
     ChangeRow {
         name: "another satellite in the second line",
         place: 15,
         characters: b"G06",
-        judged: Change::Refused(Reason::BadSat),
+        judged: Change::Refused(RecordFault::BadSat),
     },
     ChangeRow {
         name: "a blank in the satellite",
         place: 7,
         characters: b" 5",
-        judged: Change::Refused(Reason::BadSat),
+        judged: Change::Refused(RecordFault::BadSat),
     },
     ChangeRow {
         name: "a letter in a number",
         place: 101,
         characters: b"x",
-        judged: Change::Refused(Reason::NotANumber),
+        judged: Change::Refused(RecordFault::NotANumber),
     },
     ChangeRow {
         name: "a letter in the day",
         place: 27,
         characters: b"D2",
-        judged: Change::Refused(Reason::NotANumber),
+        judged: Change::Refused(RecordFault::NotANumber),
     },
     ChangeRow {
         name: "a blank number",
         place: 119,
         characters: BLANK,
-        judged: Change::Refused(Reason::Blank),
+        judged: Change::Refused(RecordFault::Blank),
     },
     ChangeRow {
         name: "an issue past its range",
         place: 562,
         characters: b" 1.024000000000D+03",
-        judged: Change::Refused(Reason::OutOfRange),
+        judged: Change::Refused(RecordFault::OutOfRange),
     },
     ChangeRow {
         name: "a health past its range",
         place: 524,
         characters: b" 6.400000000000D+01",
-        judged: Change::Refused(Reason::OutOfRange),
+        judged: Change::Refused(RecordFault::OutOfRange),
     },
     ChangeRow {
         name: "a day 32",
         place: 27,
         characters: b"32",
-        judged: Change::Refused(Reason::NoSuchDate),
+        judged: Change::Refused(RecordFault::NoSuchDate),
     },
     ChangeRow {
         name: "a year before the epoch",
         place: 19,
         characters: b"1979",
-        judged: Change::Refused(Reason::Week),
+        judged: Change::Refused(RecordFault::Week),
     },
     ChangeRow {
         name: "a year 0",
         place: 19,
         characters: b"0000",
-        judged: Change::Refused(Reason::Week),
+        judged: Change::Refused(RecordFault::Week),
     },
     ChangeRow {
         name: "a fit interval of two hours",
         place: 605,
         characters: b" 2.000000000000D+00",
-        judged: Change::Refused(Reason::Fit),
+        judged: Change::Refused(RecordFault::Fit),
     },
     ChangeRow {
         name: "an epoch one second on",
         place: 36,
         characters: b"01",
-        judged: Change::Refused(Reason::EpochStep),
+        judged: Change::Refused(RecordFault::EpochStep),
     },
     ChangeRow {
         name: "an epoch far from toe",
         place: 27,
         characters: b"23",
-        judged: Change::Refused(Reason::EpochFar),
+        judged: Change::Refused(RecordFault::EpochFar),
     },
     ChangeRow {
         name: "a blank fit interval",

@@ -3,15 +3,15 @@ use Rattle.std.proofs.Common.{◌≡◌, ◌⊎◌, ℕ, ◌+◌, ◌-◌, ◌<�
 use Rattle.std.proofs.Math.Seq.{take-append-add}
 use Rattle.std.proofs.lemmas.Bool.{or_parts, false≢true, lt-ltb}
 use Rattle.std.proofs.lemmas.List.{drop_all, drop_more, take-append-le}
-use Rattle.receiver_frames.specs.Headings.{Heading, IsHeading, format_of, opens_by, size_by}
-use Rattle.receiver_frames.specs.Messages.{IsFormat}
-use Rattle.receiver_frames.specs.SbfForm.{sbf}
-use Rattle.receiver_frames.specs.SbfFormLaws.{sbf_is_heading}
-use Rattle.receiver_frames.specs.UbxForm.{ubx}
-use Rattle.receiver_frames.specs.UbxFormLaws.{ubx_is_heading}
-use Rattle.rtcm_frame.specs.Frames.{frame_size, is_open}
+use Rattle.framing.specs.Headings.{Heading, IsHeading, format_of, opens_by, size_by}
+use Rattle.framing.specs.Messages.{IsFormat}
+use Rattle.framing.specs.SbfForm.{sbf}
+use Rattle.framing.specs.SbfFormLaws.{sbf_is_heading}
+use Rattle.framing.specs.UbxForm.{ubx}
+use Rattle.framing.specs.UbxFormLaws.{ubx_is_heading}
+use Rattle.framing.specs.Frames.{frame_size, is_open}
 use Rattle.whole_file.proofs.FrameForms.{frame-append}
-use Rattle.whole_file.specs.Kinds.{is_head, kind_of, prefix_kind, told_by}
+use Rattle.whole_file.specs.Kinds.{is_head, kind_of, prefix_kind, decided_by}
 use Rattle.whole_file.specs.Units.{IsPast, first_of, first_unit, opens_unit, unit_of}
 use Rattle.whole_file.specs.declared.kinds.Kind.{Kind}
 use Rattle.whole_file.specs.declared.kinds.Kind.TheVariants.{Stream, Ubx, Sbf}
@@ -100,14 +100,14 @@ pub told_by_unit : (bytes : List ℕ) (head : Kind) (unit : Option Kind) → hea
     → unit ≡ first_unit (take 65536 bytes) → unwrap_or unit head ≡ kind_of bytes
 unfolding kind_of
 told_by_unit bytes head unit is none first =
-    sym (ap (λ (h : Kind). told_by h (first_unit (take 65536 bytes))) (sym is) ∙ ap (told_by head) (sym first)
+    sym (ap (λ (h : Kind). decided_by h (first_unit (take 65536 bytes))) (sym is) ∙ ap (decided_by head) (sym first)
     ∙ ap (λ (b : Bool). if b then head else unwrap_or unit head) none)
 
 -- what the head tells alone
 pub told_by_head : (bytes : List ℕ) (head : Kind) → head ≡ prefix_kind (take 80 bytes) → is_head head ≡ true → head ≡ kind_of bytes
 unfolding kind_of
 told_by_head bytes head is some =
-    sym (ap (λ (h : Kind). told_by h (first_unit (take 65536 bytes))) (sym is)
+    sym (ap (λ (h : Kind). decided_by h (first_unit (take 65536 bytes))) (sym is)
     ∙ ap (λ (b : Bool). if b then head else unwrap_or (first_unit (take 65536 bytes)) head) some)
 
 -- the head of bytes that more bytes follow

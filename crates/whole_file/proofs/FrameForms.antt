@@ -3,7 +3,7 @@ use Rattle.std.proofs.Common.{◌≡◌, ◌⊎◌, ℕ, ◌+◌, ◌<◌, ◌�
 use Rattle.std.proofs.lemmas.Bool.{and_cases, and_right, ltb-false, le-leb, le-ltb, lt-leb, lt-ltb, eq-eqb, ne_eqb}
 use Rattle.std.proofs.lemmas.Bool.Decides.{nat_tests}
 use Rattle.std.proofs.lemmas.List.{get_or-take, length-take-le, take-append-drop, take-append-le}
-use Rattle.rtcm_frame.specs.Frames.{announced, frame_size, is_open, is_right}
+use Rattle.framing.specs.Frames.{announced, frame_size, is_open, is_right}
 
 -- the size that the header of these bytes announces
 abbrev announced_by : List ℕ → ℕ

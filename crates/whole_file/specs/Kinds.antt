@@ -100,13 +100,13 @@ is_head Gzip = true
 is_head kind = false
 
 -- the format by what the first 80 bytes show, and by the first complete unit
-abbrev pub told_by : Kind → Option Kind → Kind
-told_by head unit = if is_head head then head else unwrap_or unit head
+abbrev pub decided_by : Kind → Option Kind → Kind
+decided_by head unit = if is_head head then head else unwrap_or unit head
 
 -- The format of a file with these bytes: that of its head; else that of the first complete unit in
 -- the first 65,536 bytes; and if there is none what the first 80 bytes show.
 unfoldable pub kind_of : List ℕ → Kind
-kind_of bytes = told_by (prefix_kind (take 80 bytes)) (first_unit (take 65536 bytes))
+kind_of bytes = decided_by (prefix_kind (take 80 bytes)) (first_unit (take 65536 bytes))
 
 -- the format that is named, or else the one that the first bytes show; a capture that names its
 -- week is read as one that does, and where RINEX is named a file by its version

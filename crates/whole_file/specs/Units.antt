@@ -1,9 +1,9 @@
 -- The first complete unit in some bytes, by which a log is recognised, wherever it was truncated.
 use Rattle.std.specs.Prelude.{◌≡◌, ◌||◌, ℕ, nat_lt, Bool, if◌then◌else◌, List, [], ◌∷◌, ◌++◌, drop, Option, None, Some}
-use Rattle.receiver_frames.specs.Headings.{opens_by, size_by}
-use Rattle.receiver_frames.specs.SbfForm.{sbf}
-use Rattle.receiver_frames.specs.UbxForm.{ubx}
-use Rattle.rtcm_frame.specs.Frames.{frame_size, is_open}
+use Rattle.framing.specs.Headings.{opens_by, size_by}
+use Rattle.framing.specs.SbfForm.{sbf}
+use Rattle.framing.specs.UbxForm.{ubx}
+use Rattle.framing.specs.Frames.{frame_size, is_open}
 use Rattle.whole_file.specs.declared.kinds.Kind.{Kind}
 use Rattle.whole_file.specs.declared.kinds.Kind.TheVariants.{Stream, Ubx, Sbf}
 

@@ -17,9 +17,9 @@ pub trait Progress: Drop {
 
 /// Ignores the count.
 #[derive(Clone, Copy, Drop)]
-pub struct Untold;
+pub struct NoProgress;
 
-impl Progress for Untold {
+impl Progress for NoProgress {
     fn taken(&mut self, _count: u64) {}
 }
 

@@ -45,7 +45,7 @@ mod peeked;
 mod step;
 mod units;
 
-pub use crate::counted::{Counted, Progress, Untold};
+pub use crate::counted::{Counted, NoProgress, Progress};
 pub use crate::entries::MemDraft;
 pub use crate::fault_counts::fault_of;
 pub use crate::faults::FileFault;
@@ -53,7 +53,7 @@ pub use crate::folder::Folder;
 pub use crate::gathered::{GATHERED, Gathered};
 pub use crate::host::HostFolder;
 pub use crate::kinds::{Kind, LOOKED_AT, kind_of, kind_so_far};
-pub use crate::laws::{a_frame_tells_a_stream, first_bytes_decide};
+pub use crate::laws::{a_frame_decides_a_stream, first_bytes_decide};
 pub use crate::looking::{form_of, look};
 pub use crate::memory::{MemFolder, MemInput};
 pub use crate::names::{Given, Namer, part_of};

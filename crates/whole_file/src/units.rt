@@ -4,13 +4,12 @@
 ghost use Rattle.std.specs.Prelude.{◌≡◌, ℕ, ◌+◌, ◌<◌, ◌≤◌};
 ghost use Rattle.std.specs.Prelude.{List, [], ◌++◌, ◌&&◌, length, drop, slice_index, nat_lt};
 ghost use Rattle.std.specs.Prelude.{false, IfSome, None, Some};
-ghost use Rattle.receiver_frames.specs.Headings.{opens_by, size_by};
-ghost use Rattle.rtcm_frame.specs.Frames.{announced, frame_size, is_open};
+ghost use Rattle.framing.specs.Headings.{opens_by, size_by};
+ghost use Rattle.framing.specs.Frames.{announced, frame_size, is_open};
 ghost use Rattle.whole_file.specs.Units.{first_unit, opens_unit, unit_of};
 
 use crate::kinds::Kind;
-use receiver_frames::{Judge, SbfJudge, UbxJudge, headings_are_formats};
-use rtcm_frame::frame_of;
+use framing::{Judge, SbfJudge, UbxJudge, frame_of, headings_are_formats};
 
 // The first whole unit in the bytes from `start` on: its form, or `None`, and the first offset that
 // is not passed. Where more bytes may come, an offset where a unit is incomplete is not passed.
@@ -104,7 +103,7 @@ fn size_at<J: Judge>(judge: &mut J, bytes: &[u8], place: usize) -> usize
 }
 
 // The size of a frame by the length in its header.
-fn size_told(bytes: &[u8]) -> usize
+fn size_reported(bytes: &[u8]) -> usize
     requires { 3 ≤ length bytes.now }
     ensures { result ≡ announced (slice_index bytes.now 1) (slice_index bytes.now 2) }
 {
@@ -118,7 +117,7 @@ fn opens_frame(bytes: &[u8]) -> bool
 {
     match bytes {
         [] => false,
-        [start, _, _, ..] => *start == 0xd3 && bytes.len() < size_told(bytes),
+        [start, _, _, ..] => *start == 0xd3 && bytes.len() < size_reported(bytes),
         [start, ..] => *start == 0xd3,
     }
 }
@@ -133,7 +132,7 @@ fn begins_frame(bytes: &[u8]) -> bool
     if bytes[0] != 0xd3 {
         return false;
     }
-    let size = size_told(bytes);
+    let size = size_reported(bytes);
     if bytes.len() < size {
         return false;
     }

@@ -11,8 +11,8 @@ returns-in-Err-clause-also g c = λ job is broke. nothing_ahead job _ _ _
 pub returns-in-Ok-Some : goal.returns-in-Ok-Some
 returns-in-Ok-Some g c =
     let given = given_job _ _ c.in-Ok-Some.job c.in-Ok-Some.field-0-is c.in-Ok-Some.ensures in
-    let laws = readings c.captures_are_told.ensures.capture c.captures_are_told.ensures.items
-    c.lines_yield_what_is_heard.ensures.periods in
+    let laws = readings c.captures_are_selected.ensures.capture c.captures_are_selected.ensures.items
+    c.lines_yield_what_is_received.ensures.periods in
     let call = calls laws _ _ _ _ (forget c.run_job-ended.result) _ given
     (forgotten {C = Done} _ _ _ c.run_job-ended.result c.run_job-ended.ensures.ended) (ahead_forgotten {C = Done} _ c.run_job-ended.result c.run_job-ended.ensures.also)
     (c.number-in-Ok-Some.ensures ∙ c.of.ensures ∙ status_forgotten _) in

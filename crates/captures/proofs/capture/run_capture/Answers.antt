@@ -46,16 +46,16 @@ convert-requires-clause-past g c =
       told = _;
       number_is = first;
       few = omega (arith, first);
-      stands = stands_start _ c.in-Ok.head c.new-hearing.result _ _ c.in-Ok.ensures.most c.new-hearing.ensures;
+      stands = stands_start _ c.in-Ok.head c.new-receiving.result _ _ c.in-Ok.ensures.most c.new-receiving.ensures;
     }
 
 pub returns-in-Err-convert-clause-ended : goal.returns-in-Err-convert-clause-ended
 returns-in-Err-convert-clause-ended g c =
     let laws : LogLaws = record { later = c.what_is_closed_stays.ensures.later; rise = c.what_is_closed_stays.ensures.rise; prefix = c.what_is_closed_stays.ensures.prefix; values = c.parts_of_lines_are_values.ensures } in
     let fresh : IsFresh c.new-lines.result = record { rest = c.new-lines.ensures.rest; ended = c.new-lines.ensures.ended; taken = c.new-lines.ensures.taken; number = c.new-lines.ensures.number } in
-    let broke = c.in-Err-convert.ensures.converts c.in-Ok.head [] _ _ (one_line _ _ _ _ _ _ fresh c.in-Ok.ensures.accepted) (stands_start _ c.in-Ok.head c.new-hearing.result _ _ c.in-Ok.ensures.most c.new-hearing.ensures) in
+    let broke = c.in-Err-convert.ensures.converts c.in-Ok.head [] _ _ (one_line _ _ _ _ _ _ fresh c.in-Ok.ensures.accepted) (stands_start _ c.in-Ok.head c.new-receiving.result _ _ c.in-Ok.ensures.most c.new-receiving.ensures) in
     stopped_by c.args.to.now c.target-target.result c.args.week _ _ c.in-Err-convert.fault c.target-target.ensures
-    (convert_stops laws c.target-target.result c.args.week _ _ _ _ _ _ _ _ c.new-lines.result c.first_line.new.lines c.convert.new.lines c.convert.new.hearing c.in-Ok.head c.in-Err-convert.fault fresh c.in-Ok.ensures.accepted
+    (convert_stops laws c.target-target.result c.args.week _ _ _ _ _ _ _ _ c.new-lines.result c.first_line.new.lines c.convert.new.lines c.convert.new.receiving c.in-Ok.head c.in-Err-convert.fault fresh c.in-Ok.ensures.accepted
     c.in-Ok-begin.ensures.bytes broke)
     (convert_cause _ _ _ _ _ _ c.in-Err-convert.fault c.in-Err-convert.ensures.cause c.in-Ok.ensures.quiet c.in-Ok-begin.ensures.cause.stays)
     (λ e quiet. c.in-Err-convert.ensures.never (c.in-Ok.ensures.never quiet).1 (ap Err e))
@@ -66,16 +66,16 @@ returns-in-Err-convert-clause-ahead g c =
     let laws : LogLaws = record { later = c.what_is_closed_stays.ensures.later; rise = c.what_is_closed_stays.ensures.rise; prefix = c.what_is_closed_stays.ensures.prefix; values = c.parts_of_lines_are_values.ensures } in
     let fresh : IsFresh c.new-lines.result = record { rest = c.new-lines.ensures.rest; ended = c.new-lines.ensures.ended; taken = c.new-lines.ensures.taken; number = c.new-lines.ensures.number } in
     ahead_of c.args.to.now c.target-target.result c.args.week _ _ _ _ _ _ c.in-Err-convert.fault c.target-target.ensures
-    (convert_stops laws c.target-target.result c.args.week _ _ _ _ _ _ _ _ c.new-lines.result c.first_line.new.lines c.convert.new.lines c.convert.new.hearing c.in-Ok.head c.in-Err-convert.fault fresh c.in-Ok.ensures.accepted
-    c.in-Ok-begin.ensures.bytes (c.in-Err-convert.ensures.converts c.in-Ok.head [] _ _ (one_line _ _ _ _ _ _ fresh c.in-Ok.ensures.accepted) (stands_start _ c.in-Ok.head c.new-hearing.result _ _ c.in-Ok.ensures.most c.new-hearing.ensures)))
+    (convert_stops laws c.target-target.result c.args.week _ _ _ _ _ _ _ _ c.new-lines.result c.first_line.new.lines c.convert.new.lines c.convert.new.receiving c.in-Ok.head c.in-Err-convert.fault fresh c.in-Ok.ensures.accepted
+    c.in-Ok-begin.ensures.bytes (c.in-Err-convert.ensures.converts c.in-Ok.head [] _ _ (one_line _ _ _ _ _ _ fresh c.in-Ok.ensures.accepted) (stands_start _ c.in-Ok.head c.new-receiving.result _ _ c.in-Ok.ensures.most c.new-receiving.ensures)))
 
 pub returns-in-Ok-end_run-clause-ended : goal.returns-in-Ok-end_run-clause-ended
 returns-in-Ok-end_run-clause-ended g c =
     let fresh : IsFresh c.new-lines.result = record { rest = c.new-lines.ensures.rest; ended = c.new-lines.ensures.ended; taken = c.new-lines.ensures.taken; number = c.new-lines.ensures.number } in
-    let converted = c.in-Ok-convert.ensures.converts c.in-Ok.head [] _ _ (one_line _ _ _ _ _ _ fresh c.in-Ok.ensures.accepted) (stands_start _ c.in-Ok.head c.new-hearing.result _ _ c.in-Ok.ensures.most c.new-hearing.ensures) in
+    let converted = c.in-Ok-convert.ensures.converts c.in-Ok.head [] _ _ (one_line _ _ _ _ _ _ fresh c.in-Ok.ensures.accepted) (stands_start _ c.in-Ok.head c.new-receiving.result _ _ c.in-Ok.ensures.most c.new-receiving.ensures) in
     let taken = all_taken c.target-target.result c.args.week _ _ _ _ _ _ _ _ c.new-lines.result c.first_line.new.lines c.convert.new.lines c.in-Ok.head
-    c.convert.new.hearing.ear.tally c.convert.new.hearing.said c.counts_with-counts.result fresh c.in-Ok.ensures.accepted c.in-Ok-begin.ensures.bytes
-    converted (c.counts_with-counts.ensures ∙ ap (λ (n : ℕ). with_counts n c.convert.new.hearing.ear.tally c.convert.new.hearing.said) c.number.ensures) in
+    c.convert.new.receiving.receiver.tally c.convert.new.receiving.said c.counts_with-counts.result fresh c.in-Ok.ensures.accepted c.in-Ok-begin.ensures.bytes
+    converted (c.counts_with-counts.ensures ∙ ap (λ (n : ℕ). with_counts n c.convert.new.receiving.receiver.tally c.convert.new.receiving.said) c.number.ensures) in
     all_done c.args.to.now c.target-target.result c.args.week _ _ _ _ c.in-Ok.head c.counts_with-counts.result c.target-target.ensures taken c.in-Ok-end_run.ensures.text c.in-Ok-end_run.ensures.report
     (end_quiet _ _ _ _ _ _ _ _ _ _ c.in-Ok-end_run.ensures.cause c.in-Ok-convert.ensures.cause c.in-Ok.ensures.quiet c.in-Ok-begin.ensures.cause.stays)
 
@@ -83,10 +83,10 @@ pub returns-clause-ended : goal.returns-clause-ended
 returns-clause-ended g c =
     let laws : LogLaws = record { later = c.what_is_closed_stays.ensures.later; rise = c.what_is_closed_stays.ensures.rise; prefix = c.what_is_closed_stays.ensures.prefix; values = c.parts_of_lines_are_values.ensures } in
     let fresh : IsFresh c.new-lines.result = record { rest = c.new-lines.ensures.rest; ended = c.new-lines.ensures.ended; taken = c.new-lines.ensures.taken; number = c.new-lines.ensures.number } in
-    let converted = c.in-Ok-convert.ensures.converts c.in-Ok.head [] _ _ (one_line _ _ _ _ _ _ fresh c.in-Ok.ensures.accepted) (stands_start _ c.in-Ok.head c.new-hearing.result _ _ c.in-Ok.ensures.most c.new-hearing.ensures) in
+    let converted = c.in-Ok-convert.ensures.converts c.in-Ok.head [] _ _ (one_line _ _ _ _ _ _ fresh c.in-Ok.ensures.accepted) (stands_start _ c.in-Ok.head c.new-receiving.result _ _ c.in-Ok.ensures.most c.new-receiving.ensures) in
     let taken = all_taken c.target-target.result c.args.week _ _ _ _ _ _ _ _ c.new-lines.result c.first_line.new.lines c.convert.new.lines c.in-Ok.head
-    c.convert.new.hearing.ear.tally c.convert.new.hearing.said c.counts_with-counts.result fresh c.in-Ok.ensures.accepted c.in-Ok-begin.ensures.bytes
-    converted (c.counts_with-counts.ensures ∙ ap (λ (n : ℕ). with_counts n c.convert.new.hearing.ear.tally c.convert.new.hearing.said) c.number.ensures) in
+    c.convert.new.receiving.receiver.tally c.convert.new.receiving.said c.counts_with-counts.result fresh c.in-Ok.ensures.accepted c.in-Ok-begin.ensures.bytes
+    converted (c.counts_with-counts.ensures ∙ ap (λ (n : ℕ). with_counts n c.convert.new.receiving.receiver.tally c.convert.new.receiving.said) c.number.ensures) in
     let kind = c.in-Err-end_run.ensures.kind in
     stopped_by c.args.to.now c.target-target.result c.args.week _ _ c.in-Err-end_run.fault c.target-target.ensures
     (end_stopped laws c.target-target.result c.args.week _ _ _ _ _ _ _ _ c.in-Ok.head c.counts_with-counts.result c.in-Err-end_run.fault taken c.in-Err-end_run.ensures.part c.in-Err-end_run.ensures.report_part
@@ -99,10 +99,10 @@ pub returns-clause-ahead : goal.returns-clause-ahead
 returns-clause-ahead g c =
     let laws : LogLaws = record { later = c.what_is_closed_stays.ensures.later; rise = c.what_is_closed_stays.ensures.rise; prefix = c.what_is_closed_stays.ensures.prefix; values = c.parts_of_lines_are_values.ensures } in
     let fresh : IsFresh c.new-lines.result = record { rest = c.new-lines.ensures.rest; ended = c.new-lines.ensures.ended; taken = c.new-lines.ensures.taken; number = c.new-lines.ensures.number } in
-    let converted = c.in-Ok-convert.ensures.converts c.in-Ok.head [] _ _ (one_line _ _ _ _ _ _ fresh c.in-Ok.ensures.accepted) (stands_start _ c.in-Ok.head c.new-hearing.result _ _ c.in-Ok.ensures.most c.new-hearing.ensures) in
+    let converted = c.in-Ok-convert.ensures.converts c.in-Ok.head [] _ _ (one_line _ _ _ _ _ _ fresh c.in-Ok.ensures.accepted) (stands_start _ c.in-Ok.head c.new-receiving.result _ _ c.in-Ok.ensures.most c.new-receiving.ensures) in
     let taken = all_taken c.target-target.result c.args.week _ _ _ _ _ _ _ _ c.new-lines.result c.first_line.new.lines c.convert.new.lines c.in-Ok.head
-    c.convert.new.hearing.ear.tally c.convert.new.hearing.said c.counts_with-counts.result fresh c.in-Ok.ensures.accepted c.in-Ok-begin.ensures.bytes
-    converted (c.counts_with-counts.ensures ∙ ap (λ (n : ℕ). with_counts n c.convert.new.hearing.ear.tally c.convert.new.hearing.said) c.number.ensures) in
+    c.convert.new.receiving.receiver.tally c.convert.new.receiving.said c.counts_with-counts.result fresh c.in-Ok.ensures.accepted c.in-Ok-begin.ensures.bytes
+    converted (c.counts_with-counts.ensures ∙ ap (λ (n : ℕ). with_counts n c.convert.new.receiving.receiver.tally c.convert.new.receiving.said) c.number.ensures) in
     ahead_of c.args.to.now c.target-target.result c.args.week _ _ _ _ _ _ c.in-Err-end_run.fault c.target-target.ensures
     (end_stopped laws c.target-target.result c.args.week _ _ _ _ _ _ _ _ c.in-Ok.head c.counts_with-counts.result c.in-Err-end_run.fault taken c.in-Err-end_run.ensures.part c.in-Err-end_run.ensures.report_part
     (λ e. c.in-Err-end_run.ensures.untold (ap Err e)) (λ e. c.in-Err-end_run.ensures.wrote (ap Err e)) c.in-Err-end_run.ensures.kind)

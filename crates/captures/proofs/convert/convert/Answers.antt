@@ -33,7 +33,7 @@ pub returns-in-Ok-false-clause-converts : goal.returns-in-Ok-false-clause-conver
 returns-in-Ok-false-clause-converts g c head past start told first stands =
     let gives : GivesEnd (g.S.Source.left c.lines.input) (g.S.Source.left c.next_item.new.source) c.lines.lines c.next_item.new.lines = c.in-Ok-false.ensures.end c.in-Ok-false.field-0-test in
     let b = c.lines.invariant.between head past start told first stands in
-    converted_end _ _ _ _ _ _ _ _ _ c.lines.hearing c.finish.new.self _ _ _ _ _ _ _ c.finish.result b gives (c.finish.ensures head (past ++ b.given) _ _ _ b.stands)
+    converted_end _ _ _ _ _ _ _ _ _ c.lines.receiving c.finish.new.self _ _ _ _ _ _ _ c.finish.result b gives (c.finish.ensures head (past ++ b.given) _ _ _ b.stands)
 
 pub returns-in-Ok-false-clause-cause : goal.returns-in-Ok-false-clause-cause
 returns-in-Ok-false-clause-cause g c =
@@ -49,7 +49,7 @@ returns-in-Ok-false-clause-never g c quiet =
 pub returns-in-Err-clause-converts : goal.returns-in-Err-clause-converts
 returns-in-Err-clause-converts g c head past start told first stands =
     let laws : LogLaws = record { later = c.what_is_closed_stays.ensures.later; rise = c.what_is_closed_stays.ensures.rise; prefix = c.what_is_closed_stays.ensures.prefix; values = c.parts_of_lines_are_values.ensures } in
-    broke_input laws _ _ _ _ _ _ _ _ _ c.lines.hearing _ _ _ _ c.in-Err.fault c.fault_of.result c.fault_of.ensures (c.lines.invariant.between head past start told first stands) c.in-Err.ensures.fault
+    broke_input laws _ _ _ _ _ _ _ _ _ c.lines.receiving _ _ _ _ c.in-Err.fault c.fault_of.result c.fault_of.ensures (c.lines.invariant.between head past start told first stands) c.in-Err.ensures.fault
 
 pub step-requires-clause-next : goal.step-requires-clause-next
 step-requires-clause-next g c =
@@ -76,7 +76,7 @@ lines-preserved g c =
       between = λ head past start told first stands.
           let b = c.lines.invariant.between head past start told first stands in
           let next = between_number _ _ _ _ _ _ _ _ _ _ _ _ _ _ _ c.number.result b gives c.number.ensures in
-          between_more _ head past _ _ _ _ _ _ c.lines.hearing c.step.new.self _ _ _ _ _ _ c.next_item.new.item b gives (c.in-Ok.ensures head (past ++ b.given) gives.line _ _ next gives.item_is b.stands).0;
+          between_more _ head past _ _ _ _ _ _ c.lines.receiving c.step.new.self _ _ _ _ _ _ c.next_item.new.item b gives (c.in-Ok.ensures head (past ++ b.given) gives.line _ _ next gives.item_is b.stands).0;
       input = c.in-Ok-true.ensures.quiet ∙ c.lines.invariant.input;
       output = ap (λ (f : Faults). f.output) same ∙ c.lines.invariant.output;
       report = ap (λ (f : Faults). f.report) same ∙ c.lines.invariant.report;
@@ -89,7 +89,7 @@ returns-in-Err-step-clause-converts g c head past start told first stands =
     let b = c.lines.invariant.between head past start told first stands in
     let number = between_number _ _ _ _ _ _ _ _ _ _ _ _ _ _ _ c.number.result b gives c.number.ensures in
     let laws : LogLaws = record { later = c.what_is_closed_stays.ensures.later; rise = c.what_is_closed_stays.ensures.rise; prefix = c.what_is_closed_stays.ensures.prefix; values = c.parts_of_lines_are_values.ensures } in
-    broke_step laws _ head past _ _ _ _ _ _ c.lines.hearing c.step.new.self _ _ _ _ _ _ c.next_item.new.item _ _ c.in-Err-step.fault b gives (c.in-Err-step.ensures head (past ++ b.given) gives.line _ _ number gives.item_is b.stands)
+    broke_step laws _ head past _ _ _ _ _ _ c.lines.receiving c.step.new.self _ _ _ _ _ _ c.next_item.new.item _ _ c.in-Err-step.fault b gives (c.in-Err-step.ensures head (past ++ b.given) gives.line _ _ number gives.item_is b.stands)
 
 pub returns-in-Err-step-clause-cause : goal.returns-in-Err-step-clause-cause
 returns-in-Err-step-clause-cause g c =

@@ -9,8 +9,8 @@ use Rattle.captures.proofs.convert.convert.Given as goal
 abbrev pub invariant-lines : goal.invariant-lines
 invariant-lines g l = record {
   between : (head : Accepted) (past : List Line) (start told : Option (List ℕ)) → l.fn.lines.number ≡ 1 + length past
-      → Stands l.to head past l.fn.hearing start (g.T.Sink.written l.fn.output) told (g.U.Sink.written l.fn.report)
-      → Between l.to head past (g.S.Source.left l.fn.input) (g.S.Source.left l.input) l.fn.lines l.lines l.hearing start (g.T.Sink.written l.output)
+      → Stands l.to head past l.fn.receiving start (g.T.Sink.written l.fn.output) told (g.U.Sink.written l.fn.report)
+      → Between l.to head past (g.S.Source.left l.fn.input) (g.S.Source.left l.input) l.fn.lines l.lines l.receiving start (g.T.Sink.written l.output)
       told (g.U.Sink.written l.report);
   input : g.S.Source.faults l.input ≡ g.S.Source.faults l.fn.input;
   output : g.T.Sink.faults l.output ≡ g.T.Sink.faults l.fn.output;

@@ -2,7 +2,7 @@ use Rattle.std.proofs.Common.{ℕ, List, [], Result, Ok, Err, sym, subst, ◌∙
 use Rattle.std.specs.Prelude.{MatchResult, Option}
 use Rattle.std.specs.Io.KnownBytes.{Appends}
 use Rattle.nav_io.specs.Prefix.{AppendsPrefix}
-use Rattle.outlets.specs.Targets.{back_text}
+use Rattle.streams.specs.Targets.{back_text}
 use Rattle.captures.proofs.convert.end_run.Goals as goal
 
 -- whether it failed or not, a prefix was written

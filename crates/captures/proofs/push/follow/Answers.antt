@@ -1,6 +1,6 @@
 use Rattle.std.proofs.Common.{◌≡◌, None, Err, ap, subst}
 use Rattle.std.specs.Prelude.{Option}
-use Rattle.captures.specs.declared.hearing.Hearing.{Hearing}
+use Rattle.captures.specs.declared.receiving.CaptureState.{CaptureState}
 use Rattle.captures.specs.Pushed.{IsBehind}
 use Rattle.one_run.specs.declared.fault.BridgeFault.TheVariants.{ReadFault}
 use Rattle.captures.proofs.CaptureEnds.{head_cause}
@@ -11,23 +11,23 @@ use Rattle.captures.proofs.push.follow.Goals as goal
 pub convert-requires-clause-past : goal.convert-requires-clause-past
 convert-requires-clause-past g c =
     let ready = c.requires.ready in
-    let behind = subst (λ (o : Option Hearing). IsBehind c.args.to.now c.args.week c.args.lines.now o ready.bytes None (g.T.Sink.written c.args.output.now) None (g.U.Sink.written c.args.report.now))
+    let behind = subst (λ (o : Option CaptureState). IsBehind c.args.to.now c.args.week c.args.lines.now o ready.bytes None (g.T.Sink.written c.args.output.now) None (g.U.Sink.written c.args.report.now))
     c.in-Some.is (behind_ready _ _ _ _ _ _ ready) in
-    holds_began _ c.args.week (g.S.Source.left c.args.input.now) _ _ c.in-Some.hearing ready.bytes _ _ _ _ (began_some _ _ _ _ _ ready.bytes _ _ _ _ ready.waits behind)
+    holds_began _ c.args.week (g.S.Source.left c.args.input.now) _ _ c.in-Some.receiving ready.bytes _ _ _ _ (began_some _ _ _ _ _ ready.bytes _ _ _ _ ready.waits behind)
 
 pub returns-in-Some-clause-follows : goal.returns-in-Some-clause-follows
 returns-in-Some-clause-follows g c bytes start begun waits b =
     let laws : LogLaws = record { later = c.what_is_closed_stays.ensures.later; rise = c.what_is_closed_stays.ensures.rise; prefix = c.what_is_closed_stays.ensures.prefix; values = c.parts_of_lines_are_values.ensures } in
-    let behind = subst (λ (o : Option Hearing). IsBehind c.args.to.now c.args.week c.args.lines.now o bytes start (g.T.Sink.written c.args.output.now) begun (g.U.Sink.written c.args.report.now)) c.in-Some.is b in
-    let began = began_some c.args.to.now c.args.week (g.S.Source.left c.args.input.now) c.args.lines.now c.in-Some.hearing bytes start _ begun _ waits behind in
-    began_ends laws _ _ _ _ _ _ _ _ c.convert.new.hearing bytes start _ _ begun _ _ c.convert.result began (c.convert.ensures.converts began.head began.past began.led begun began.number began.stands)
+    let behind = subst (λ (o : Option CaptureState). IsBehind c.args.to.now c.args.week c.args.lines.now o bytes start (g.T.Sink.written c.args.output.now) begun (g.U.Sink.written c.args.report.now)) c.in-Some.is b in
+    let began = began_some c.args.to.now c.args.week (g.S.Source.left c.args.input.now) c.args.lines.now c.in-Some.receiving bytes start _ begun _ waits behind in
+    began_ends laws _ _ _ _ _ _ _ _ c.convert.new.receiving bytes start _ _ begun _ _ c.convert.result began (c.convert.ensures.converts began.head began.past began.led begun began.number began.stands)
 
 pub returns-in-Some-clause-form : goal.returns-in-Some-clause-form
 returns-in-Some-clause-form g c failed =
     let ready = c.requires.ready in
-    let behind = subst (λ (o : Option Hearing). IsBehind c.args.to.now c.args.week c.args.lines.now o ready.bytes None (g.T.Sink.written c.args.output.now) None (g.U.Sink.written c.args.report.now))
+    let behind = subst (λ (o : Option CaptureState). IsBehind c.args.to.now c.args.week c.args.lines.now o ready.bytes None (g.T.Sink.written c.args.output.now) None (g.U.Sink.written c.args.report.now))
     c.in-Some.is (behind_ready _ _ _ _ _ _ ready) in
-    let began = began_some c.args.to.now c.args.week (g.S.Source.left c.args.input.now) c.args.lines.now c.in-Some.hearing ready.bytes None _ None _ ready.waits behind in
+    let began = began_some c.args.to.now c.args.week (g.S.Source.left c.args.input.now) c.args.lines.now c.in-Some.receiving ready.bytes None _ None _ ready.waits behind in
     absurd (convert_no_form _ _ _ _ _ _ _ _ _ _ _ _ _ c.convert.result (c.convert.ensures.converts began.head began.past began.led None began.number began.stands) failed)
 
 pub returns-in-Err-clause-follows : goal.returns-in-Err-clause-follows
@@ -47,21 +47,21 @@ pub convert-result-requires-clause-past : goal.convert-result-requires-clause-pa
 convert-result-requires-clause-past g c =
     let ready = c.requires.ready in
     holds_began _ _ _ _ _ _ ready.bytes _ _ _ _
-    (began_new c.args.to.now c.args.week _ _ c.args.lines.now _ c.args.hearing.now c.in-Ok.head c.new-first.result ready.bytes None (g.T.Sink.written c.args.output.now) _ None (g.U.Sink.written c.args.report.now)
+    (began_new c.args.to.now c.args.week _ _ c.args.lines.now _ c.args.receiving.now c.in-Ok.head c.new-first.result ready.bytes None (g.T.Sink.written c.args.output.now) _ None (g.U.Sink.written c.args.report.now)
     c.in_default.is ready.waits (behind_ready _ _ _ _ _ _ ready) c.in-Ok.ensures.accepted c.in-Ok-begin.ensures.bytes c.in-Ok.ensures.most c.new-first.ensures)
 
 pub returns-clause-follows : goal.returns-clause-follows
 returns-clause-follows g c bytes start begun waits b =
     let laws : LogLaws = record { later = c.what_is_closed_stays.ensures.later; rise = c.what_is_closed_stays.ensures.rise; prefix = c.what_is_closed_stays.ensures.prefix; values = c.parts_of_lines_are_values.ensures } in
     let began =
-    began_new c.args.to.now c.args.week (g.S.Source.left c.args.input.now) (g.S.Source.left c.first_line.new.input) c.args.lines.now c.first_line.new.lines c.args.hearing.now c.in-Ok.head c.new-first.result bytes start (g.T.Sink.written c.args.output.now) (g.T.Sink.written c.begin.new.out) begun (g.U.Sink.written c.args.report.now)
+    began_new c.args.to.now c.args.week (g.S.Source.left c.args.input.now) (g.S.Source.left c.first_line.new.input) c.args.lines.now c.first_line.new.lines c.args.receiving.now c.in-Ok.head c.new-first.result bytes start (g.T.Sink.written c.args.output.now) (g.T.Sink.written c.begin.new.out) begun (g.U.Sink.written c.args.report.now)
     c.in_default.is waits b c.in-Ok.ensures.accepted c.in-Ok-begin.ensures.bytes c.in-Ok.ensures.most c.new-first.ensures in
-    began_ends laws _ _ _ _ _ _ _ _ c.convert-result.new.hearing bytes start _ _ begun _ _ c.convert-result.result began (c.convert-result.ensures.converts began.head began.past began.led begun began.number began.stands)
+    began_ends laws _ _ _ _ _ _ _ _ c.convert-result.new.receiving bytes start _ _ begun _ _ c.convert-result.result began (c.convert-result.ensures.converts began.head began.past began.led begun began.number began.stands)
 
 pub returns-clause-form : goal.returns-clause-form
 returns-clause-form g c failed =
     let ready = c.requires.ready in
     let began =
-    began_new c.args.to.now c.args.week (g.S.Source.left c.args.input.now) (g.S.Source.left c.first_line.new.input) c.args.lines.now c.first_line.new.lines c.args.hearing.now c.in-Ok.head c.new-first.result ready.bytes None (g.T.Sink.written c.args.output.now) (g.T.Sink.written c.begin.new.out) None (g.U.Sink.written c.args.report.now)
+    began_new c.args.to.now c.args.week (g.S.Source.left c.args.input.now) (g.S.Source.left c.first_line.new.input) c.args.lines.now c.first_line.new.lines c.args.receiving.now c.in-Ok.head c.new-first.result ready.bytes None (g.T.Sink.written c.args.output.now) (g.T.Sink.written c.begin.new.out) None (g.U.Sink.written c.args.report.now)
     c.in_default.is ready.waits (behind_ready _ _ _ _ _ _ ready) c.in-Ok.ensures.accepted c.in-Ok-begin.ensures.bytes c.in-Ok.ensures.most c.new-first.ensures in
     absurd (convert_no_form _ _ _ _ _ _ _ _ _ _ _ _ _ c.convert-result.result (c.convert-result.ensures.converts began.head began.past began.led None began.number began.stands) failed)

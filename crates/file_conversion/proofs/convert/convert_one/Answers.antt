@@ -8,37 +8,37 @@ use Rattle.file_conversion.proofs.convert.convert_one.Goals as goal
 
 pub returns-in-Ok-clause-converts : goal.returns-in-Ok-clause-converts
 returns-in-Ok-clause-converts g c =
-    on_ended _ _ _ _ _ c.told_by.ensures.ends
+    on_ended _ _ _ _ _ c.decided_by.ensures.ends
     (λ (made : Made). converts_of c.args.plan.now _ _ _ _ c.args.from.now c.args.part.now (string_bytes made.name) _ c.in-Ok.ensures.same c.close-closed.ensures.same c.in-Ok.ensures.bytes)
     c.convert_source-left.ensures.puts
 
 pub returns-in-Ok-clause-counts : goal.returns-in-Ok-clause-counts
 returns-in-Ok-clause-counts g c =
-    on_ended _ _ _ _ _ c.told_by.ensures.ends (λ (made : Made). counts_file c.args.plan.now _ _ _ made.done c.in-Ok.ensures.bytes)
+    on_ended _ _ _ _ _ c.decided_by.ensures.ends (λ (made : Made). counts_file c.args.plan.now _ _ _ made.done c.in-Ok.ensures.bytes)
     c.convert_source-left.ensures.counts
 
 pub returns-in-Ok-clause-named : goal.returns-in-Ok-clause-named
 returns-in-Ok-clause-named g c =
     let gives : Made → Type 0 = λ made. g.A.Namer.gives c.args.names.now made.done (string_bytes made.name) in
-    on_ended _ _ _ gives gives c.told_by.ensures.ends (λ made given. given) c.convert_source-left.ensures.named
+    on_ended _ _ _ gives gives c.decided_by.ensures.ends (λ made given. given) c.convert_source-left.ensures.named
 
 pub returns-in-Ok-clause-stays : goal.returns-in-Ok-clause-stays
 returns-in-Ok-clause-stays g c =
-    on_failed _ _ _ _ _ c.told_by.ensures.ends (stays_of _ _ _ _ _ c.in-Ok.ensures.same c.close-closed.ensures.same)
+    on_failed _ _ _ _ _ c.decided_by.ensures.ends (stays_of _ _ _ _ _ c.in-Ok.ensures.same c.close-closed.ensures.same)
     c.convert_source-left.ensures.stays
 
 pub returns-in-Ok-clause-form : goal.returns-in-Ok-clause-form
 returns-in-Ok-clause-form g c =
-    rw c.told_by.ensures.kind
-    (tells_file c.args.plan.now _ _ _ _ _ _ c.in-Ok.ensures.bytes c.told_by.ensures.ends c.convert_source-left.ensures.form)
+    rw c.decided_by.ensures.kind
+    (tells_file c.args.plan.now _ _ _ _ _ _ c.in-Ok.ensures.bytes c.decided_by.ensures.ends c.convert_source-left.ensures.form)
 
 pub returns-in-Ok-clause-complete : goal.returns-in-Ok-clause-complete
 returns-in-Ok-clause-complete g c =
-    rw c.told_by.ensures.report
+    rw c.decided_by.ensures.report
     (closed c.args.plan.now _ _ _
     (Rose (g.U.Sink.faults c.args.observers.report) (g.U.Sink.faults c.convert_source-left.result.outcome.report) → ⊥)
     (Rose (g.A.Namer.faults c.args.names.now) (g.A.Namer.faults c.convert_source-left.new.names) → ⊥)
-    _ _ _ _ _ _ _ _ c.in-Ok.ensures.bytes c.told_by.ensures.ends c.in-Ok.ensures.fresh c.in-Ok.ensures.cause.stays
+    _ _ _ _ _ _ _ _ c.in-Ok.ensures.bytes c.decided_by.ensures.ends c.in-Ok.ensures.fresh c.in-Ok.ensures.cause.stays
     c.convert_source-left.ensures.later c.close-closed.ensures.cause.later c.close-closed.ensures.told c.convert_source-left.ensures.complete)
 
 pub returns-in-Ok-clause-missing : goal.returns-in-Ok-clause-missing
@@ -46,7 +46,7 @@ returns-in-Ok-clause-missing g c = not_missing _ _ _ _ c.in-Ok.ensures.bytes
 
 pub returns-in-Ok-clause-none : goal.returns-in-Ok-clause-none
 returns-in-Ok-clause-none g c =
-    closed_none c.args.plan.now _ _ _ _ _ _ _ _ _ _ _ _ c.in-Ok.ensures.bytes c.told_by.ensures.told c.in-Ok.ensures.fresh c.in-Ok.ensures.cause.stays
+    closed_none c.args.plan.now _ _ _ _ _ _ _ _ _ _ _ _ c.in-Ok.ensures.bytes c.decided_by.ensures.told c.in-Ok.ensures.fresh c.in-Ok.ensures.cause.stays
     c.convert_source-left.ensures.later c.close-closed.ensures.told c.convert_source-left.ensures.none
 
 pub returns-in-Err-clause-converts : goal.returns-in-Err-clause-converts
@@ -77,21 +77,21 @@ returns-in-Err-clause-none g c = not_opened_none _ _ _ _ _ c.in-Err.ensures.caus
 
 pub returns-in-Ok-clause-accepted : goal.returns-in-Ok-clause-accepted
 returns-in-Ok-clause-accepted g c =
-    accepted_file c.args.plan.now _ _ _ _ _ c.in-Ok.ensures.bytes c.told_by.ensures.ends c.convert_source-left.ensures.accepted
+    accepted_file c.args.plan.now _ _ _ _ _ c.in-Ok.ensures.bytes c.decided_by.ensures.ends c.convert_source-left.ensures.accepted
 
 pub returns-in-Ok-clause-cause : goal.returns-in-Ok-clause-cause
 returns-in-Ok-clause-cause g c =
-    rw c.told_by.ensures.report
-    (comes_file c.args.plan.now _ _ _ _ _ _ _ _ _ _ _ _ _ _ _ _ c.in-Ok.ensures.bytes c.told_by.ensures.told c.in-Ok.ensures.fresh
+    rw c.decided_by.ensures.report
+    (comes_file c.args.plan.now _ _ _ _ _ _ _ _ _ _ _ _ _ _ _ _ c.in-Ok.ensures.bytes c.decided_by.ensures.told c.in-Ok.ensures.fresh
     c.in-Ok.ensures.cause.stays c.convert_source-left.ensures.later c.close-closed.ensures.cause.later c.close-closed.ensures.told
     c.convert_source-left.ensures.cause)
 
 pub returns-in-Ok-clause-unreported : goal.returns-in-Ok-clause-unreported
 returns-in-Ok-clause-unreported g c =
-    rw c.told_by.ensures.report (λ rise. stops_told _ _ _ _ c.told_by.ensures.told (c.convert_source-left.ensures.unreported rise))
+    rw c.decided_by.ensures.report (λ rise. stops_told _ _ _ _ c.decided_by.ensures.told (c.convert_source-left.ensures.unreported rise))
 
 pub returns-in-Ok-clause-unnamed : goal.returns-in-Ok-clause-unnamed
-returns-in-Ok-clause-unnamed g c = λ rise. unnamed_told _ _ _ c.told_by.ensures.told (c.convert_source-left.ensures.unnamed rise)
+returns-in-Ok-clause-unnamed g c = λ rise. unnamed_told _ _ _ c.decided_by.ensures.told (c.convert_source-left.ensures.unnamed rise)
 
 pub returns-in-Ok-clause-rejected : goal.returns-in-Ok-clause-rejected
 returns-in-Ok-clause-rejected g c =

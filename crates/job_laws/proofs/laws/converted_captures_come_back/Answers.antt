@@ -4,8 +4,8 @@ use Rattle.job_laws.proofs.laws.converted_captures_come_back.Goals as goal
 pub returns : goal.returns
 returns c =
     let laws : Laws = record {
-      heard = c.periods_heard.ensures.some;
-      whole = λ r window lines ps week are. c.periods_heard.ensures.items r window lines ps week are;
+      heard = c.periods_received.ensures.some;
+      whole = λ r window lines ps week are. c.periods_received.ensures.items r window lines ps week are;
       head = c.each_first_line_is_one_head.ensures;
       messages = record {
         gives = c.item_function.ensures.answer;

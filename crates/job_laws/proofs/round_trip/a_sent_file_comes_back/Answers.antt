@@ -7,12 +7,12 @@ returns c =
       one = c.words_give_one_job.ensures;
       whole = c.listed_items_are_whole.ensures.list;
       whole3 = c.listed_items_are_whole.ensures.list3;
-      head = c.what_is_sent_is_heard.ensures.head;
-      window = c.what_is_sent_is_heard.ensures.window;
+      head = c.what_is_sent_is_received.ensures.head;
+      window = c.what_is_sent_is_received.ensures.window;
       lost = c.what_is_sent_comes_back.ensures.lost;
       reordered = c.what_is_sent_comes_back.ensures.reordered;
       repeated = c.what_is_sent_comes_back.ensures.repeated;
-      repeats = c.what_is_sent_is_heard.ensures.repeats;
+      repeats = c.what_is_sent_is_received.ensures.repeats;
       in_order = c.what_is_sent_comes_back.ensures.in_order;
     } in
     record {

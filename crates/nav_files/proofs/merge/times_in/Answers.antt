@@ -1,6 +1,6 @@
 use Rattle.std.proofs.Common.{◌++◌, ap, sym, ◌∙◌}
-use Rattle.outlets.specs.Times.{times_with}
-use Rattle.outlets.proofs.Surface.{times_behind}
+use Rattle.streams.specs.Times.{times_with}
+use Rattle.streams.proofs.Surface.{times_behind}
 use Rattle.nav_files.proofs.merge.times_in.Goals as goal
 
 pub items-preserved : goal.items-preserved

@@ -1,5 +1,5 @@
 use Rattle.std.proofs.Common.{◌≡◌, length}
-use Rattle.outlets.specs.Times.{times_of, times_with}
+use Rattle.streams.specs.Times.{times_of, times_with}
 use Rattle.nav_files.proofs.merge.times_in.Given as goal
 
 abbrev pub invariant-items : goal.invariant-items

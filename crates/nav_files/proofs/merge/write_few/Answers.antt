@@ -1,6 +1,6 @@
 use Rattle.std.proofs.Common.{◌∙◌}
 use Rattle.std.proofs.lemmas.Result.{err_from_is_err_and}
-use Rattle.outlets.specs.ItemTexts.{rinex_item}
+use Rattle.streams.specs.ItemTexts.{rinex_item}
 use Rattle.nav_files.proofs.KeptLemmas.{cause_behind, next_of, wrote_prefix, wrote_more}
 use Rattle.nav_files.proofs.merge.write_few.Goals as goal
 

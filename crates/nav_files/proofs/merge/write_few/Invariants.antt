@@ -1,5 +1,5 @@
 use Rattle.std.proofs.Common.{◌≡◌, drop}
-use Rattle.outlets.specs.ItemTexts.{rinex_item}
+use Rattle.streams.specs.ItemTexts.{rinex_item}
 use Rattle.nav_files.specs.Kept.{WroteSome}
 use Rattle.nav_files.proofs.merge.write_few.Given as goal
 

@@ -1,6 +1,6 @@
 use Rattle.std.proofs.Common.{◌++◌, sym, ◌∙◌}
 use Rattle.std.proofs.lemmas.Result.{err_from_is_err_and}
-use Rattle.outlets.specs.ItemTexts.{rinex_item}
+use Rattle.streams.specs.ItemTexts.{rinex_item}
 use Rattle.nav_files.proofs.KeptLemmas.{cause_behind, wrote_few, wrote_few_prefix}
 use Rattle.nav_files.proofs.merge.write_items.Goals as goal
 

@@ -4,8 +4,8 @@ use Rattle.nav_eph.specs.declared.items.NavItem.{NavItem}
 use Rattle.periods.proofs.Surface.{In-from_contains}
 use Rattle.periods.specs.PeriodLists.{items_in}
 use Rattle.periods.specs.PeriodsOf.{periods_of}
-use Rattle.page_send.specs.Sendable.{sendable}
-use Rattle.page_send.specs.SentItems.{sent_items}
+use Rattle.sent_captures.specs.Sendable.{sendable}
+use Rattle.sent_captures.specs.SentItems.{sent_items}
 use Rattle.nav_laws.specs.SlotParts.{slots_parts}
 use Rattle.nav_laws.proofs.Circle.{slots_come_back}
 use Rattle.nav_laws.proofs.Sendable.{are_sent, in_slots, values_in}

@@ -10,15 +10,15 @@ use Rattle.capture_lines.specs.declared.item.LineItem.{LineItem}
 use Rattle.periods.proofs.Surface.{In-from_contains, contains_from_In}
 use Rattle.periods.specs.PeriodLists.{items_in}
 use Rattle.periods.specs.PeriodsOf.{periods_of}
-use Rattle.capture_log.specs.Heard.{IsPartHeard, NoneLate, SameItems}
+use Rattle.capture_log.specs.Received.{IsPartReceived, NoneLate, SameItems}
 use Rattle.capture_log.specs.Log.{line_items_of, parts_of}
-use Rattle.page_send.specs.Sendable.{sendable, sent_lines, slots_items}
-use Rattle.page_send.specs.SentItems.{sent_items}
-use Rattle.nav_laws.specs.SentAgain.{AreRepeats, AreSentAgain, AreTurned, IsHeardAgain, IsSentAgain, SameByType}
-use Rattle.nav_laws.specs.SentCapture.{IsOfLines, IsStillHeard, sent_capture}
+use Rattle.sent_captures.specs.Sendable.{sendable, sent_lines, slots_items}
+use Rattle.sent_captures.specs.SentItems.{sent_items}
+use Rattle.nav_laws.specs.SentAgain.{AreRepeats, AreSentAgain, AreTurned, IsReceivedAgain, IsSentAgain, SameByType}
+use Rattle.nav_laws.specs.SentCapture.{IsOfLines, IsStillReceived, sent_capture}
 use Rattle.nav_laws.specs.SlotParts.{slots_parts}
 use Rattle.nav_laws.proofs.Fewer.{heard_to}
-use Rattle.nav_laws.proofs.Heard.{accepted, accepted_in}
+use Rattle.nav_laws.proofs.Received.{accepted, accepted_in}
 use Rattle.nav_laws.proofs.SentSlots.{slots_order}
 use Rattle.nav_laws.proofs.Sendable.{are_sent, in_slots}
 use Rattle.nav_laws.proofs.Circle.{again_comes_back, in_order_comes_back}
@@ -29,7 +29,7 @@ record Laws : Type 0 where
   order : (r window : ℕ) (some other : List Part) → All IsPartValue some → ((p : Part) → Contains some p ↔ Contains other p)
       → periods_of r window some ≡ periods_of r window other
   values : (window : ℕ) (lines : List Line) → All IsPartValue (parts_of window lines)
-  heard : (window : ℕ) (lines : List Line) (part : Part) → Contains (parts_of window lines) part ↔ IsPartHeard window (line_items_of lines) part
+  heard : (window : ℕ) (lines : List Line) (part : Part) → Contains (parts_of window lines) part ↔ IsPartReceived window (line_items_of lines) part
   back : (r : ℕ) (items : List NavItem) → All IsItem items → items_in (periods_of r 7200 (slots_parts 0 (sendable r 0 items))) ≡ sent_items r items
   items : (r : ℕ) (items : List NavItem) → All IsItem items → line_items_of (sent_capture r items) ≡ sent_lines r items
   parts : (r : ℕ) (items : List NavItem) (part : Part) → All IsItem items
@@ -66,7 +66,7 @@ no_more laws r items lines part all of i =
     ((laws.heard 7200 lines part).0 i))
 
 by_loss : (laws : Laws) (r : ℕ) (items : List NavItem) (lines : List Line) → All IsItem items
-    → IsOfLines lines (sent_capture r items) → IsStillHeard (sent_capture r items) lines
+    → IsOfLines lines (sent_capture r items) → IsStillReceived (sent_capture r items) lines
     → items_in (periods_of r 7200 (parts_of 7200 lines)) ≡ sent_items r items
 by_loss laws r items lines all of still =
     by_parts laws r items lines all (λ part. (λ i. no_more laws r items lines part all of i, λ i. still part i))
@@ -110,7 +110,7 @@ by_order laws r items lines all again never =
     in_order_comes_back r xs (parts_of 7200 lines) (part_value laws lines) (are_sent r 0 xs (in_slots r 0 items all)) (of_slots laws r items lines all again) never
 
 by_repeats : (laws : Laws) (r : ℕ) (items : List NavItem) (lines : List Line) → All IsItem items → AreRepeats lines (sent_capture r items)
-    → IsHeardAgain (sent_capture r items) lines → SameByType (items_in (periods_of r 7200 (parts_of 7200 lines))) (sent_items r items)
+    → IsReceivedAgain (sent_capture r items) lines → SameByType (items_in (periods_of r 7200 (parts_of 7200 lines))) (sent_items r items)
 by_repeats laws r items lines all repeats heard =
     by_again laws r items lines all (record { each = λ p i. laws.repeats r items lines p all repeats i; every = heard })
 
@@ -119,11 +119,11 @@ returns c =
     let laws : Laws = record {
       order = c.order_does_not_matter.ensures;
       values = c.parts_of_lines_are_values.ensures;
-      heard = c.lines_yield_what_is_heard.ensures.parts;
+      heard = c.lines_yield_what_is_received.ensures.parts;
       back = c.parts_of_slots_come_back.ensures;
-      items = c.what_is_sent_is_heard.ensures.items;
-      parts = c.what_is_sent_is_heard.ensures.parts;
-      repeats = c.what_is_sent_is_heard.ensures.repeats;
+      items = c.what_is_sent_is_received.ensures.items;
+      parts = c.what_is_sent_is_received.ensures.parts;
+      repeats = c.what_is_sent_is_received.ensures.repeats;
     } in
     record {
       itself = λ r items all. by_parts laws r items (sent_capture r items) all (λ part. (λ i. i, λ i. i));

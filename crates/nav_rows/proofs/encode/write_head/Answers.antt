@@ -1,5 +1,5 @@
 use Rattle.std.proofs.Common.{◌≡◌, true, length, sym, subst}
-use Rattle.nav_links.specs.Links.{are_links}
+use Rattle.nav_tables.specs.Links.{are_links}
 use Rattle.nav_rows.specs.Kinds.{head_links}
 use Rattle.nav_rows.specs.Encoding.{HasClock}
 use Rattle.nav_rows.proofs.EncodeLemmas.{row_is}

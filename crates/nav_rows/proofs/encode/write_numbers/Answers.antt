@@ -1,6 +1,6 @@
 use Rattle.std.proofs.Common.{◌≡◌, ◌++◌, true, length, sym, ap, subst, ◌∙◌, arith}
 use Rattle.nav_tables.proofs.Surface.{starts_length}
-use Rattle.nav_links.specs.Links.{AreSmall, are_links}
+use Rattle.nav_tables.specs.Links.{AreSmall, are_links}
 use Rattle.nav_rows.specs.Encoding.{HasClock, known}
 use Rattle.nav_rows.proofs.EncodeLemmas.{known_length, known_small, row_is}
 use Rattle.nav_rows.proofs.RowLemmas.{front}

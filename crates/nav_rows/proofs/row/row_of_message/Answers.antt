@@ -1,5 +1,5 @@
 use Rattle.std.proofs.Common.{length, sym, ap, subst, ◌∙◌, ◌≡◌, true, false}
-use Rattle.nav_links.specs.Links.{AreFit, are_links, columns_of}
+use Rattle.nav_tables.specs.Links.{AreFit, are_links, columns_of}
 use Rattle.rinex_write.specs.Columns.{AreFields}
 use Rattle.nav_rows.specs.Times.{HasTimes, IsSatellite}
 use Rattle.nav_rows.specs.Rows.{SisaInside, has_spare_sisa}
@@ -12,8 +12,8 @@ has_spare_sisa-requires c =
     subst (SisaInside k.sisa) (sym c.as_slice.ensures.value)
     (good k c.in-Ok.numbers.items c.requires c.in-Ok.ensures.range).sisa
 
-pub times_told-requires : goal.times_told-requires
-times_told-requires c =
+pub times_stated-requires : goal.times_stated-requires
+times_stated-requires c =
     let k = c.args.kind.now in
     subst (HasTimes k.clock) (sym c.as_slice-2.ensures.value)
     (good k c.in-Ok.numbers.items c.requires c.in-Ok.ensures.range).times

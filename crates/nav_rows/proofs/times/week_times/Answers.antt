@@ -1,7 +1,7 @@
 use Rattle.std.proofs.Common.{◌≡◌, ℕ, ◌+◌, ◌*◌, ◌-◌, ap, ap₂, ◌∙◌}
-use Rattle.gnss_week.specs.Functions.{moment_near}
-use Rattle.gnss_week.proofs.Surface.{moment_near-only}
-use Rattle.nav_days.specs.Weeks.{week_to}
+use Rattle.nav_eph.specs.Functions.{moment_near}
+use Rattle.nav_eph.proofs.Surface.{moment_near-only}
+use Rattle.nav_tables.specs.Weeks.{week_to}
 use Rattle.nav_rows.specs.declared.times.RowTimes.{RowTimes}
 use Rattle.nav_rows.specs.Times.{number}
 use Rattle.nav_rows.proofs.times.week_times.Goals as goal

@@ -6,7 +6,7 @@ use Rattle.nav_tables.specs.Fields.{bits_of, is_field}
 use Rattle.nav_tables.specs.Messages.{are_fields}
 use Rattle.nav_tables.proofs.FieldLemmas.{both}
 use Rattle.nav_tables.proofs.LoopLemmas.{AreTold, no_field, range_length, told_all, told_at}
-use Rattle.nav_tables.proofs.LoopLemmas.{told_more}
+use Rattle.nav_tables.proofs.LoopLemmas.{reported_more}
 use Rattle.nav_tables.proofs.message.bits_of_all.Goals as goal
 
 pub loop-i-init : goal.loop-i-init
@@ -56,7 +56,7 @@ loop-i-preserved c =
     (c.bits_of.ensures.same ∙ ap (bits_of f) same) in
     record {
       told = subst (λ all. AreTold fs (drop (i + 1) fs) zs (drop (i + 1) zs) all) (sym items)
-          (told_more fs (drop (i + 1) fs) zs (drop (i + 1) zs) f z c.loop-i.all.items t);
+          (reported_more fs (drop (i + 1) fs) zs (drop (i + 1) zs) f z c.loop-i.all.items t);
       count = omega (arith, c.push.ensures.len, c.loop-i.invariant.count);
     }
 

@@ -1,11 +1,11 @@
 -- What lies at the pointer is lent to `feed` with the piece, and comes back with what was taken of it.
 use Rattle.navbridge_c.proofs.Steps.{◌≡◌, ℕ, [], ◌∷◌, ◌++◌, take, refl, w64, proved, full_share, id⊢, Lft, GName, ftrue, flft, fres, flent, named, vptr, WpFn, fact, tables, ‵, raw, ◌⊛◌, some, later, prop, ◌$◌, ◌∵◌, !, qed, done, move, keep, drop, use1, use2, use3, split, join, fsplit, pick, await, rewrite, regoal, suffices, frame, group, enter, of_opd, addr, stop, no_more, and_then, returns, alloc_all, pass_all, free_all, look_at, get, through, sets, lands_as, Body, lft_new, lft_end, u8, usize, yes, Is, shows, lends_ref, ref_back, mem, part_at, uint_Lawful, Ptr, RawPtr, block_ptr, lies_at, in_a_block, rawptr_vals, rawptr_Tells, MutRef, plain, shr_slice_of, ShrSlice, shr_slice_vals, shr_slice_Tells, nothing, heard, peeks, calls_at, lasts, triple_of, Stays, walk_of, says, stay_dropped, Goes-dropped, ends_at, framed, DeframerState, R}
-use Rattle.c_states.specs.Deframers.{Feeds, fed}
+use Rattle.c_calls.specs.Deframers.{Feeds, fed}
 use Rattle.navbridge_c.specs.contracts.deframer.nb_deframer_feed as f
 use Rattle.navbridge_c.proofs.deframer.nb_deframer_feed.Statement.{statement}
 use Rattle.navbridge_c.proofs.deframer.nb_deframer_feed.Code as code
-use Rattle.c_states.specs.contracts.deframer.feed as g
-use Rattle.c_states.proofs.deframer.feed.Met.{met}
+use Rattle.c_calls.specs.contracts.deframer.feed as g
+use Rattle.c_calls.proofs.deframer.feed.Met.{met}
 
 abbrev stayed : Stays f.ended.signature.params f.ended.kept
 stayed = (stay_dropped _ yes, (stay_dropped _ yes, tt))
@@ -35,7 +35,7 @@ nb_deframer_feed_spec 𝓤 𝓛 𝓜 𝓡 wired =
     let z : G.Ghost = (((κ, (κs.0, tt)), (full_share, (qs.0, tt)), tt, (record { ref_ptr = (b, o); ghost_name = γ; now = n }, (piece, tt)), (vptr b o ∷ [], (shr_slice_vals piece, tt))), tt) in
     nothing ! $ move ! (4 ∷ 0 ∷ []) $ join ! $ move ! (1 ∷ 0 ∷ []) $ join ! $ nothing ! $ move ! (4 ∷ 0 ∷ []) $ join ! $ move ! (3 ∷ 0 ∷ []) $ join ! $ join ! $
     nothing ! $ move ! (1 ∷ 0 ∷ []) $ use2 𝓛 (raw (G.pre z)) (id⊢ 𝓤 _) $
-    calls_at ! (framed 𝓤 𝓛.H 𝓜 (tables 𝓤 𝓛.H 𝓜 𝓡 𝓡.env)) G (met 𝓤 𝓛 𝓜 𝓡 (code.calls-c_states::deframer::feed 𝓡.env wired)) z
+    calls_at ! (framed 𝓤 𝓛.H 𝓜 (tables 𝓤 𝓛.H 𝓜 𝓡 𝓡.env)) G (met 𝓤 𝓛 𝓜 𝓡 (code.calls-c_calls::deframer::feed 𝓡.env wired)) z
     (and_then ! (get ! refl) (and_then ! (get ! refl) (no_more !))) (λ v.
     use1 𝓛 (later (some (λ (r : ℕ). ((‵ (flft κ full_share) ⊛ ‵ (flft κs.0 qs.0) ⊛ ‵ ftrue) ⊛ ‵ (usize.own_val r (v ∷ []))) ⊛
     some (λ (ws : DeframerState × (Unit {0} × Unit {0})). ‵ (lasts g.ended z.0.0 z.0.3 ws) ⊛ (raw (fact 𝓤 (ws.0 ≡ fed n (take r piece.now))) ⊛ raw (fact 𝓤 (Feeds n piece.now r))))))) (id⊢ 𝓤 _) $

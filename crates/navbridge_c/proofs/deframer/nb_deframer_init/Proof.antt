@@ -1,11 +1,11 @@
 -- A deframer is made, and moved into the room.
 use Rattle.navbridge_c.proofs.Steps.{◌≡◌, [], ◌∷◌, refl, proved, id⊢, full_share, ftrue, vunit, WpFn, fact, tables, ‵, raw, ◌⊛◌, some, later, prop, ◌$◌, ◌∵◌, !, qed, done, move, drop, use1, use2, split, join, feq_i, pick, await, rewrite, regoal, suffices, group, enter, of_opd, unit_lit, stop, no_more, assigns, init, returns, alloc_all, pass_all, free_all, look_at, get, through, sets, lands_as, part_in, yes, Is, shows, part_at, Ptr, RawPtr, block_ptr, room_at, in_a_block, rawptr_vals, rawptr_Tells, plain, nothing, heard, peeks, calls_at, lasts, on_entry, triple_of, Stays, walk_of, stay_dropped, Goes-dropped, ends_at, framed, DeframerState, R, the_row_laws}
-use Rattle.c_states.specs.Deframers.{fresh}
+use Rattle.c_calls.specs.Deframers.{fresh}
 use Rattle.navbridge_c.specs.contracts.deframer.nb_deframer_init as f
 use Rattle.navbridge_c.proofs.deframer.nb_deframer_init.Statement.{statement}
 use Rattle.navbridge_c.proofs.deframer.nb_deframer_init.Code as code
-use Rattle.c_states.specs.contracts.deframer.new as g
-use Rattle.c_states.proofs.deframer.new.Met.{met}
+use Rattle.c_calls.specs.contracts.deframer.new as g
+use Rattle.c_calls.proofs.deframer.new.Met.{met}
 
 abbrev stayed : Stays f.ended.signature.params f.ended.kept
 stayed = (stay_dropped _ yes, tt)
@@ -26,7 +26,7 @@ nb_deframer_init_spec 𝓤 𝓛 𝓜 𝓡 wired =
     let G = triple_of 𝓛 g.signature (g.spec 𝓛 𝓜.mem 𝓡.returns) in
     let z : G.Ghost = ((tt, tt, tt, tt, tt), tt) in
     nothing ! $ nothing ! $ join ! $ nothing ! $ move ! (1 ∷ 0 ∷ []) $ use2 𝓛 (raw (G.pre z)) (id⊢ 𝓤 _) $
-    calls_at ! (framed 𝓤 𝓛.H 𝓜 (tables 𝓤 𝓛.H 𝓜 𝓡 𝓡.env)) G (met 𝓤 𝓛 𝓜 𝓡 (code.calls-c_states::deframer::new 𝓡.env wired)) z (no_more !) (λ v.
+    calls_at ! (framed 𝓤 𝓛.H 𝓜 (tables 𝓤 𝓛.H 𝓜 𝓡 𝓡.env)) G (met 𝓤 𝓛 𝓜 𝓡 (code.calls-c_calls::deframer::new 𝓡.env wired)) z (no_more !) (λ v.
     use1 𝓛 (later (some (λ (r : DeframerState). (‵ ftrue ⊛ ‵ (R.own_val r (v ∷ []))) ⊛
     some (λ (ws : Unit {0}). ‵ (lasts g.ended z.0.0 z.0.3 ws) ⊛ raw (fact 𝓤 (r ≡ fresh)))))) (id⊢ 𝓤 _) $
     await ! tt $ pick ! (λ r. split ! $ split ! $ drop ! $ move ! (1 ∷ []) $ pick ! (λ ws. split ! $ drop ! $ heard ! _ (λ is.

@@ -1,13 +1,13 @@
 -- What lies at the pointer is lent to `next`, which is handed the page, and comes back as it is left.
 use Rattle.navbridge_c.proofs.Steps.{ℕ, [], ◌∷◌, ◌++◌, refl, w32, proved, full_share, id⊢, Lft, GName, ftrue, fsep, fex, flft, flent, named, vptr, WpFn, fact, tables, ‵, raw, ◌⊛◌, some, later, prop, ◌$◌, ◌∵◌, !, qed, done, move, keep, drop, use1, use2, use3, split, join, fsplit, fjoin, fpack, pick, await, regoal, suffices, group, enter, of_opd, addr, stop, no_more, and_then, returns, alloc_all, pass_all, free_all, look_at, get, through, sets, lands_as, Body, lft_new, lft_end, u32, yes, Is, shows, lends_ref, ref_back, mem, part_at, uint_Lawful, Ptr, RawPtr, block_ptr, lies_at, in_a_block, rawptr_vals, rawptr_Tells, MutRef, mut_vals, mut_Tells, plain, nothing, heard, peeks, calls_at, lasts, triple_of, Stays, walk_of, stay_dropped, Goes-dropped, gave_ref, Goes-gave_ref, ends_at, framed, PagesState, Q}
-use Rattle.c_states.specs.PagePairs.{GivesPage}
+use Rattle.c_calls.specs.PagePairs.{GivesPage}
 use Rattle.navbridge_c.specs.contracts.pages.nb_pages_next as f
 use Rattle.navbridge_c.proofs.pages.nb_pages_next.Statement.{statement}
 use Rattle.navbridge_c.proofs.pages.nb_pages_next.Code as code
-use Rattle.c_states.specs.contracts.pages.next as g
-use Rattle.c_states.proofs.pages.next.Met.{met}
-use Rattle.c_states.specs.declared.pages.JoinedPage.{JoinedPage}
-use Rattle.c_states.specs.contracts.pages.JoinedPage.{the_row as J}
+use Rattle.c_calls.specs.contracts.state_pages.next as g
+use Rattle.c_calls.proofs.state_pages.next.Met.{met}
+use Rattle.c_calls.specs.declared.state_pages.JoinedPage.{JoinedPage}
+use Rattle.c_calls.specs.contracts.state_pages.JoinedPage.{the_row as J}
 
 abbrev stayed : Stays f.ended.signature.params f.ended.kept
 stayed = (stay_dropped _ yes, (gave_ref (0 ∷ []) tt (plain (λ _. J)), tt))
@@ -38,7 +38,7 @@ nb_pages_next_spec 𝓤 𝓛 𝓜 𝓡 wired =
     let z : G.Ghost = (((κ, (κs.0, tt)), (full_share, (qs.0, tt)), tt, (record { ref_ptr = (b, o); ghost_name = γ; now = n }, (page, tt)), (vptr b o ∷ [], (mut_vals page, tt))), tt) in
     nothing ! $ move ! (4 ∷ 0 ∷ []) $ join ! $ move ! (1 ∷ 0 ∷ []) $ join ! $ nothing ! $ move ! (4 ∷ 0 ∷ []) $ join ! $ move ! (3 ∷ 0 ∷ []) $ join ! $ join ! $
     nothing ! $ move ! (1 ∷ 0 ∷ []) $ use2 𝓛 (raw (G.pre z)) (id⊢ 𝓤 _) $
-    calls_at ! (framed 𝓤 𝓛.H 𝓜 (tables 𝓤 𝓛.H 𝓜 𝓡 𝓡.env)) G (met 𝓤 𝓛 𝓜 𝓡 (code.calls-c_states::pages::next 𝓡.env wired)) z
+    calls_at ! (framed 𝓤 𝓛.H 𝓜 (tables 𝓤 𝓛.H 𝓜 𝓡 𝓡.env)) G (met 𝓤 𝓛 𝓜 𝓡 (code.calls-c_calls::state_pages::next 𝓡.env wired)) z
     (and_then ! (get ! refl) (and_then ! (get ! refl) (no_more !))) (λ v.
     use1 𝓛 (later (some (λ (r : ℕ). ((‵ (flft κ full_share) ⊛ ‵ (flft κs.0 qs.0) ⊛ ‵ ftrue) ⊛ ‵ (u32.own_val r (v ∷ []))) ⊛
     some (λ (ws : PagesState × (JoinedPage × Unit {0})). ‵ (lasts g.ended z.0.0 z.0.3 ws) ⊛ raw (fact 𝓤 (GivesPage n ws.0 page.now ws.1.0 n.words r)))))) (id⊢ 𝓤 _) $

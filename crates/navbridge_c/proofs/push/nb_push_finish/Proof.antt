@@ -1,11 +1,11 @@
 -- What lies at the pointer is lent to `finish`, and comes back as it is left.
 use Rattle.navbridge_c.proofs.Steps.{[], ◌∷◌, refl, proved, full_share, id⊢, Lft, GName, ftrue, flft, flent, named, vptr, WpFn, fact, tables, ‵, raw, ◌⊛◌, some, later, prop, ◌$◌, ◌∵◌, !, qed, done, move, keep, drop, use1, use2, use3, split, join, fsplit, pick, await, regoal, suffices, group, enter, of_opd, addr, stop, no_more, and_then, returns, alloc_all, pass_all, free_all, look_at, get, through, sets, lands_as, Body, lft_new, lft_end, yes, lends_ref, ref_back, mem, part_at, Ptr, RawPtr, block_ptr, lies_at, in_a_block, rawptr_vals, rawptr_Tells, MutRef, plain, nothing, heard, calls_at, lasts, on_entry, triple_of, Stays, walk_of, stay_dropped, Goes-dropped, ends_at, framed, PushState, P, ℕ, fpack, fjoin, fsep, fex, u32, w32, peeks, Is, shows, uint_Lawful}
-use Rattle.c_states.specs.Pushes.{Finishes}
+use Rattle.c_calls.specs.Pushes.{Finishes}
 use Rattle.navbridge_c.specs.contracts.push.nb_push_finish as f
 use Rattle.navbridge_c.proofs.push.nb_push_finish.Statement.{statement}
 use Rattle.navbridge_c.proofs.push.nb_push_finish.Code as code
-use Rattle.c_states.specs.contracts.push.finish as g
-use Rattle.c_states.proofs.push.finish.Met.{met}
+use Rattle.c_calls.specs.contracts.push.finish as g
+use Rattle.c_calls.proofs.push.finish.Met.{met}
 
 abbrev stayed : Stays f.ended.signature.params f.ended.kept
 stayed = (stay_dropped _ yes, tt)
@@ -32,7 +32,7 @@ nb_push_finish_spec 𝓤 𝓛 𝓜 𝓡 wired =
     let z : G.Ghost = (((κ, tt), (full_share, tt), tt, (record { ref_ptr = (b, o); ghost_name = γ; now = n }, tt), (vptr b o ∷ [], tt)), tt) in
     nothing ! $ move ! (1 ∷ 0 ∷ []) $ join ! $ nothing ! $ move ! (3 ∷ 0 ∷ []) $ join ! $ join ! $
     nothing ! $ move ! (1 ∷ 0 ∷ []) $ use2 𝓛 (raw (G.pre z)) (id⊢ 𝓤 _) $
-    calls_at ! (framed 𝓤 𝓛.H 𝓜 (tables 𝓤 𝓛.H 𝓜 𝓡 𝓡.env)) G (met 𝓤 𝓛 𝓜 𝓡 (code.calls-c_states::push::finish 𝓡.env wired)) z
+    calls_at ! (framed 𝓤 𝓛.H 𝓜 (tables 𝓤 𝓛.H 𝓜 𝓡 𝓡.env)) G (met 𝓤 𝓛 𝓜 𝓡 (code.calls-c_calls::push::finish 𝓡.env wired)) z
     (and_then ! (get ! refl) (no_more !)) (λ v.
     use1 𝓛 (later (some (λ (r : ℕ). ((‵ (flft κ full_share) ⊛ ‵ ftrue) ⊛ ‵ (u32.own_val r (v ∷ []))) ⊛
     some (λ (ws : PushState × Unit {0}). ‵ (lasts g.ended z.0.0 z.0.3 ws) ⊛ raw (fact 𝓤 (Finishes n ws.0 r)))))) (id⊢ 𝓤 _) $

@@ -1,13 +1,13 @@
 -- A conversion is made, moved into the room, and lent to `open` with the words.
 use Rattle.navbridge_c.proofs.Steps.{◌≡◌, ℕ, [], ◌∷◌, ◌++◌, map, refl, w32, proved, full_share, id⊢, Lft, GName, ftrue, flft, flent, named, vptr, WpFn, fact, tables, ‵, raw, ◌⊛◌, some, later, prop, ◌$◌, ◌∵◌, !, qed, done, move, keep, drop, use1, use2, use3, split, join, fsplit, fjoin, fpack, pick, await, regoal, suffices, group, enter, of_opd, addr, stop, no_more, and_then, assigns, init, returns, alloc_all, pass_all, free_all, look_at, get, through, sets, lands_as, part_in, Body, lft_new, lft_end, u8, u32, yes, Is, shows, lends_ref, ref_back, mem, part_at, uint_Lawful, Ptr, RawPtr, block_ptr, room_at, in_a_block, rawptr_vals, rawptr_Tells, MutRef, plain, shr_slice_of, ShrSlice, shr_slice_vals, shr_slice_Tells, nothing, heard, peeks, calls_at, lasts, triple_of, Stays, walk_of, stay_dropped, Goes-dropped, ends_at, framed, heap_val, heap_Tells, Heap, heap_laws, PushState, P, push_laws, fsep, fex}
-use Rattle.c_states.specs.Pushes.{Opens, closed}
+use Rattle.c_calls.specs.Pushes.{Opens, closed}
 use Rattle.navbridge_c.specs.contracts.push.nb_push_open as f
 use Rattle.navbridge_c.proofs.push.nb_push_open.Statement.{statement}
 use Rattle.navbridge_c.proofs.push.nb_push_open.Code as code
-use Rattle.c_states.specs.contracts.push.new as made
-use Rattle.c_states.proofs.push.new.Met as new_met
-use Rattle.c_states.specs.contracts.push.open as g
-use Rattle.c_states.proofs.push.open.Met.{met}
+use Rattle.c_calls.specs.contracts.push.new as made
+use Rattle.c_calls.proofs.push.new.Met as new_met
+use Rattle.c_calls.specs.contracts.push.open as g
+use Rattle.c_calls.proofs.push.open.Met.{met}
 
 abbrev stayed : Stays f.ended.signature.params f.ended.kept
 stayed = (stay_dropped _ yes, (stay_dropped _ yes, (stay_dropped _ yes, tt)))
@@ -37,7 +37,7 @@ nb_push_open_spec 𝓤 𝓛 𝓜 𝓡 wired =
     let G1 = triple_of 𝓛 made.signature (made.spec 𝓛 𝓜.mem 𝓡.returns) in
     let z1 : G1.Ghost = ((tt, tt, tt, (alloc, tt), (heap_val ∷ [], tt)), tt) in
     nothing ! $ move ! (3 ∷ 0 ∷ []) $ join ! $ nothing ! $ join ! $ nothing ! $ move ! (1 ∷ 0 ∷ []) $ use2 𝓛 (raw (G1.pre z1)) (id⊢ 𝓤 _) $
-    calls_at ! (framed 𝓤 𝓛.H 𝓜 (tables 𝓤 𝓛.H 𝓜 𝓡 𝓡.env)) G1 (new_met.met 𝓤 𝓛 𝓜 𝓡 (code.calls-c_states::push::new 𝓡.env wired)) z1 (and_then ! (get ! refl) (no_more !)) (λ v.
+    calls_at ! (framed 𝓤 𝓛.H 𝓜 (tables 𝓤 𝓛.H 𝓜 𝓡 𝓡.env)) G1 (new_met.met 𝓤 𝓛 𝓜 𝓡 (code.calls-c_calls::push::new 𝓡.env wired)) z1 (and_then ! (get ! refl) (no_more !)) (λ v.
     use1 𝓛 (later (some (λ (r : PushState). (‵ ftrue ⊛ ‵ (P.own_val r (v ∷ []))) ⊛
     some (λ (ws : Unit {0} × Unit {0}). ‵ (lasts made.ended z1.0.0 z1.0.3 ws) ⊛ raw (fact 𝓤 (r ≡ closed)))))) (id⊢ 𝓤 _) $
     await ! tt $ pick ! (λ r. split ! $ split ! $ drop ! $ move ! (1 ∷ []) $ pick ! (λ ws. split ! $ drop ! $ heard ! _ (λ is.
@@ -55,7 +55,7 @@ nb_push_open_spec 𝓤 𝓛 𝓜 𝓡 wired =
     let z : G.Ghost = (((κ, κs), (full_share, qs), bounds, (record { ref_ptr = (b, o); ghost_name = γ; now = r }, (words, tt)), (vptr b o ∷ [], (shr_slice_vals words, tt))), tt) in
     nothing ! $ move ! (4 ∷ 0 ∷ []) $ join ! $ move ! (1 ∷ 0 ∷ []) $ join ! $ nothing ! $ move ! (5 ∷ 0 ∷ []) $ join ! $ move ! (4 ∷ 0 ∷ []) $ join ! $ move ! (3 ∷ 0 ∷ []) $ join ! $ join ! $
     nothing ! $ move ! (1 ∷ 0 ∷ []) $ use2 𝓛 (raw (G.pre z)) (id⊢ 𝓤 _) $
-    calls_at ! (framed 𝓤 𝓛.H 𝓜 (tables 𝓤 𝓛.H 𝓜 𝓡 𝓡.env)) G (met 𝓤 𝓛 𝓜 𝓡 (code.calls-c_states::push::open 𝓡.env wired)) z
+    calls_at ! (framed 𝓤 𝓛.H 𝓜 (tables 𝓤 𝓛.H 𝓜 𝓡 𝓡.env)) G (met 𝓤 𝓛 𝓜 𝓡 (code.calls-c_calls::push::open 𝓡.env wired)) z
     (and_then ! (get ! refl) (and_then ! (get ! refl) (no_more !))) (λ v'.
     use1 𝓛 (later (some (λ (answer : ℕ). ((‵ (flft κ full_share) ⊛ ‵ (flft κs.0 qs.0) ⊛ ‵ (flft κs.1.0 qs.1.0) ⊛ ‵ ftrue) ⊛ ‵ (u32.own_val answer (v' ∷ []))) ⊛
     some (λ (last : PushState × (Unit {0} × Unit {0})). ‵ (lasts g.ended z.0.0 z.0.3 last) ⊛ raw (fact 𝓤 (Opens (map (λ word. word.now) words.now) last.0 answer)))))) (id⊢ 𝓤 _) $

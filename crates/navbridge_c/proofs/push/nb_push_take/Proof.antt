@@ -1,12 +1,12 @@
 -- What lies at the pointer is lent to `take`, which is handed the room, and comes back as it is left.
 use Rattle.navbridge_c.proofs.Steps.{◌≡◌, ℕ, List, [], ◌∷◌, ◌++◌, refl, w64, proved, full_share, id⊢, Lft, GName, ftrue, flft, fres, flent, named, vptr, WpFn, fact, tables, ‵, raw, ◌⊛◌, some, later, prop, ◌$◌, ◌∵◌, !, qed, done, move, keep, drop, use1, use2, use3, split, join, fsplit, fjoin, feq_l, pick, await, rewrite, regoal, suffices, frame, group, enter, of_opd, addr, from, fld, hop, stop, no_more, and_then, returns, agg, whole, sub, alloc_all, pass_all, free_all, look_at, look_in_at, get, get_in, through, sets, lands_as, Body, lft_new, lft_end, u8, usize, yes, Is, shows, lends_ref, ref_back, mem, part_at, uint_Lawful, Ptr, RawPtr, block_ptr, lies_at, in_a_block, rawptr_vals, rawptr_Tells, MutRef, plain, MutSlice, mut_slice_vals, mut_slice_Tells, nothing, heard, peeks, calls_at, lasts, triple_of, Stays, walk_of, says, stay_dropped, Goes-dropped, gave_slice, Goes-gave_slice, ends_at, framed, PushState, P}
 use Rattle.std.specs.Prelude.{length}
-use Rattle.c_states.specs.Pushes.{RetainsFew, Takes, taken_more}
+use Rattle.c_calls.specs.Pushes.{RetainsFew, Takes, taken_more}
 use Rattle.navbridge_c.specs.contracts.push.nb_push_take as f
 use Rattle.navbridge_c.proofs.push.nb_push_take.Statement.{statement}
 use Rattle.navbridge_c.proofs.push.nb_push_take.Code as code
-use Rattle.c_states.specs.contracts.push.take as g
-use Rattle.c_states.proofs.push.take.Met.{met}
+use Rattle.c_calls.specs.contracts.push.take as g
+use Rattle.c_calls.proofs.push.take.Met.{met}
 
 abbrev stayed : Stays f.ended.signature.params f.ended.kept
 stayed = (stay_dropped _ yes, (gave_slice (0 ∷ []) tt (plain (λ _. u8)), tt))
@@ -39,7 +39,7 @@ nb_push_take_spec 𝓤 𝓛 𝓜 𝓡 wired =
     let z : G.Ghost = (((κ, (κs.0, tt)), (full_share, (qs.0, tt)), tt, (record { ref_ptr = (b, o); ghost_name = γ; now = n }, (room, tt)), (vptr b o ∷ [], (mut_slice_vals room, tt))), tt) in
     nothing ! $ move ! (4 ∷ 0 ∷ []) $ join ! $ move ! (1 ∷ 0 ∷ []) $ join ! $ nothing ! $ move ! (4 ∷ 0 ∷ []) $ join ! $ move ! (3 ∷ 0 ∷ []) $ join ! $ join ! $
     nothing ! $ move ! (1 ∷ 0 ∷ []) $ use2 𝓛 (raw (G.pre z)) (id⊢ 𝓤 _) $
-    calls_at ! (framed 𝓤 𝓛.H 𝓜 (tables 𝓤 𝓛.H 𝓜 𝓡 𝓡.env)) G (met 𝓤 𝓛 𝓜 𝓡 (code.calls-c_states::push::take 𝓡.env wired)) z
+    calls_at ! (framed 𝓤 𝓛.H 𝓜 (tables 𝓤 𝓛.H 𝓜 𝓡 𝓡.env)) G (met 𝓤 𝓛 𝓜 𝓡 (code.calls-c_calls::push::take 𝓡.env wired)) z
     (and_then ! (get ! refl) (and_then ! (get ! refl) (no_more !))) (λ v.
     use1 𝓛 (later (some (λ (r : ℕ). ((‵ (flft κ full_share) ⊛ ‵ (flft κs.0 qs.0) ⊛ ‵ ftrue) ⊛ ‵ (usize.own_val r (v ∷ []))) ⊛
     some (λ (ws : PushState × (List ℕ × Unit {0})). ‵ (lasts g.ended z.0.0 z.0.3 ws) ⊛ (raw (fact 𝓤 (Takes n.output n.taken room.now ws.1.0 r)) ⊛ (raw (fact 𝓤 (ws.0 ≡ taken_more n r)) ⊛ raw (fact 𝓤 (RetainsFew (length ws.0.output) ws.0.taken ws.0.released)))))))) (id⊢ 𝓤 _) $

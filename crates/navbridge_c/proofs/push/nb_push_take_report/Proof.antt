@@ -1,12 +1,12 @@
 -- What lies at the pointer is lent to `take_report`, which is handed the room, and comes back as it is left.
 use Rattle.navbridge_c.proofs.Steps.{◌≡◌, ℕ, List, [], ◌∷◌, ◌++◌, refl, w64, proved, full_share, id⊢, Lft, GName, ftrue, flft, fres, flent, named, vptr, WpFn, fact, tables, ‵, raw, ◌⊛◌, some, later, prop, ◌$◌, ◌∵◌, !, qed, done, move, keep, drop, use1, use2, use3, split, join, fsplit, fjoin, feq_l, pick, await, rewrite, regoal, suffices, frame, group, enter, of_opd, addr, from, fld, hop, stop, no_more, and_then, returns, agg, whole, sub, alloc_all, pass_all, free_all, look_at, look_in_at, get, get_in, through, sets, lands_as, Body, lft_new, lft_end, u8, usize, yes, Is, shows, lends_ref, ref_back, mem, part_at, uint_Lawful, Ptr, RawPtr, block_ptr, lies_at, in_a_block, rawptr_vals, rawptr_Tells, MutRef, plain, MutSlice, mut_slice_vals, mut_slice_Tells, nothing, heard, peeks, calls_at, lasts, triple_of, Stays, walk_of, says, stay_dropped, Goes-dropped, gave_slice, Goes-gave_slice, ends_at, framed, PushState, P}
 use Rattle.std.specs.Prelude.{length}
-use Rattle.c_states.specs.Pushes.{RetainsFew, Takes, told_more}
+use Rattle.c_calls.specs.Pushes.{RetainsFew, Takes, reported_more}
 use Rattle.navbridge_c.specs.contracts.push.nb_push_take_report as f
 use Rattle.navbridge_c.proofs.push.nb_push_take_report.Statement.{statement}
 use Rattle.navbridge_c.proofs.push.nb_push_take_report.Code as code
-use Rattle.c_states.specs.contracts.push.take_report as g
-use Rattle.c_states.proofs.push.take_report.Met.{met}
+use Rattle.c_calls.specs.contracts.push.take_report as g
+use Rattle.c_calls.proofs.push.take_report.Met.{met}
 
 abbrev stayed : Stays f.ended.signature.params f.ended.kept
 stayed = (stay_dropped _ yes, (gave_slice (0 ∷ []) tt (plain (λ _. u8)), tt))
@@ -39,15 +39,15 @@ nb_push_take_report_spec 𝓤 𝓛 𝓜 𝓡 wired =
     let z : G.Ghost = (((κ, (κs.0, tt)), (full_share, (qs.0, tt)), tt, (record { ref_ptr = (b, o); ghost_name = γ; now = n }, (room, tt)), (vptr b o ∷ [], (mut_slice_vals room, tt))), tt) in
     nothing ! $ move ! (4 ∷ 0 ∷ []) $ join ! $ move ! (1 ∷ 0 ∷ []) $ join ! $ nothing ! $ move ! (4 ∷ 0 ∷ []) $ join ! $ move ! (3 ∷ 0 ∷ []) $ join ! $ join ! $
     nothing ! $ move ! (1 ∷ 0 ∷ []) $ use2 𝓛 (raw (G.pre z)) (id⊢ 𝓤 _) $
-    calls_at ! (framed 𝓤 𝓛.H 𝓜 (tables 𝓤 𝓛.H 𝓜 𝓡 𝓡.env)) G (met 𝓤 𝓛 𝓜 𝓡 (code.calls-c_states::push::take_report 𝓡.env wired)) z
+    calls_at ! (framed 𝓤 𝓛.H 𝓜 (tables 𝓤 𝓛.H 𝓜 𝓡 𝓡.env)) G (met 𝓤 𝓛 𝓜 𝓡 (code.calls-c_calls::push::take_report 𝓡.env wired)) z
     (and_then ! (get ! refl) (and_then ! (get ! refl) (no_more !))) (λ v.
     use1 𝓛 (later (some (λ (r : ℕ). ((‵ (flft κ full_share) ⊛ ‵ (flft κs.0 qs.0) ⊛ ‵ ftrue) ⊛ ‵ (usize.own_val r (v ∷ []))) ⊛
-    some (λ (ws : PushState × (List ℕ × Unit {0})). ‵ (lasts g.ended z.0.0 z.0.3 ws) ⊛ (raw (fact 𝓤 (Takes n.report n.told room.now ws.1.0 r)) ⊛ (raw (fact 𝓤 (ws.0 ≡ told_more n r)) ⊛ raw (fact 𝓤 (RetainsFew (length ws.0.report) ws.0.told ws.0.report_released)))))))) (id⊢ 𝓤 _) $
+    some (λ (ws : PushState × (List ℕ × Unit {0})). ‵ (lasts g.ended z.0.0 z.0.3 ws) ⊛ (raw (fact 𝓤 (Takes n.report n.told room.now ws.1.0 r)) ⊛ (raw (fact 𝓤 (ws.0 ≡ reported_more n r)) ⊛ raw (fact 𝓤 (RetainsFew (length ws.0.report) ws.0.told ws.0.report_released)))))))) (id⊢ 𝓤 _) $
     await ! tt $ pick ! (λ r. split ! $ split ! $ split ! $ lft_end ! tt $ move ! (3 ∷ []) $ pick ! (λ ws. split ! $ move ! (1 ∷ []) $ split ! $
     heard ! _ (λ gives. split ! $ heard ! _ (λ is. heard ! _ (λ few. fsplit ! $ fsplit ! $
     rewrite ! 0 (λ (m : PushState). ‵ (fres γ (P.coded.code m))) is refl $
     -- [its last value; its borrow; what is left of the room; α is over; the room's token; the result; what the lender keeps]
-    move ! (3 ∷ 6 ∷ 0 ∷ []) $ use3 𝓛 (later (‵ (part_at P full_share (told_more n r) b o))) (ref_back 𝓛 P κ γ (told_more n r) b o) $ await ! tt $
+    move ! (3 ∷ 6 ∷ 0 ∷ []) $ use3 𝓛 (later (‵ (part_at P full_share (reported_more n r) b o))) (ref_back 𝓛 P κ γ (reported_more n r) b o) $ await ! tt $
     move ! (4 ∷ []) $ peeks ! usize (Is usize) (shows 𝓛 usize) r (v ∷ []) (λ shown. lands_as ! refl refl ((uint_Lawful 𝓛 w64).typed r _ shown).0 $
     returns ! (look_at ! 0 refl) $ free_all ! refl $ keep ! (3 ∷ 4 ∷ 0 ∷ 1 ∷ []) $
     fsplit ! $ fsplit ! $ fsplit ! $ move ! (1 ∷ []) $ feq_l ! (λ same.

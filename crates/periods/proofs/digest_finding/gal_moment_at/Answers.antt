@@ -1,6 +1,6 @@
 use Rattle.std.proofs.Common.{◌≡◌, arith}
-use Rattle.gnss_week.specs.Functions.{galileo_week_to}
-use Rattle.gnss_week.proofs.Surface.{galileo_week-only}
+use Rattle.nav_eph.specs.Functions.{galileo_week_to}
+use Rattle.nav_eph.proofs.Surface.{galileo_week-only}
 use Rattle.periods.proofs.digest_finding.gal_moment_at.Goals as goal
 
 pub returns-clause-same : goal.returns-clause-same

@@ -1,6 +1,6 @@
 use Rattle.std.proofs.Common.{◌≡◌, ◌+◌, ◌*◌, ap, ◌∙◌, arith}
-use Rattle.gnss_week.specs.Functions.{moment_near}
-use Rattle.gnss_week.proofs.Surface.{moment_near-only}
+use Rattle.nav_eph.specs.Functions.{moment_near}
+use Rattle.nav_eph.proofs.Surface.{moment_near-only}
 use Rattle.periods.proofs.digest_finding.gps_ion_moment_near.Goals as goal
 
 pub returns : goal.returns

@@ -1,7 +1,7 @@
 use Rattle.std.proofs.Common.{◌≡◌, ℕ, ◌%◌, arith}
-use Rattle.gnss_week.specs.Weeks.{IsGpsWeek}
-use Rattle.gnss_week.specs.Functions.{gps_week_to}
-use Rattle.gnss_week.proofs.Surface.{gps_week-only}
+use Rattle.nav_eph.specs.Weeks.{IsGpsWeek}
+use Rattle.nav_eph.specs.Functions.{gps_week_to}
+use Rattle.nav_eph.proofs.Surface.{gps_week-only}
 use Rattle.nav_eph.specs.Conditions.{wn_of}
 use Rattle.periods.proofs.digest_finding.gps_moment_near.Goals as goal
 

@@ -1,6 +1,6 @@
 use Rattle.std.proofs.Common.{ap, ◌∙◌}
-use Rattle.gnss_week.specs.Weeks.{week_of}
-use Rattle.gnss_week.proofs.Surface.{moment_near-only}
+use Rattle.nav_eph.specs.Weeks.{week_of}
+use Rattle.nav_eph.proofs.Surface.{moment_near-only}
 use Rattle.periods.proofs.digest_finding.toe_and_sent.Goals as goal
 
 pub returns-in-Sent-clause-week : goal.returns-in-Sent-clause-week

@@ -2,7 +2,7 @@ use Rattle.std.proofs.Common.{◌≡◌, ℕ, ◌+◌, ◌*◌, List, drop, sym,
 use Rattle.std.proofs.lemmas.Int.{to_z-of_z}
 use Rattle.rinex_write.specs.declared.columns.Column.{Column}
 use Rattle.rinex_write.proofs.Surface.{no_column}
-use Rattle.rinex_read.specs.declared.reason.Reason.{Reason}
+use Rattle.rinex_read.specs.declared.reason.RecordFault.{RecordFault}
 use Rattle.rinex_read.specs.Lines.{columns}
 use Rattle.rinex_read.specs.Fields.{field_of, field_at, read_row}
 use Rattle.rinex_read.specs.Mirrors.{with_prefix}
@@ -10,7 +10,7 @@ use Rattle.rinex_read.proofs.FieldLemmas.{good_at}
 use Rattle.rinex_read.proofs.RowLemmas.{row_more}
 use Rattle.rinex_read.proofs.fields.read_row.Goals as goal
 
-field_is : (col : Column) (t : List ℕ) (a : ℕ) (line : List ℕ) (r : Result ℤ Reason) → t ≡ columns a 19 line → r ≡ field_of col t → field_at col a line ≡ r
+field_is : (col : Column) (t : List ℕ) (a : ℕ) (line : List ℕ) (r : Result ℤ RecordFault) → t ≡ columns a 19 line → r ≡ field_of col t → field_at col a line ≡ r
 field_is col t a line r e f = sym (f ∙ ap (field_of col) e)
 
 pub field-requires-clause-scale : goal.field-requires-clause-scale

@@ -1,4 +1,4 @@
-use Rattle.gnss_week.proofs.Surface.{moment_near-only}
+use Rattle.nav_eph.proofs.Surface.{moment_near-only}
 use Rattle.rinex_write.specs.Fields.{gps_epoch}
 use Rattle.rinex_write.proofs.item.gps_epoch.Goals as goal
 

@@ -1,5 +1,5 @@
 use Rattle.std.proofs.Common.{◌≡◌, ◌<◌, ◌++◌, ◌∷◌, [], subst, ap, ◌∙◌, length, map}
-use Rattle.gnss_week.specs.Functions.{civil_to}
+use Rattle.nav_eph.specs.Functions.{civil_to}
 use Rattle.rinex_write.specs.RowTexts.{row_satellite}
 use Rattle.rinex_write.specs.Texts.{date_text}
 use Rattle.rinex_write.proofs.RowsLeft.{body_joined}

@@ -1,6 +1,6 @@
 use Rattle.std.proofs.Common.{ℕ, Bool, List, not, refl, subst, ◌∙◌, arith}
 use Rattle.std.proofs.lemmas.Result.{err_from_is_err_and, on_err_weaker}
-use Rattle.rtcm_frame.specs.State.{TakesFrame, TakesNone}
+use Rattle.framing.specs.State.{TakesFrame, TakesNone}
 use Rattle.streams.specs.FrameLines.{line_of}
 use Rattle.streams.specs.FrameRuns.{Gathers}
 use Rattle.streams.proofs.Holding.{holds_nothing, holds_frame, holds_none, holds_breaks, holds_goes}

@@ -1,5 +1,5 @@
 use Rattle.std.proofs.Common.{◌≡◌, ◌+◌, ◌-◌, ◌≤◌, ◌++◌, true, length, take}
-use Rattle.rtcm_frame.specs.State.{MayFeed}
+use Rattle.framing.specs.State.{MayFeed}
 use Rattle.streams.specs.FrameLines.{line_of}
 use Rattle.streams.specs.FrameRuns.{Goes}
 use Rattle.streams.proofs.frame_run.process_piece.Given as goal

@@ -1,6 +1,6 @@
 use Rattle.std.proofs.Common.{refl, sym, ap, subst, ◌∙◌}
 use Rattle.rtcm_eph.specs.Reading.{item_in}
-use Rattle.rtcm_frame.specs.State.{payload_of}
+use Rattle.framing.specs.State.{payload_of}
 use Rattle.streams.specs.Mirrors.{KeptPlaces, StandsIn}
 use Rattle.streams.proofs.AlikeLemmas.{Laws, looked_for, read_own}
 use Rattle.streams.proofs.StreamLemmas.{broke_fault, broke_item, on_err1, on_ok2, on_ok4, so_far_again, so_far_fault, so_far_item}
@@ -48,14 +48,14 @@ returns-in-Ok-clause-breaks g c =
 pub returns-in-Err-clause-goes : goal.returns-in-Err-clause-goes
 returns-in-Err-clause-goes g c =
     let is = ap (item_in c.args.r) (sym c.payload-payload.ensures.value) ∙ sym c.read_item.ensures.answer ∙ c.in-Err.is in
-    on_ok2 c.tell_fault.result c.tell_fault.ensures.report c.tell_fault.ensures.counts
+    on_ok2 c.report_fault.result c.report_fault.ensures.report c.report_fault.ensures.counts
     (λ report counts past start begun far.
     so_far_fault c.args.r _ _ past c.args.frame.now c.in-Err.fault _ _ _ _ _ _ _ _ _ is refl far report counts)
 
 pub returns-in-Err-clause-breaks : goal.returns-in-Err-clause-breaks
 returns-in-Err-clause-breaks g c =
     let is = ap (item_in c.args.r) (sym c.payload-payload.ensures.value) ∙ sym c.read_item.ensures.answer ∙ c.in-Err.is in
-    on_err1 c.tell_fault.result c.tell_fault.ensures.part
+    on_err1 c.report_fault.result c.report_fault.ensures.part
     (λ report past start begun far.
     broke_fault c.args.r _ _ past c.args.frame.now c.in-Err.fault _ _ _ _ _ _ _ _ is refl far report)
 

@@ -1,6 +1,6 @@
 use Rattle.std.proofs.Common.{Bool, not, subst, ap, ◌∙◌, arith}
 use Rattle.std.proofs.lemmas.Result.{err_from_is_err_and}
-use Rattle.rtcm_frame.specs.State.{TakesFrame, TakesNone}
+use Rattle.framing.specs.State.{TakesFrame, TakesNone}
 use Rattle.streams.proofs.MoveLemmas.{moves_more, moves_none, stops_more}
 use Rattle.streams.proofs.frames.process_frames.Goals as goal
 

@@ -1,5 +1,5 @@
 use Rattle.std.proofs.Common.{◌≡◌, ◌+◌, ◌≤◌, not, length}
-use Rattle.outlets.specs.Targets.{prefix_text, item_text}
+use Rattle.streams.specs.Targets.{prefix_text, item_text}
 use Rattle.streams.specs.Mirrors.{AreFew, StreamMoves}
 use Rattle.streams.proofs.frames.process_frames.Given as goal
 

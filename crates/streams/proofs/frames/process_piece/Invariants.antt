@@ -1,6 +1,6 @@
 use Rattle.std.proofs.Common.{◌≡◌, ◌+◌, ◌-◌, ◌≤◌, ◌++◌, true, length, take}
-use Rattle.rtcm_frame.specs.State.{MayFeed}
-use Rattle.outlets.specs.Targets.{prefix_text, item_text}
+use Rattle.framing.specs.State.{MayFeed}
+use Rattle.streams.specs.Targets.{prefix_text, item_text}
 use Rattle.streams.specs.Mirrors.{AreFew, StreamMoves}
 use Rattle.streams.proofs.frames.process_piece.Given as goal
 

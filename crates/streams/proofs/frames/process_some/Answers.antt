@@ -1,6 +1,6 @@
 use Rattle.std.proofs.Common.{List, ℕ, Bool, not, subst, ◌∙◌}
 use Rattle.std.proofs.lemmas.Result.{err_from_is_err_and}
-use Rattle.outlets.specs.Targets.{prefix_text, item_text}
+use Rattle.streams.specs.Targets.{prefix_text, item_text}
 use Rattle.streams.specs.Mirrors.{StreamStops}
 use Rattle.streams.proofs.MoveLemmas.{stops_rest}
 use Rattle.streams.proofs.frames.process_some.Goals as goal

@@ -1,6 +1,6 @@
 use Rattle.std.proofs.Common.{◌≡◌, ◌+◌, ◌-◌, ◌≤◌, ◌^◌}
 use Rattle.std.specs.Prelude.{IsTrue}
-use Rattle.outlets.specs.Targets.{prefix_text, item_text}
+use Rattle.streams.specs.Targets.{prefix_text, item_text}
 use Rattle.streams.specs.Mirrors.{AreFew}
 use Rattle.streams.proofs.PieceLemmas.{PiecesSoFar}
 use Rattle.streams.proofs.pieces.process_pieces.Given as goal

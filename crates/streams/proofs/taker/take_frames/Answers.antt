@@ -1,6 +1,6 @@
 use Rattle.std.proofs.Common.{Bool, not, subst, ap, ◌∙◌, arith}
 use Rattle.std.proofs.lemmas.Result.{err_from_is_err_and}
-use Rattle.rtcm_frame.specs.State.{TakesFrame, TakesNone}
+use Rattle.framing.specs.State.{TakesFrame, TakesNone}
 use Rattle.streams.proofs.TakenLemmas.{room_left, stops_more, takes_more, takes_none}
 use Rattle.streams.proofs.taker.take_frames.Goals as goal
 

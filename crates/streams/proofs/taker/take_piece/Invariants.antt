@@ -1,5 +1,5 @@
 use Rattle.std.proofs.Common.{◌≡◌, ◌-◌, ◌≤◌, ◌++◌, true, length, take}
-use Rattle.rtcm_frame.specs.State.{MayFeed}
+use Rattle.framing.specs.State.{MayFeed}
 use Rattle.streams.specs.Taken.{Takes}
 use Rattle.streams.proofs.taker.take_piece.Given as goal
 

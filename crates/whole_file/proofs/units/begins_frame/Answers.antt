@@ -11,14 +11,14 @@ returns-then-bytes c = sym (ap (nat_lt 0) (size_other c.args.bytes.now (omega ar
 
 pub returns-then-bytes-size : goal.returns-then-bytes-size
 returns-then-bytes-size c =
-    sym (ap (nat_lt 0) (size_long c.args.bytes.now (omega arith) c.if-bytes.false (omega (arith, c.size_told-size.ensures, c.if-bytes-size.true))))
+    sym (ap (nat_lt 0) (size_long c.args.bytes.now (omega arith) c.if-bytes.false (omega (arith, c.size_reported-size.ensures, c.if-bytes-size.true))))
 
 pub returns-in-Some : goal.returns-in-Some
 returns-in-Some c =
-    sym (held_whole c.args.bytes.now c.size_told-size.result (omega arith) c.if-bytes.false c.size_told-size.ensures (omega (arith, c.if-bytes-size.false))
+    sym (held_whole c.args.bytes.now c.size_reported-size.result (omega arith) c.if-bytes.false c.size_reported-size.ensures (omega (arith, c.if-bytes-size.false))
     (c.in-Some.ensures.whole.0 refl))
 
 pub returns-in-None : goal.returns-in-None
 returns-in-None c =
-    sym (held_none c.args.bytes.now c.size_told-size.result (omega arith) c.if-bytes.false c.size_told-size.ensures (omega (arith, c.if-bytes-size.false))
+    sym (held_none c.args.bytes.now c.size_reported-size.result (omega arith) c.if-bytes.false c.size_reported-size.ensures (omega (arith, c.if-bytes-size.false))
     (λ frame. false≢true (c.in-None.ensures.whole.1 frame)))

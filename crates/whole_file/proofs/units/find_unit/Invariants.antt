@@ -1,8 +1,8 @@
 use Rattle.std.proofs.Common.{◌≡◌, ◌≤◌, ◌-◌, ◌++◌, ℕ, List, [], false, length, drop}
 use Rattle.whole_file.specs.Units.{first_unit}
 use Rattle.whole_file.proofs.units.find_unit.Given as goal
-use Rattle.receiver_frames.specs.UbxSums.{AreSums}
-use Rattle.receiver_frames.specs.SbfStates.{AreStates}
+use Rattle.framing.specs.UbxSums.{AreSums}
+use Rattle.framing.specs.SbfStates.{AreStates}
 
 -- no unit begins before the offset
 abbrev pub invariant-loop-place : goal.invariant-loop-place

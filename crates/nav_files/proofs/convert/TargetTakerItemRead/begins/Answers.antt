@@ -1,6 +1,6 @@
 use Rattle.std.proofs.Common.{◌++◌}
 use Rattle.std.specs.List.{flat_map}
-use Rattle.outlets.specs.Targets.{prefix_text, item_text}
+use Rattle.streams.specs.Targets.{prefix_text, item_text}
 use Rattle.one_run.proofs.Surface.{prefix_after, prefix_more, prefix_trans}
 use Rattle.nav_files.specs.Files.{read_report, read_text}
 use Rattle.nav_files.proofs.FileEnds.{texts_prefix}

@@ -1,6 +1,6 @@
 use Rattle.std.proofs.Common.{ap}
 use Rattle.std.specs.List.{flat_map}
-use Rattle.outlets.specs.ItemTexts.{rinex_item}
+use Rattle.streams.specs.ItemTexts.{rinex_item}
 use Rattle.nav_files.proofs.KeptLemmas.{finish_as}
 use Rattle.nav_files.proofs.merge.MergingTakerItemRead.finish.Goals as goal
 

@@ -2,7 +2,7 @@ use Rattle.std.proofs.Common.{◌≤◌, [], ◌∷◌, ap, length, ◌∙◌, a
 use Rattle.std.proofs.lemmas.Bool.{both_ways}
 use Rattle.std.proofs.lemmas.List.Elements.{All-append, All-cons, All-nil}
 use Rattle.std.specs.Option.{is_some}
-use Rattle.receiver_messages.specs.Systems.{IsOfSystem}
+use Rattle.receiver_log.specs.Systems.{IsOfSystem}
 use Rattle.receiver_log.specs.declared.queue.Pending.{Pending}
 use Rattle.receiver_log.proofs.Comings.{put_over, put_untimed, put_waits, queue_is}
 use Rattle.receiver_log.proofs.queue.Queue.put.Goals as goal

@@ -9,14 +9,14 @@ pub returns-in_err-tell-clause-stopped : goal.returns-in_err-tell-clause-stopped
 returns-in_err-tell-clause-stopped g c =
     let p = err_from_is_err_and c.from_residual.result c.from_residual.ensures.1 in
     rw p.1 (given_step g.J.Judge.heading g.J.Receiver.said _ _ _ _ _ _ _ _ _ _ c.in-Some.reception _ _
-    c.in-Some.ensures.some c.hear-reason.ensures.state_is c.hear-reason.ensures.lines
-    c.hear-reason.ensures.refused_is c.in_err-tell.ensures.part)
+    c.in-Some.ensures.some c.receive-reason.ensures.state_is c.receive-reason.ensures.lines
+    c.receive-reason.ensures.refused_is c.in_err-tell.ensures.part)
 
 pub returns-in-Some-clause-hears : goal.returns-in-Some-clause-hears
 returns-in-Some-clause-hears g c =
     given_step g.J.Judge.heading g.J.Receiver.said _ _ _ _ _ _ _ _ _ _ c.in-Some.reception _ _
-    c.in-Some.ensures.some c.hear-reason.ensures.state_is c.hear-reason.ensures.lines
-    c.hear-reason.ensures.refused_is c.in_ok-tell.ensures.told
+    c.in-Some.ensures.some c.receive-reason.ensures.state_is c.receive-reason.ensures.lines
+    c.receive-reason.ensures.refused_is c.in_ok-tell.ensures.told
 
 pub returns-then-next_message-clause-hears : goal.returns-then-next_message-clause-hears
 returns-then-next_message-clause-hears g c =

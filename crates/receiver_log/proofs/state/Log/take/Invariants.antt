@@ -1,11 +1,11 @@
 use Rattle.std.proofs.Common.{◌≡◌, ◌<◌, ◌≤◌, [], length}
 use Rattle.std.specs.Io.KnownBytes.{Appends}
-use Rattle.receiver_log.specs.Steps.{HearsLast, steps_left, view_of}
+use Rattle.receiver_log.specs.Steps.{ReceivesLast, steps_left, view_of}
 use Rattle.receiver_log.proofs.state.Log.take.Given as goal
 
 abbrev pub invariant-loop-self : goal.invariant-loop-self
 invariant-loop-self g l = record {
-  hears : HearsLast g.J.Judge.heading g.J.Receiver.said (view_of l.fn.self)
+  hears : ReceivesLast g.J.Judge.heading g.J.Receiver.said (view_of l.fn.self)
       (view_of l.self) [] l.self.lines.items
       (Appends (g.R.Refused.reported l.fn.refused) (g.R.Refused.reported l.refused));
   given : l.self.given ≡ 0;

@@ -1,5 +1,5 @@
 use Rattle.std.proofs.Common.{ℕ, ◌≤◌, Contains, Some, None, refl, sym, subst, ◌∙◌}
-use Rattle.periods.specs.declared.key.Place.{Place}
+use Rattle.periods.specs.declared.key.PeriodId.{PeriodId}
 use Rattle.periods.specs.DigestsOf.{digest_finding}
 use Rattle.slot_assembly.specs.Closing.{closed_by}
 use Rattle.slot_assembly.specs.Healths.{IsChosen}
@@ -46,7 +46,7 @@ returns-in-Ok-clause-next c = λ e. if_given _ _ _ c.in-Ok.ensures.ok.given (λ 
     let health = c.choose-health.result in
     let k = subst (λ (x : SlotsState). SlotsStandFor x at) (sym c.self.view_is) h in
     let due = first_at slots s.window c.args.watermark c.in-Ok-Some.place slot (subst (IsFirstDueAt slots s.window c.args.watermark) c.in-Ok-Some.field-0-is c.in-Ok-Some.ensures.first) (sym c.in-Some.ensures) in
-    let chosen = subst (λ (p : Place). IsChosen s.heard s.window p.key p.end health) c.period-period.ensures c.choose-health.ensures in
+    let chosen = subst (λ (p : PeriodId). IsChosen s.heard s.window p.key p.end health) c.period-period.ensures c.choose-health.ensures in
     subst (λ (x : SlotsState). IsNext x.reference x.window (Contains at.parts) c.args.watermark at.last (closed_by slot (known_for slot.key s.known) (digest_finding s.reference slot.key slot.digest health))) c.self.view_is
     (next_is (with_slots s slots ends) at c.args.watermark slot health (stands_slots s at slots ends c.first_due.ensures.same c.first_due.ensures.indexed k) due chosen))
 
@@ -63,9 +63,9 @@ returns-in-Ok-clause-given c = λ e. if_given _ _ _ c.in-Ok.ensures.ok.given (λ
     let l = subst (λ (m : ℕ). m ≤ c.args.watermark) (sym c.requires.1.at_watermark ∙ h.at_watermark) c.requires.2 in
     let k = subst (λ (x : SlotsState). SlotsStandFor x at) (sym c.self.view_is) h in
     let due = first_at slots s.window c.args.watermark c.in-Ok-Some.place slot (subst (IsFirstDueAt slots s.window c.args.watermark) c.in-Ok-Some.field-0-is c.in-Ok-Some.ensures.first) (sym c.in-Some.ensures) in
-    let chosen = subst (λ (p : Place). IsChosen s.heard s.window p.key p.end health) c.period-period.ensures c.choose-health.ensures in
+    let chosen = subst (λ (p : PeriodId). IsChosen s.heard s.window p.key p.end health) c.period-period.ensures c.choose-health.ensures in
     let gone = subst (λ (x : ByStart). IsChanged slots x None left) (c.first_due.ensures.indexed.own c.in-Ok-Some.place slot (sym c.in-Some.ensures)) c.drop_at.ensures.gone in
-    subst (λ (q : Place). SlotsStandFor (record { reference = s.reference; window = s.window; slots = left; ends = left_ends; heard = s.heard; stamps = s.stamps; watermark = c.args.watermark; last = Some q; none_at = s.none_at; known = known }) (giving c.args.watermark (slot_place slot) at))
+    subst (λ (q : PeriodId). SlotsStandFor (record { reference = s.reference; window = s.window; slots = left; ends = left_ends; heard = s.heard; stamps = s.stamps; watermark = c.args.watermark; last = Some q; none_at = s.none_at; known = known }) (giving c.args.watermark (slot_place slot) at))
     (sym c.period-period.ensures)
     (stands_given (with_slots s slots ends) at c.args.watermark slot health (digest_finding s.reference slot.key slot.digest health) left left_ends known
     (stands_slots s at slots ends c.first_due.ensures.same c.first_due.ensures.indexed k) l due chosen refl gone c.drop_at.ensures.indexed c.in-Ok.ensures.ok.remembered c.in-Ok.ensures.ordered))

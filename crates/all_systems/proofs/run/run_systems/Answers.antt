@@ -1,0 +1,12 @@
+use Rattle.streams.proofs.Surface.{none_known}
+use Rattle.all_systems.proofs.run.run_systems.Goals as goal
+
+pub run_taker-requires : goal.run_taker-requires
+run_taker-requires g c = record {
+  nothing = record {
+    counts = c.new-state.ensures.counts;
+    given = c.new-state.ensures.given;
+    known = none_known c.args.week _ c.new-state.ensures.kept;
+    rows = c.new-state.ensures.rows;
+  };
+}

@@ -1,0 +1,13 @@
+pub mod Kinds
+pub mod Readings
+pub mod Streams
+pub mod Mirrors
+pub mod Selecting
+pub mod FileReadings
+pub mod Files
+pub mod FileMirrors
+pub mod NavOrder
+pub mod CarriedOrder
+pub mod Merging
+pub mod KeptRows
+pub mod MergeMirrors

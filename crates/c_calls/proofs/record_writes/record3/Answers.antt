@@ -1,0 +1,7 @@
+use Rattle.c_calls.proofs.Lengths.{too_long3}
+use Rattle.c_calls.proofs.record_writes.record3.Goals as goal
+
+pub unreachable-requires : goal.unreachable-requires
+unreachable-requires c =
+    too_long3 c.args.item.now c.new-text.result.bytes c.write_item3.new.out.bytes c.new-text.result.faults c.write_item3.new.out.faults c.new-text.ensures.bytes
+    c.new-text.ensures.faults c.in-Err.ensures.bytes c.in-Err.ensures.cause.failed c.bytes-full.ensures.full

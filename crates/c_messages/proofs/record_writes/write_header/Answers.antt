@@ -1,9 +1,0 @@
-use Rattle.std.proofs.Common.{◌∙◌, subst}
-use Rattle.c_records.specs.Rooms.{StandsIn}
-use Rattle.c_messages.proofs.SameHeader.{stands_too}
-use Rattle.c_messages.proofs.record_writes.write_header.Goals as goal
-
-pub returns-in-Some-clause-written : goal.returns-in-Some-clause-written
-returns-in-Some-clause-written c = λ version words is said.
-    stands_too c.args.version c.args.header.now c.in-Some.words words c.args.into.now c.put.new.into c.put.result c.in-Some.ensures.same said
-    (subst (StandsIn c.args.into.now c.put.new.into c.put.result) (c.bytes.ensures.bytes ∙ c.header_of.ensures) c.put.ensures)

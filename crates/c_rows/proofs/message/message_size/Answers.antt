@@ -1,5 +1,0 @@
-use Rattle.nav_tables.proofs.Surface.{good_table}
-use Rattle.c_rows.proofs.message.message_size.Goals as goal
-
-pub returns-clause-few : goal.returns-clause-few
-returns-clause-few c = (good_table c.args.kind.now.table c.requires.table).small

@@ -1,5 +1,0 @@
-use Rattle.std.proofs.Common.{length}
-use Rattle.c_rows.proofs.write.+are_fields.Given as goal
-
-abbrev pub decreases-are_fields : goal.decreases-are_fields
-decreases-are_fields l = length l.columns.now

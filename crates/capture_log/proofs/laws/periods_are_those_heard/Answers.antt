@@ -1,9 +1,0 @@
-use Rattle.capture_log.specs.Events.{nothing_known}
-use Rattle.capture_log.specs.Log.{log_from, parts_in}
-use Rattle.capture_log.proofs.AnyOrder.{periods_heard}
-use Rattle.capture_log.proofs.laws.periods_are_those_heard.Goals as goal
-
-pub returns : goal.returns
-returns c r window number items values =
-    periods_heard c.taken_parts_are_heard.ensures r window number items
-    (c.periods_are.ensures.are r window (parts_in (log_from window nothing_known number items)) values)

@@ -1,0 +1,10 @@
+use Rattle.std.proofs.Common.{◌≡◌, take}
+use Rattle.capture_log.specs.Log.{noted}
+use Rattle.captures.specs.Hearings.{Receives}
+use Rattle.captures.proofs.receiver.PartReceiver.events.Given as goal
+
+abbrev pub invariant-taking : goal.invariant-taking
+invariant-taking g l = record {
+  heard : Receives l.fn.self l.self (g.U.Sink.written l.fn.report) (g.U.Sink.written l.report) (noted l.number (take l.event-index l.events));
+  faults : g.U.Sink.faults l.report ≡ g.U.Sink.faults l.fn.report;
+}

@@ -1,6 +1,0 @@
-pub mod Spans
-pub mod Digits
-pub mod Texts
-pub mod Places
-pub mod PartsLemmas
-pub mod Alike

@@ -1,3 +1,0 @@
-pub mod ExactText
-pub mod CarriedLines
-pub mod Mirrors

@@ -1,5 +1,0 @@
-use Rattle.crc24q.proofs.EntryLemmas.{moved_far_is}
-use Rattle.crc24q.proofs.far_tables.moved_far.Goals as goal
-
-pub returns : goal.returns
-returns c = moved_far_is c.args.n c.args.byte c.requires c.ranges.byte.fits

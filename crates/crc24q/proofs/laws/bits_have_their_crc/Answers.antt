@@ -1,8 +1,0 @@
-use Rattle.crc24q.proofs.BitLemmas.{bits_have_crc, bits_of_run}
-use Rattle.crc24q.proofs.laws.bits_have_their_crc.Goals as goal
-
-pub returns-clause-crc : goal.returns-clause-crc
-returns-clause-crc c = bits_have_crc
-
-pub returns-clause-run : goal.returns-clause-run
-returns-clause-run c = bits_of_run

@@ -1,6 +1,0 @@
-use Rattle.std.proofs.Common.{◌≡◌, ◌<◌, ◌*◌, ◌^◌, drop}
-use Rattle.crc24q.specs.Register.{crc_from}
-use Rattle.crc24q.proofs.register.after_fours.Given as goal
-
-abbrev pub invariant-loop-i : goal.invariant-loop-i
-invariant-loop-i l = (crc_from l.state (drop (4 * l.i) l.bytes) ≡ crc_from 0 l.bytes) × (l.state < 2 ^ 24)

@@ -1,5 +1,0 @@
-use Rattle.crc24q.proofs.EntryLemmas.{moved_32_is}
-use Rattle.crc24q.proofs.tables.moved_32.Goals as goal
-
-pub returns : goal.returns
-returns c = moved_32_is c.args.byte c.ranges.byte.fits

@@ -1,4 +1,0 @@
-pub mod Division
-pub mod Register
-pub mod BitLists
-pub mod Movers

@@ -1,5 +1,0 @@
-mod ReadLemmas
-mod WriteLemmas
-mod SetLemmas
-mod WalkLemmas
-mod NumberLemmas

@@ -1,4 +1,0 @@
-pub mod Numbers
-pub mod Differences
-pub mod Reading
-pub mod Mirrors

@@ -1,0 +1,36 @@
+mod FormCases
+mod FormLaws
+mod FrameLaws
+mod ChosenLaws
+mod Reaching
+mod ChosenFrames
+mod OpenPlace
+mod FirstPlace
+mod Takes
+mod Starts
+mod Promising
+mod StandardLaws
+mod WriteLaws
+mod StateLaws
+mod MessageLaws
+mod MessageChosenLaws
+mod MessageReaching
+mod ChosenMessages
+mod MessageOpenPlace
+mod MessageFirstPlace
+mod MessageTakes
+mod MessagePromising
+mod HeadingLaws
+pub mod Going
+pub mod Surface
+mod UbxSumSteps
+mod UbxSizes
+mod UbxFieldLaws
+mod SbfSumLaws
+mod SbfRegisterLaws
+mod SbfTableLemmas
+mod SbfEntryLemmas
+mod SbfLookupLemmas
+mod SbfCrcSteps
+mod SbfSizes
+mod UbxBlockSums

@@ -1,0 +1,14 @@
+use Rattle.std.proofs.Common.{◌<◌, ◌^◌, subst, sym}
+use Rattle.framing.proofs.SbfLookupLemmas.{one_byte}
+use Rattle.framing.proofs.SbfRegisterLaws.{with_byte_of-lt}
+use Rattle.framing.proofs.sbf_register.with_byte.Goals as goal
+
+pub returns-clause-value : goal.returns-clause-value
+returns-clause-value c = one_byte c.args.state c.args.byte c.moved_8.result c.requires
+    c.ranges.byte.fits c.moved_8.ensures
+
+pub returns-clause-fits : goal.returns-clause-fits
+returns-clause-fits c =
+    subst (λ n. n < 2 ^ 16) (sym (one_byte c.args.state c.args.byte c.moved_8.result c.requires
+    c.ranges.byte.fits c.moved_8.ensures))
+    (with_byte_of-lt c.args.state c.args.byte c.requires)

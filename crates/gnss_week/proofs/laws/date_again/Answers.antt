@@ -1,5 +1,0 @@
-use Rattle.gnss_week.proofs.Days.{one_civil}
-use Rattle.gnss_week.proofs.laws.date_again.Goals as goal
-
-pub returns : goal.returns
-returns c = λ b d m g of_m. one_civil d b m of_m g.0

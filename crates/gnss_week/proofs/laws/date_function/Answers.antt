@@ -1,8 +1,0 @@
-use Rattle.gnss_week.proofs.DateFunctions.{civil_to-date, civil_to-only}
-use Rattle.gnss_week.proofs.laws.date_function.Goals as goal
-
-pub returns-clause-date : goal.returns-clause-date
-returns-clause-date c = civil_to-date
-
-pub returns-clause-only : goal.returns-clause-only
-returns-clause-only c = civil_to-only

@@ -1,8 +1,0 @@
-use Rattle.gnss_week.proofs.WeekFunctions.{gps_week-meant, gps_week-only}
-use Rattle.gnss_week.proofs.laws.gps_week_function.Goals as goal
-
-pub returns-clause-meant : goal.returns-clause-meant
-returns-clause-meant c = gps_week-meant
-
-pub returns-clause-only : goal.returns-clause-only
-returns-clause-only c = gps_week-only

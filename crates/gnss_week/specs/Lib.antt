@@ -1,3 +1,0 @@
-pub mod Dates
-pub mod Functions
-pub mod Weeks

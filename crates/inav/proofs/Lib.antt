@@ -1,0 +1,17 @@
+pub mod PageNumbers
+pub mod Membership
+pub mod InavPageSurface
+pub mod Deciding
+pub mod KeyOrder
+pub mod Remainders
+pub mod Partners
+pub mod Inserting
+pub mod Ascending
+pub mod Shown
+pub mod Placing
+pub mod Holding
+pub mod Taking
+pub mod WordBytes
+pub mod Values
+pub mod WordSurface
+pub mod Surface

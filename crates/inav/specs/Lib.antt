@@ -1,0 +1,9 @@
+pub mod Pages
+pub mod Received
+pub mod Keeping
+pub mod Mirrors
+pub mod Kept
+pub mod Words
+pub mod Reading
+pub mod Faults
+pub mod Writing

@@ -1,5 +1,0 @@
-use Rattle.inav_page.proofs.PageNumbers.{right_to, right_from}
-use Rattle.inav_page.proofs.laws.right_crc_is_decided.Goals as goal
-
-pub returns : goal.returns
-returns c even odd = (right_to even odd, right_from even odd)

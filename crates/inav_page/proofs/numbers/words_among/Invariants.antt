@@ -1,6 +1,0 @@
-use Rattle.std.proofs.Common.{◌≡◌, take}
-use Rattle.inav_page.specs.Mirrors.{words_of_numbers}
-use Rattle.inav_page.proofs.numbers.words_among.Given as goal
-
-abbrev pub invariant-loop-number : goal.invariant-loop-number
-invariant-loop-number l = l.words.items ≡ words_of_numbers l.kind l.own (take l.number-index l.numbers)

@@ -1,3 +1,0 @@
-pub mod WordBytes
-pub mod Values
-pub mod Surface

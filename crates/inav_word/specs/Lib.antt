@@ -1,4 +1,0 @@
-pub mod Words
-pub mod Reading
-pub mod Faults
-pub mod Writing

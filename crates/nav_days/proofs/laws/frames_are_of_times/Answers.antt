@@ -1,5 +1,0 @@
-use Rattle.nav_days.proofs.FrameLemmas.{frame_is}
-use Rattle.nav_days.proofs.laws.frames_are_of_times.Goals as goal
-
-pub returns : goal.returns
-returns c = frame_is

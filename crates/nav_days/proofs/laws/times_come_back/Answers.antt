@@ -1,5 +1,0 @@
-use Rattle.nav_days.proofs.DayLemmas.{times_near}
-use Rattle.nav_days.proofs.laws.times_come_back.Goals as goal
-
-pub returns-clause-near : goal.returns-clause-near
-returns-clause-near c = times_near

@@ -1,3 +1,0 @@
-pub mod Weeks
-pub mod Days
-pub mod Times

@@ -1,5 +1,0 @@
-use Rattle.nav_eph.proofs.NumberLemmas.{one_galileo_ionosphere}
-use Rattle.nav_eph.proofs.laws.one_galileo_ionosphere.Goals as goal
-
-pub returns : goal.returns
-returns c = one_galileo_ionosphere

@@ -1,5 +1,0 @@
-use Rattle.nav_eph.proofs.NumberLemmas.{one_health}
-use Rattle.nav_eph.proofs.laws.one_health_and_tag.Goals as goal
-
-pub returns : goal.returns
-returns c = one_health

@@ -1,5 +1,0 @@
-use Rattle.nav_eph.proofs.NumberLemmas.{one_side}
-use Rattle.nav_eph.proofs.laws.one_side.Goals as goal
-
-pub returns : goal.returns
-returns c = one_side

@@ -1,5 +1,0 @@
-use Rattle.nav_eph.proofs.NumberLemmas.{one_tag}
-use Rattle.nav_eph.proofs.laws.one_tag.Goals as goal
-
-pub returns : goal.returns
-returns c = one_tag

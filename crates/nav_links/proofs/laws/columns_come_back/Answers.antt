@@ -1,7 +1,0 @@
-use Rattle.std.proofs.Common.{length, refl}
-use Rattle.nav_links.proofs.LinkLemmas.{back_all}
-use Rattle.nav_links.proofs.laws.columns_come_back.Goals as goal
-
-pub returns : goal.returns
-returns c = λ parts links columns given before good apart said. back_all
-    (length before) parts links columns given before good apart said refl

@@ -1,5 +1,0 @@
-use Rattle.nav_links.proofs.LinkLemmas.{fit_all}
-use Rattle.nav_links.proofs.laws.numbers_in_range_fit.Goals as goal
-
-pub returns : goal.returns
-returns c = fit_all

@@ -1,6 +1,0 @@
-use Rattle.std.proofs.Common.{drop}
-use Rattle.nav_pieces.proofs.PieceLemmas.{AreAdded}
-use Rattle.nav_pieces.proofs.pieces.read_numbers.Given as goal
-
-abbrev pub invariant-loop-piece : goal.invariant-loop-piece
-invariant-loop-piece l = AreAdded l.bytes l.at l.pieces (drop l.piece-index l.pieces) l.numbers

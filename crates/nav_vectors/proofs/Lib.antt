@@ -1,9 +1,0 @@
-pub mod States
-pub mod Orders
-pub mod Joined
-pub mod Pushes
-pub mod Places
-pub mod Counts
-pub mod Short
-pub mod Fits
-pub mod TextIs

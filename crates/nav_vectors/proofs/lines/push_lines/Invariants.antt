@@ -1,6 +1,0 @@
-use Rattle.std.proofs.Common.{take}
-use Rattle.nav_vectors.specs.Mirrors.{GrowsByLines}
-use Rattle.nav_vectors.proofs.lines.push_lines.Given as goal
-
-abbrev pub invariant-lines : goal.invariant-lines
-invariant-lines l = GrowsByLines l.senders.seed l.senders.sats l.senders.week (take l.sending-index l.order) l.initial.text.items l.text.items

@@ -1,6 +1,0 @@
-use Rattle.std.proofs.Common.{◌≡◌, ◌++◌}
-use Rattle.nav_vectors.specs.Lines.{subframes_at}
-use Rattle.nav_vectors.proofs.sending.push_subframes.Given as goal
-
-abbrev pub invariant-satellites : goal.invariant-satellites
-invariant-satellites l = l.sent.items ≡ l.initial.sent.items ++ subframes_at l.stamp l.i

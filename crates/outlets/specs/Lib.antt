@@ -1,4 +1,0 @@
-pub mod ItemTexts
-pub mod PeriodLines
-pub mod Targets
-pub mod Times

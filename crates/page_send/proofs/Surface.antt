@@ -1,2 +1,0 @@
--- What other crates cite: the text of two concatenated lists of what is sent.
-pub use Rattle.page_send.proofs.Texts.{texts_append, slots_append, sendable_append}

@@ -1,3 +1,0 @@
-pub mod RankedLemmas
-pub mod HeldLemmas
-pub mod Surface

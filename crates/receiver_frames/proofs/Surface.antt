@@ -1,2 +1,0 @@
--- What proofs of other crates cite: what one step of the deframer leaves of the decided messages, whatever bytes follow.
-pub use Rattle.receiver_frames.proofs.Going.{decided_message, decided_none}

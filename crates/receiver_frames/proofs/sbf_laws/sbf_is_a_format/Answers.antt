@@ -1,5 +1,0 @@
-use Rattle.receiver_frames.specs.SbfFormLaws.{sbf_is_heading}
-use Rattle.receiver_frames.proofs.sbf_laws.sbf_is_a_format.Goals as goal
-
-pub returns : goal.returns
-returns c = sbf_is_heading

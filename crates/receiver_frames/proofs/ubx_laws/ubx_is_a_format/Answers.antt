@@ -1,5 +1,0 @@
-use Rattle.receiver_frames.specs.UbxFormLaws.{ubx_is_heading}
-use Rattle.receiver_frames.proofs.ubx_laws.ubx_is_a_format.Goals as goal
-
-pub returns : goal.returns
-returns c = ubx_is_heading

@@ -1,5 +1,0 @@
-use Rattle.receiver_frames.proofs.UbxFieldLaws.{sized_begins, begun_sized}
-use Rattle.receiver_frames.proofs.ubx_laws.ubx_messages_are_those_of_the_field.Goals as goal
-
-pub returns : goal.returns
-returns c = λ bytes n are. (λ s. sized_begins bytes n are s.0 s.1, λ m. begun_sized bytes n are m)

@@ -1,3 +1,0 @@
-mod Packing
-mod Turns
-mod Readings

@@ -1,5 +1,0 @@
-use Rattle.receiver_messages.proofs.Readings.{sent_is_read}
-use Rattle.receiver_messages.proofs.laws.sent_words_are_read.Goals as goal
-
-pub returns : goal.returns
-returns c = λ sent mask x g. sent_is_read sent mask x g

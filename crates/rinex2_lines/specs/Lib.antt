@@ -1,5 +1,0 @@
-pub mod Columns
-pub mod Dates
-pub mod Lines
-pub mod Files
-pub mod Mirrors

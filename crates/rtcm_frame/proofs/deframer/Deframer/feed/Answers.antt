@@ -1,7 +1,0 @@
-use Rattle.std.proofs.Common.{length, ap, arith}
-use Rattle.rtcm_frame.proofs.Promising.{waiting_is_short}
-use Rattle.rtcm_frame.proofs.deframer.Deframer.feed.Goals as goal
-
-pub make_room-requires-clause-short : goal.make_room-requires-clause-short
-make_room-requires-clause-short c =
-    omega (arith, waiting_is_short c.args.self.now.rest c.requires.1, ap (λ s. length s.rest) c.self.view_is)

@@ -1,8 +1,0 @@
-use Rattle.std.proofs.Common.{drop, sym, ◌∙◌}
-use Rattle.rtcm_frame.proofs.Takes.{waits_at_first}
-use Rattle.rtcm_frame.proofs.deframer.decide.Goals as goal
-
-pub undecided_below-requires-clause-waiting : goal.undecided_below-requires-clause-waiting
-undecided_below-requires-clause-waiting c =
-    rw c.find-place.ensures.same
-    (waits_at_first c.args.more (drop c.args.start.now c.args.window.now) _ c.find-place.ensures.place (sym c.find-place.ensures.size ∙ c.if-size-eq0.true))

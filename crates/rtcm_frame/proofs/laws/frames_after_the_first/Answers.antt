@@ -1,5 +1,0 @@
-use Rattle.rtcm_frame.proofs.FrameLaws.{frames_after}
-use Rattle.rtcm_frame.proofs.laws.frames_after_the_first.Goals as goal
-
-pub returns : goal.returns
-returns c = λ bytes. frames_after bytes

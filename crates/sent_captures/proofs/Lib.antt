@@ -1,0 +1,12 @@
+pub mod Lengths
+pub mod Texts
+pub mod Surface
+pub mod States
+pub mod Orders
+pub mod Joined
+pub mod Pushes
+pub mod Places
+pub mod Counts
+pub mod Short
+pub mod Fits
+pub mod TextIs

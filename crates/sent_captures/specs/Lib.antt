@@ -1,0 +1,10 @@
+pub mod Slots
+pub mod Sendable
+pub mod SentItems
+pub mod Sats
+pub mod Draws
+pub mod Values
+pub mod Lines
+pub mod Capture
+pub mod Text
+pub mod Mirrors

@@ -1,9 +1,0 @@
-pub mod Selecting
-pub mod Readings
-pub mod Files
-pub mod Mirrors
-pub mod NavOrder
-pub mod CarriedOrder
-pub mod Merging
-pub mod KeptRows
-pub mod MergeMirrors

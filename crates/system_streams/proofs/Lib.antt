@@ -1,4 +1,0 @@
-mod Lemmas
-mod Ranks
-mod Taking
-mod Parts

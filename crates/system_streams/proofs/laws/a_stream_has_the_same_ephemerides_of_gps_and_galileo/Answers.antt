@@ -1,6 +1,0 @@
-use Rattle.rtcm_frame.specs.Frames.{frames}
-use Rattle.system_streams.proofs.Parts.{navs_of_stream}
-use Rattle.system_streams.proofs.laws.a_stream_has_the_same_ephemerides_of_gps_and_galileo.Goals as goal
-
-pub returns : goal.returns
-returns c ks r bytes = navs_of_stream ks r (frames bytes)

@@ -1,5 +1,0 @@
-use Rattle.system_streams.proofs.Taking.{room_of}
-use Rattle.system_streams.proofs.run.SystemsFrameTaker.take.Goals as goal
-
-pub take_frame-requires : goal.take_frame-requires
-take_frame-requires g c = record { room = room_of c.args.self.now.kinds c.args.self.now.week c.args.state.now c.requires.few }

@@ -1,4 +1,0 @@
-pub mod Kinds
-pub mod Readings
-pub mod Streams
-pub mod Mirrors
