@@ -11,7 +11,7 @@ use Rattle.clap.specs.Walk.{Row, Rule, Text, rows_after, first_of, has_row, idle
 use Rattle.clap.specs.declared.error.Error.{Error}
 use Rattle.clap.specs.declared.error.kind.ErrorKind.TheVariants.{OutOfMemory}
 use Rattle.clap.specs.declared.parser.matches.Found.{Found}
-use Rattle.clap.specs.OptionValues.{kind_of}
+use Rattle.clap.specs.Values.{kind_of}
 use Rattle.clap.proofs.FaultLemmas.{leaf_fault}
 use Rattle.clap.proofs.WalkLemmas.{first_value-rows}
 use Rattle.bridge_engine.specs.Commands.{is_only_dashes, option_names, options_command, values_in}
