@@ -6,7 +6,7 @@ use Rattle.std.proofs.lemmas.Bool.{eqb-true, lt-ltb}
 use Rattle.nav_io.specs.Lines.{ends, pieces, without_cr}
 use Rattle.nav_io.specs.Mirrors.{EndsAt}
 use Rattle.nav_io.proofs.Surface.{pieces-line}
-use Rattle.rinex_read.specs.GrowingSink.{kept_with, padded}
+use Rattle.rinex_read.specs.Kept.{kept_with, padded}
 use Rattle.rinex_read.specs.Lines.{lines_of}
 
 -- ---- a line

@@ -2,7 +2,7 @@
 
 ghost use Rattle.std.specs.Prelude.{◌≡◌, ◌<◌, ◌∷◌, length, map, take};
 ghost use Rattle.nav_io.specs.Lines.{without_cr};
-ghost use Rattle.rinex_read.specs.GrowingSink.{padded};
+ghost use Rattle.rinex_read.specs.Kept.{padded};
 ghost use Rattle.rinex_read.specs.Lines.{lines_of};
 
 use nav_io::{first_end, length_without_cr};

@@ -10,7 +10,7 @@ pub use prog.Wp.{WpFn}
 pub use contract.Monad.{fact}
 pub use contract.Running.{tables}
 pub use types.Kit.{‵, raw, ◌⊛◌, some, later, prop, ◌$◌, ◌∵◌, !, qed, done, move, keep, drop, use1, use2, use3, split, join, fsplit, fjoin, fpack, feq_i, feq_l, pick, await, rewrite, regoal, suffices, frame, group}
-pub use types.MemoryRun.{enter, of_opd, unit_lit, addr, from, fld, hop, stop, no_more, and_then, assigns, init, returns}
+pub use types.Run.{enter, of_opd, unit_lit, addr, from, fld, hop, stop, no_more, and_then, assigns, init, returns}
 pub use types.Part.{agg, whole, sub}
 pub use types.ByLocal.{alloc_all, pass_all, free_all, look_at, look_in_at, get, get_in, through, sets, lands_as}
 pub use types.SemTy.{Body}

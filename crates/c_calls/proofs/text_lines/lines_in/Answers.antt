@@ -1,5 +1,5 @@
 use Rattle.std.proofs.Common.{◌≡◌, ℕ, sym, ap, ◌∙◌, arith, map, take}
-use Rattle.rinex_read.specs.GrowingSink.{padded}
+use Rattle.rinex_read.specs.Kept.{padded}
 use Rattle.rinex_read.specs.Lines.{lines_of}
 use Rattle.c_calls.proofs.LinesOfText.{next_kept, next_rest, none_left}
 use Rattle.c_calls.proofs.text_lines.lines_in.Goals as goal

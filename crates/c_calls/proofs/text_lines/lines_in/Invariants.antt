@@ -1,5 +1,5 @@
 use Rattle.std.proofs.Common.{◌≡◌, drop, map, take}
-use Rattle.rinex_read.specs.GrowingSink.{padded}
+use Rattle.rinex_read.specs.Kept.{padded}
 use Rattle.rinex_read.specs.Lines.{lines_of}
 use Rattle.c_calls.proofs.text_lines.lines_in.Given as goal
 
