@@ -18,6 +18,26 @@
 //! assert!(rt; text.as_slice() == b"5 R d3000047ea4b\n".as_slice());
 //! assert!(rt; read_line(b"5 L E05 00") == LineItem::Malformed);
 //! ```
+//!
+//! Lines of parts in a capture: the strings, subframes, pages and messages of kinds other than GPS
+//! LNAV and Galileo I/NAV, each with the second of its reception. The format is this project's own.
+//!
+//! A line is `stamp B KNN hex`: the time tag, `B` for bits, a capital letter for the kind of
+//! message with two digits for the satellite, and 10 to 80 hexadecimal digits, its words separated
+//! by one space.
+//!
+//! - [`read_part`] reads a line;
+//! - [`write_part`] appends one to a text.
+//!
+//! ```rust
+//! use capture_lines::LineText;
+//! use capture_lines::{read_part, write_part};
+//!
+//! let part = read_part(b"1365 B R05 0123456789abcdef0123456789abcdef").ok_or("a part")?;
+//! assert!(rt; part.kind == b'R' && part.satellite == 5 && part.bytes.len() == 16);
+//! let mut text = LineText::new();
+//! write_part(&part, &mut text);
+//! ```
 #![tactic(auto)]
 
 mod digits;
@@ -26,6 +46,12 @@ mod item;
 mod laws;
 mod line;
 mod numbers;
+mod part;
+mod part_laws;
+mod part_write;
+mod read;
+#[cfg(test)]
+mod tests;
 mod write;
 
 pub use crate::head::{CaptureHead, read_first};
@@ -35,4 +61,8 @@ pub use crate::laws::{
     spellings_are_lines, stamps_have_32_bits, texts_stand_for_their_items,
 };
 pub use crate::line::{read_line, read_line_into};
+pub use crate::part::PartLine;
+pub use crate::part_laws::{lines_are_short, parts_and_lines, written_parts_are_read};
+pub use crate::part_write::write_part;
+pub use crate::read::read_part;
 pub use crate::write::{LineText, write_half_line, write_lnav, write_rtcm};

@@ -4,6 +4,8 @@
 #![tactic(auto)]
 
 #[cfg(test)]
+mod all_kinds;
+#[cfg(test)]
 mod bits;
 #[cfg(test)]
 mod captures;
@@ -11,6 +13,8 @@ mod captures;
 mod checksum;
 #[cfg(test)]
 mod frames;
+#[cfg(test)]
+mod further_parts;
 #[cfg(test)]
 mod jumps;
 #[cfg(test)]

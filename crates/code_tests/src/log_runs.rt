@@ -4,14 +4,16 @@ use crate::samples::source_of;
 use framing::{SbfJudge, UbxJudge};
 use nav_io::MemSink;
 use one_run::Status;
-use receiver_log::{Receiver, run_log};
+use receiver_log::{AllKinds, Receiver, run_log};
 use std::alloc::{AllocError, Global};
 
-/// The two forms of logs.
+/// The two forms of logs, and the same with parts of further kinds.
 #[derive(Clone, Copy)]
 pub(crate) enum Form {
     Ubx,
     Sbf,
+    AllUbx,
+    AllSbf,
 }
 
 /// After how many bytes each read of the log ends, and the calls of the input, of the output and of
@@ -86,6 +88,8 @@ impl Log<'_> {
         match self.form {
             Form::Ubx => self.ends_as::<UbxJudge>(alloc),
             Form::Sbf => self.ends_as::<SbfJudge>(alloc),
+            Form::AllUbx => self.ends_as::<AllKinds<UbxJudge>>(alloc),
+            Form::AllSbf => self.ends_as::<AllKinds<SbfJudge>>(alloc),
         }
     }
 }

@@ -1,5 +1,6 @@
 //! Whole logs: what is written and reported of each.
 
+use crate::all_kinds::ALL_KINDS;
 use crate::jumps::JUMPS;
 use crate::log_runs::{Form, IN_TWO, Log};
 use crate::odd_logs::ODD_LOGS;
@@ -338,7 +339,7 @@ static LOGS: [Log; 11] = [
 
 #[test]
 fn logs_end_as_the_tables_say(rt: HostRuntime) -> Result<(), Fail> {
-    let tables: [&[Log]; 4] = [&LOGS, &ODD_LOGS, &SMALL_LOGS, &JUMPS];
+    let tables: [&[Log]; 5] = [&LOGS, &ODD_LOGS, &SMALL_LOGS, &JUMPS, &ALL_KINDS];
     for logs in &tables {
         for log in *logs {
             assert!(rt; log.ends_so(rt.alloc())?, "{}", log.name);

@@ -30,7 +30,7 @@ use Rattle.framing.specs.Messages.{messages}
 use Rattle.nav_bits.specs.Packed.{pack}
 use Rattle.receiver_log.specs.Words.{read_words, subframe_bytes, word_fields}
 use Rattle.receiver_log.specs.declared.said.LogContent.{LogContent}
-use Rattle.receiver_log.specs.declared.said.LogContent.TheVariants.{Refused, Subframe, Page}
+use Rattle.receiver_log.specs.declared.said.LogContent.TheVariants.{Refused, Subframe, Page, Part}
 use Rattle.receiver_log.specs.declared.said.LogReason.{LogReason}
 use Rattle.receiver_log.specs.declared.said.LogMessage.{LogMessage}
 use Rattle.receiver_log.specs.declared.said.LogMessage.TheVariants.{Other, Time, Received, Dated}
@@ -43,7 +43,7 @@ use Rattle.job_laws.specs.LogItems.{items_at, items_of_log}
 use Rattle.job_laws.specs.LogItems.{unless, week_of_log}
 use Rattle.job_laws.specs.LogReceived.{IsReceivedBy, IsReceivedThrough, parts_received}
 use Rattle.job_laws.proofs.LogBegins.{AreTimes, IsText, lines_are_text}
-use Rattle.job_laws.proofs.LogTexts.{log_texts}
+use Rattle.job_laws.proofs.LogTexts.{NoPart, NoParts, log_texts}
 use Rattle.job_laws.proofs.StatedRanges.{IsContent, IsStated, IsTime}
 
 -- what the laws of lines say
@@ -118,11 +118,22 @@ spelt_at laws week (Some time) (Page sat signal even odd) is =
             tt,
           ),
         )
+spelt_at laws week (Some time) (Part kind satellite bits) is = absurd is
 
 -- what is received is in its ranges
 abbrev AreContents : List Reception → Type 0
 AreContents [] = Unit {0}
 AreContents (x ∷ xs) = IsContent x.content × AreContents xs
+
+no_part : (content : LogContent) → IsContent content → NoPart content
+no_part (Refused reason) is = tt
+no_part (Subframe sat words) is = tt
+no_part (Page sat signal even odd) is = tt
+no_part (Part kind satellite bits) is = is
+
+no_parts : (rs : List Reception) → AreContents rs → NoParts rs
+no_parts [] are = tt
+no_parts (r ∷ rs) are = (no_part r.content are.0, no_parts rs are.1)
 
 -- all messages are
 abbrev AreStated : List LogMessage → Type 0
@@ -249,10 +260,14 @@ window_is =
     (last_digit 72 (omega arith) (omega arith)
     ∙ ap (λ t. t ++ 50 ∷ []) (one_digit 7 (omega arith))))
 
-head_ends : (week : ℕ) (rest : List ℕ) → head_line week ++ rest ≡ head_words week ++ 10 ∷ rest
+version_words : (codes "NAVCAP " ++ decimal 2) ++ codes " " ≡ codes "NAVCAP 2 "
+version_words = ap (λ t. (codes "NAVCAP " ++ t) ++ codes " ") (one_digit 2 (omega arith))
+
+head_ends : (week : ℕ) (rest : List ℕ) → head_line 2 week ++ rest ≡ head_words week ++ 10 ∷ rest
 unfolding head_words
 head_ends week rest =
-    append_assoc (codes "NAVCAP 2 " ++ decimal week) (codes " 7200\n") rest
+    ap (λ t. ((t ++ decimal week) ++ codes " 7200\n") ++ rest) version_words
+    ∙ append_assoc (codes "NAVCAP 2 " ++ decimal week) (codes " 7200\n") rest
     ∙ append_assoc (codes "NAVCAP 2 ") (decimal week) (codes " 7200\n" ++ rest)
     ∙ ap (λ t. codes "NAVCAP 2 " ++ t)
     (sym (append_assoc (decimal week) (codes " 7200") (10 ∷ rest)))
@@ -287,10 +302,10 @@ heard_by laws (Some week) log text contents is =
 pub heard_through : ChainLaws → (heading : Heading) (said : List ℕ → LogMessage)
     → ((m : List ℕ) → IsStated (said m)) → (bytes : List ℕ)
     → IsReceivedThrough (receptions_of said (messages (format_of heading) bytes))
-    (logs.capture_of heading said bytes)
+    (logs.capture_of heading said 2 bytes)
 heard_through laws heading said each bytes =
     let ms = messages (format_of heading) bytes in
     let log = receptions_of said ms in
     let are = received_are [] (map said ms) tt (messages_said said each ms) in
-    heard_by laws (week_of_log log) log (logs.capture_of heading said bytes) are.0
-    (lines_are_text log are.1 begun refl)
+    heard_by laws (week_of_log log) log (logs.capture_of heading said 2 bytes) are.0
+    (lines_are_text log are.1 (no_parts log are.0) (begun 2) refl refl)

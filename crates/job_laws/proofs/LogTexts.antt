@@ -7,7 +7,7 @@ use Rattle.capture_lines.specs.Texts.{half_text}
 use Rattle.capture_lines.specs.declared.item.LineItem.{LineItem}
 use Rattle.sent_captures.specs.Slots.{text_of_item, text_of_items}
 use Rattle.receiver_log.specs.declared.said.LogContent.{LogContent}
-use Rattle.receiver_log.specs.declared.said.LogContent.TheVariants.{Refused, Subframe, Page}
+use Rattle.receiver_log.specs.declared.said.LogContent.TheVariants.{Refused, Subframe, Page, Part}
 use Rattle.receiver_log.specs.declared.said.LogReason.{LogReason}
 use Rattle.receiver_log.specs.declared.reception.Reception.{Reception}
 use Rattle.receiver_log.specs.declared.state.LogState.{LogState}
@@ -57,27 +57,40 @@ page_goes s week time sat signal even odd None e is = record {
   week_is = rw e refl;
 }
 
+-- no part of a further kind
+abbrev pub NoPart : LogContent → Type 0
+NoPart (Refused reason) = Unit {0}
+NoPart (Subframe sat words) = Unit {0}
+NoPart (Page sat signal even odd) = Unit {0}
+NoPart (Part kind satellite bits) = ⊥
+
+abbrev pub NoParts : List Reception → Type 0
+NoParts [] = Unit {0}
+NoParts (x ∷ xs) = NoPart x.content × NoParts xs
+
 goes_at : (s : LogState) (week : ℕ) (time : Option ℕ) (content : LogContent) → s.week ≡ Some week
-    → Goes s week time content (given_at s time content)
-goes_at s week None (Refused reason) e = record { text_is = refl; week_is = e }
-goes_at s week None (Subframe sat words) e = record { text_is = refl; week_is = e }
-goes_at s week None (Page sat signal even odd) e =
+    → NoPart content → Goes s week time content (given_at s time content)
+goes_at s week None (Refused reason) e partless = record { text_is = refl; week_is = e }
+goes_at s week None (Subframe sat words) e partless = record { text_is = refl; week_is = e }
+goes_at s week None (Page sat signal even odd) e partless =
     record { text_is = refl; week_is = e }
-goes_at s week (Some time) (Refused reason) e =
+goes_at s week (Some time) (Refused reason) e partless =
     record { text_is = refl; week_is = e }
-goes_at s week (Some time) (Subframe sat words) e =
+goes_at s week (Some time) (Subframe sat words) e partless =
     subframe_goes s week time sat words _ e (ap (λ w. reason_in (week_of w time) time time) (sym e))
-goes_at s week (Some time) (Page sat signal even odd) e =
+goes_at s week (Some time) (Page sat signal even odd) e partless =
     page_goes s week time sat signal even odd _ e
     (ap (λ w. reason_in (week_of w (time - 1)) (time - 1) time) (sym e))
+goes_at s week None (Part kind satellite bits) e partless = absurd partless
+goes_at s week (Some time) (Part kind satellite bits) e partless = absurd partless
 
 -- the lines of receptions, where the first line was written
 pub lines_behind : (s : LogState) (week : ℕ) (rs : List Reception) → s.week ≡ Some week
-    → lines_from s rs ≡ log_texts week rs
+    → NoParts rs → lines_from s rs ≡ log_texts week rs
 unfolding log_texts
-lines_behind s week [] e = refl
-lines_behind s week (r ∷ rs) e =
-    let g = goes_at s week r.time r.content e in
-    ap (λ t. (given s r).text ++ t) (lines_behind (given s r).state week rs g.week_is)
+lines_behind s week [] e partless = refl
+lines_behind s week (r ∷ rs) e partless =
+    let g = goes_at s week r.time r.content e partless.0 in
+    ap (λ t. (given s r).text ++ t) (lines_behind (given s r).state week rs g.week_is partless.1)
     ∙ ap (λ t. t ++ log_texts week rs) g.text_is
     ∙ sym (texts_append (items_at week r.time r.content) (items_of_log week rs))

@@ -24,7 +24,7 @@ use Rattle.receiver_log.specs.Ubx.{galileo_words, gps_words, page_with, payload_
 use Rattle.receiver_log.specs.Ubx.{payload_content, satellite_of, subframe_with, ubx_message}
 use Rattle.receiver_log.specs.Ubx.{words_content}
 use Rattle.receiver_log.specs.declared.said.LogContent.{LogContent}
-use Rattle.receiver_log.specs.declared.said.LogContent.TheVariants.{Refused, Subframe, Page}
+use Rattle.receiver_log.specs.declared.said.LogContent.TheVariants.{Refused, Subframe, Page, Part}
 use Rattle.receiver_log.specs.declared.said.LogReason.TheVariants.{Length}
 use Rattle.receiver_log.specs.declared.said.LogMessage.{LogMessage}
 use Rattle.receiver_log.specs.declared.said.LogMessage.TheVariants.{Other, Time, Received, Dated}
@@ -38,11 +38,13 @@ IsTime (Some time) = (604800 * 1025 ≤ time) × (time ≤ 604800 * 8192)
 abbrev pub IsHalf : List ℕ → Type 0
 IsHalf bits = IsBytes bits × (length bits ≡ 15)
 
+-- what is read has no parts of further kinds
 abbrev pub IsContent : LogContent → Type 0
 IsContent (Refused reason) = Unit {0}
 IsContent (Subframe sat words) = (sat.system ≡ Gps) × IsSat sat.system sat.number
 IsContent (Page sat signal even odd) =
     (sat.system ≡ Gal) × (IsSat sat.system sat.number × (IsHalf even × IsHalf odd))
+IsContent (Part kind satellite bits) = ⊥
 
 abbrev pub IsStated : LogMessage → Type 0
 IsStated Other = Unit {0}

@@ -4,7 +4,7 @@ use Rattle.capture_lines.specs.declared.item.LineItem.{LineItem}
 use Rattle.capture_lines.specs.declared.item.LineItem.TheVariants.{Lnav, Half}
 use Rattle.receiver_log.specs.Words.{read_words, subframe_bytes}
 use Rattle.receiver_log.specs.declared.said.LogContent.{LogContent}
-use Rattle.receiver_log.specs.declared.said.LogContent.TheVariants.{Refused, Subframe, Page}
+use Rattle.receiver_log.specs.declared.said.LogContent.TheVariants.{Refused, Subframe, Page, Part}
 use Rattle.receiver_log.specs.declared.said.LogReason.{LogReason}
 use Rattle.receiver_log.specs.declared.reception.Reception.{Reception}
 use Rattle.receiver_log.specs.Log.{reason_in}
@@ -15,6 +15,7 @@ first_second None content = None
 first_second (Some time) (Refused reason) = None
 first_second (Some time) (Subframe sat words) = Some time
 first_second (Some time) (Page sat signal even odd) = Some (time - 1)
+first_second (Some time) (Part kind satellite bits) = None
 
 -- the week of the second two hours before a first line; if there is no line, that of what follows
 abbrev pub week_before : Option ℕ → Option ℕ → Option ℕ
@@ -31,7 +32,7 @@ abbrev pub unless : Option LogReason → List LineItem → List LineItem
 unless None items = items
 unless (Some reason) items = []
 
--- the items of a subframe or of a page in a capture of this week
+-- the items of a subframe or of a page in a capture of this week; captures of version 2 have no parts of further kinds
 abbrev pub items_at : ℕ → Option ℕ → LogContent → List LineItem
 items_at week None content = []
 items_at week (Some time) (Refused reason) = []
@@ -42,6 +43,7 @@ items_at week (Some time) (Page sat signal even odd) =
     unless (reason_in week (time - 1) time)
     (Half (time - 1 - 604800 * week) sat signal even ∷ Half (time - 604800 * week) sat signal odd
     ∷ [])
+items_at week (Some time) (Part kind satellite bits) = []
 
 -- the items of what a log yields
 abbrev pub items_of_log : ℕ → List Reception → List LineItem

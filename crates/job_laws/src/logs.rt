@@ -19,10 +19,10 @@ ghost use Rattle.job_laws.specs.LogTaken.{IsTaken, IsTakenThrough};
 pub fn a_log_is_received_through_its_capture()
     ensures ubx { (bytes : List ℕ) → IsReceivedThrough
         (receptions_of ubx_message (messages (format_of ubx) bytes))
-        (capture_of ubx ubx_message bytes) }
+        (capture_of ubx ubx_message 2 bytes) }
     ensures sbf { (bytes : List ℕ) → IsReceivedThrough
         (receptions_of sbf_message (messages (format_of sbf) bytes))
-        (capture_of sbf sbf_message bytes) }
+        (capture_of sbf sbf_message 2 bytes) }
 {
     nav_io::written_lines_are_given();
     capture_lines::spellings_are_lines();
@@ -45,10 +45,10 @@ pub fn a_received_log_is_a_capture()
 pub fn a_log_is_converted_through_its_capture()
     ensures ubx { (bytes : List ℕ) → IsTakenThrough
         (receptions_of ubx_message (messages (format_of ubx) bytes))
-        (capture_of ubx ubx_message bytes) }
+        (capture_of ubx ubx_message 2 bytes) }
     ensures sbf { (bytes : List ℕ) → IsTakenThrough
         (receptions_of sbf_message (messages (format_of sbf) bytes))
-        (capture_of sbf sbf_message bytes) }
+        (capture_of sbf sbf_message 2 bytes) }
 {
     a_log_is_received_through_its_capture();
 }

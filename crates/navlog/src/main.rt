@@ -1,5 +1,6 @@
 //! `navlog` reads a GNSS receiver's log and writes it as a capture: `navlog --from ubx < log.ubx`
-//! does so for u-blox's UBX, and `navlog --from sbf` for Septentrio's SBF.
+//! does so for u-blox's UBX, and `navlog --from sbf` for Septentrio's SBF. With `--all` after it,
+//! parts of further kinds are written too, in a capture of version 3.
 //!
 //! The report is on standard error: a line for each message that is rejected, and nine of counts.
 //! The exit status is 0 if all was read and written, 2 if the arguments are neither of these, 3,
@@ -10,7 +11,7 @@
 use framing::{SbfJudge, UbxJudge};
 use nav_io::{ReadSource, WriteSink};
 use one_run::Status;
-use receiver_log::{Receiver, run_log};
+use receiver_log::{AllKinds, Receiver, run_log};
 use std::env;
 use std::io::ErrorKind;
 use std::process::ExitCode;
@@ -56,6 +57,20 @@ fn form_of(words: &[String]) -> Option<Form> {
     }
 }
 
+// The format that the arguments name, and whether they end in `--all`.
+fn job_of(words: &[String]) -> Option<(Form, bool)> {
+    match words {
+        [named @ .., last] => {
+            if last.as_str() == "--all" {
+                Some((form_of(named)?, true))
+            } else {
+                Some((form_of(words)?, false))
+            }
+        }
+        [] => None,
+    }
+}
+
 // Runs over standard input, as over a log of this receiver.
 fn run<J: Receiver>(rt: &HostRuntime) -> Status {
     let mut input = ReadSource::new(rt.stdin());
@@ -77,9 +92,11 @@ fn status_of(rt: &HostRuntime) -> Status {
             return Status::NoMemory;
         }
     }
-    match form_of(&words) {
-        Some(Form::Ubx) => run::<UbxJudge>(rt),
-        Some(Form::Sbf) => run::<SbfJudge>(rt),
+    match job_of(&words) {
+        Some((Form::Ubx, false)) => run::<UbxJudge>(rt),
+        Some((Form::Sbf, false)) => run::<SbfJudge>(rt),
+        Some((Form::Ubx, true)) => run::<AllKinds<UbxJudge>>(rt),
+        Some((Form::Sbf, true)) => run::<AllKinds<SbfJudge>>(rt),
         None => Status::NoJob,
     }
 }

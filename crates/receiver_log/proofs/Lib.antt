@@ -7,3 +7,5 @@ mod LogSteps
 mod LogEnds
 mod OneStep
 mod SourceSteps
+mod OneReader
+mod Named

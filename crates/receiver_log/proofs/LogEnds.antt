@@ -54,15 +54,15 @@ IsEarly h said bytes heard =
     (rest : List Reception) × (heard ≡ early_receptions h said bytes ++ rest)
 
 -- the log was read so far, and the lines that came were written
-pub record SoFar (h : Heading) (said : List ℕ → LogMessage)
+pub record SoFar (h : Heading) (said : List ℕ → LogMessage) (version : ℕ)
     (left left_new written written_new reported reported_new : Option (List ℕ)) (a : LogView) :
     Type 0 where
   pub text : List ℕ
-  pub reads : Reads h said fresh a left left_new [] text (Appends reported reported_new)
+  pub reads : Reads h said (fresh version) a left left_new [] text (Appends reported reported_new)
   pub grew : Appends written written_new text
   pub early : IsEarly h said reads.bytes reads.hears.heard
 
-module _ (h : Heading) (said : List ℕ → LogMessage) where
+module _ (h : Heading) (said : List ℕ → LogMessage) (version : ℕ) where
   -- ---- what was passed before the last piece
 
   -- the decided receptions to come from the start are those of the definition
@@ -73,7 +73,7 @@ module _ (h : Heading) (said : List ℕ → LogMessage) where
 
   -- those that all but the last 16,384 bytes decide are among those before the last piece
   early_on : (a : LogView) (x y : List ℕ) (xs before : List Reception) → Grows h said
-      → Passes h said fresh a x xs → IsEarly h said x xs → (a.ended ≡ true → y ≡ [])
+      → Passes h said (fresh version) a x xs → IsEarly h said x xs → (a.ended ≡ true → y ≡ [])
       → (y ≡ []) ⊎ LastPiece h said a y before → IsEarly h said (x ++ y) (xs ++ before)
   early_on a x y xs before grows passes early stays pieces = by_end a.ended refl pieces where
     none : y ≡ [] → IsEarly h said (x ++ y) (xs ++ before)
@@ -111,12 +111,13 @@ module _ (h : Heading) (said : List ℕ → LogMessage) where
     by_end true over (inr last) = none (stays over)
 
   -- nothing was read yet
-  pub start : (left w r : Option (List ℕ)) (a : LogView) → a ≡ fresh → SoFar h said left left w w r r a
+  pub start : (left w r : Option (List ℕ)) (a : LogView) → a ≡ fresh version
+      → SoFar h said version left left w w r r a
   unfolding reads_none hears_nothing
   start left w r a is = rw is (record {
     text = [];
-    reads = reads_none h said fresh fresh left [] [] (Appends r r) refl refl
-        (hears_nothing h said fresh [] (Appends r r) (appends_none r));
+    reads = reads_none h said (fresh version) (fresh version) left [] [] (Appends r r) refl refl
+        (hears_nothing h said (fresh version) [] (Appends r r) (appends_none r));
     grew = appends_none w;
     early = ([], refl);
   })
@@ -142,15 +143,15 @@ module _ (h : Heading) (said : List ℕ → LogMessage) where
 
   next : (left l1 l2 w w1 r r1 : Option (List ℕ)) (a b : LogView) (old lines : List ℕ)
       (p q : List ℕ → Type 0) → Joins (Appends r r1) p q
-      → (far : SoFar h said left l1 w w1 r r1 a) → old ≡ [] → Reads h said a b l1 l2 old lines p
-      → Reads h said fresh b left l2 [] (far.text ++ lines) q
+      → (far : SoFar h said version left l1 w w1 r r1 a) → old ≡ [] → Reads h said a b l1 l2 old lines p
+      → Reads h said (fresh version) b left l2 [] (far.text ++ lines) q
   next left l1 l2 w w1 r r1 a b old lines p q join far none m =
-      reads_on h said fresh a b left l1 l2 [] far.text (far.text ++ lines) (Appends r r1) p q join
+      reads_on h said (fresh version) a b left l1 l2 [] far.text (far.text ++ lines) (Appends r r1) p q join
       far.reads (behind a b l1 l2 old lines far.text p none m)
 
   -- what was passed before the last piece begins as it must
   next_early : (left l1 l2 w w1 r r1 : Option (List ℕ)) (a b : LogView) (old lines : List ℕ)
-      (p : List ℕ → Type 0) (far : SoFar h said left l1 w w1 r r1 a)
+      (p : List ℕ → Type 0) (far : SoFar h said version left l1 w w1 r r1 a)
       (m : Reads h said a b l1 l2 old lines p) (e : Early h said a m.bytes m.hears.heard)
       → Grows h said
       → IsEarly h said (far.reads.bytes ++ m.bytes) (far.reads.hears.heard ++ e.before)
@@ -160,7 +161,7 @@ module _ (h : Heading) (said : List ℕ → LogMessage) where
 
   -- and so does all that was passed
   next_all : (left l1 l2 w w1 r r1 : Option (List ℕ)) (a b : LogView) (old lines : List ℕ)
-      (p : List ℕ → Type 0) (far : SoFar h said left l1 w w1 r r1 a)
+      (p : List ℕ → Type 0) (far : SoFar h said version left l1 w w1 r r1 a)
       (m : Reads h said a b l1 l2 old lines p) (e : Early h said a m.bytes m.hears.heard)
       → Grows h said
       → IsEarly h said (far.reads.bytes ++ m.bytes) (far.reads.hears.heard ++ m.hears.heard)
@@ -176,9 +177,9 @@ module _ (h : Heading) (said : List ℕ → LogMessage) where
   -- lines came, and were written
   pub further : (left l1 l2 w w1 w2 r r1 r2 : Option (List ℕ)) (a b : LogView)
       (old lines piece : List ℕ) → Grows h said
-      → SoFar h said left l1 w w1 r r1 a → old ≡ []
+      → SoFar h said version left l1 w w1 r r1 a → old ≡ []
       → Advances h said a b l1 l2 old lines (Appends r1 r2) → piece ≡ lines → Appends w1 w2 piece
-      → SoFar h said left l2 w w2 r r2 b
+      → SoFar h said version left l2 w w2 r r2 b
   unfolding next behind reads_on hears_on
   further left l1 l2 w w1 w2 r r1 r2 a b old lines piece grows far none m is put = record {
     text = far.text ++ lines;
@@ -207,7 +208,7 @@ module _ (h : Heading) (said : List ℕ → LogMessage) where
       sym (comes_as_defined false [] (map said (messages_past (format_of h) false bytes 0)))
 
   module _ (a : LogView) (bytes lines : List ℕ) (p : List ℕ → Type 0)
-      (m : ReceivesLog h said fresh a bytes [] lines p) where
+      (m : ReceivesLog h said (fresh version) a bytes [] lines p) where
     received : receptions_of said (messages (format_of h) bytes)
         ≡ m.heard ++ ahead h said false a.place []
     received = sym (start_ahead false bytes) ∙ m.passes.stream [] (λ over. refl)
@@ -225,7 +226,7 @@ module _ (h : Heading) (said : List ℕ → LogMessage) where
 
     counted : a.ended ≡ true → IsIdle h said a → (counts : LogCounts)
         → counts.log ≡ a.place.counts → counts.capture ≡ a.state.counts
-        → counts ≡ counts_of said (messages (format_of h) bytes)
+        → counts ≡ counts_of said version (messages (format_of h) bytes)
     counted over idle counts log capture =
         let all = messages (format_of h) bytes in
         let log_is : counts_after said none_counted all ≡ a.place.counts =
@@ -236,7 +237,7 @@ module _ (h : Heading) (said : List ℕ → LogMessage) where
         ap (λ t. record { log = t; capture = counts.capture }) (log ∙ sym log_is)
         ∙ ap (λ t. record { log = counts_after said none_counted all; capture = t })
         (capture ∙ ap (λ t. t.counts) (m.state_is
-        ∙ ap (state_after begun) (sym (all_received over idle))))
+        ∙ ap (state_after (begun version)) (sym (all_received over idle))))
 
     -- all bytes are received so
     abbrev Begins : List ℕ → List Reception → Type 0
@@ -248,52 +249,52 @@ module _ (h : Heading) (said : List ℕ → LogMessage) where
 
     -- the lines that came begin the capture, and the refusals the report
     capture_front : (all : List ℕ) (more : List Reception) → Begins all more
-        → IsPrefix lines (capture_of h said all)
+        → IsPrefix lines (capture_of h said version all)
     capture_front all more is =
-        subst (λ rs. IsPrefix lines (lines_from begun rs)) (sym is) (
-          lines_from (state_after begun m.heard) more,
-          lines_on begun m.heard more
-              ∙ ap (λ t. t ++ lines_from (state_after begun m.heard) more) (sym m.lines_are),
+        subst (λ rs. IsPrefix lines (lines_from (begun version) rs)) (sym is) (
+          lines_from (state_after (begun version) m.heard) more,
+          lines_on (begun version) m.heard more
+              ∙ ap (λ t. t ++ lines_from (state_after (begun version) m.heard) more) (sym m.lines_are),
         )
 
     refusals_front : (all : List ℕ) (more : List Reception) → Begins all more
-        → IsPrefix (refusals_from begun m.heard)
-        (refusals_from begun (receptions_of said (messages (format_of h) all)))
+        → IsPrefix (refusals_from (begun version) m.heard)
+        (refusals_from (begun version) (receptions_of said (messages (format_of h) all)))
     refusals_front all more is =
-        subst (λ rs. IsPrefix (refusals_from begun m.heard) (refusals_from begun rs)) (sym is)
-        (refusals_from (state_after begun m.heard) more, refusals_on begun m.heard more)
+        subst (λ rs. IsPrefix (refusals_from (begun version) m.heard) (refusals_from (begun version) rs)) (sym is)
+        (refusals_from (state_after (begun version) m.heard) more, refusals_on (begun version) m.heard more)
 
     report_front : (all : List ℕ) (more : List Reception) → Begins all more
-        → IsPrefix (refusals_from begun m.heard) (report_of h said all)
+        → IsPrefix (refusals_from (begun version) m.heard) (report_of h said version all)
     report_front all more is =
-        let refusals = refusals_from begun (receptions_of said (messages (format_of h) all)) in
-        prefix_trans (refusals_from begun m.heard) refusals (report_of h said all)
+        let refusals = refusals_from (begun version) (receptions_of said (messages (format_of h) all)) in
+        prefix_trans (refusals_from (begun version) m.heard) refusals (report_of h said version all)
         (refusals_front all more is) (prefix_more refusals _)
 
   -- ---- in the words of the contract
 
-  accepts : {S T U : Type 0} (b : World S T U) → Accepts (log_meaning h said) b
+  accepts : {S T U : Type 0} (b : World S T U) → Accepts (log_meaning h said version) b
   accepts b = each b.left where
     each : (o : Option (List ℕ))
-        → IfSome o (λ bytes. IsSome ((log_meaning h said).counts bytes))
+        → IfSome o (λ bytes. IsSome ((log_meaning h said version).counts bytes))
     each None = tt
     each (Some bytes) = refl
 
   -- the receptions that all but the last 16,384 bytes decide give the least
   least_lines : (bytes : List ℕ) (xs : List Reception) (text : List ℕ) → IsEarly h said bytes xs
-      → text ≡ lines_from begun xs → IsPrefix (least_capture h said bytes) text
+      → text ≡ lines_from (begun version) xs → IsPrefix (least_capture h said version bytes) text
   least_lines bytes xs text early is =
       let first = early_receptions h said bytes in (
-        lines_from (state_after begun first) early.0,
-        is ∙ ap (lines_from begun) early.1 ∙ lines_on begun first early.0,
+        lines_from (state_after (begun version) first) early.0,
+        is ∙ ap (lines_from (begun version)) early.1 ∙ lines_on (begun version) first early.0,
       )
 
   least_refusals : (bytes : List ℕ) (xs : List Reception) → IsEarly h said bytes xs
-      → IsPrefix (least_report h said bytes) (refusals_from begun xs)
+      → IsPrefix (least_report h said version bytes) (refusals_from (begun version) xs)
   least_refusals bytes xs early =
       let first = early_receptions h said bytes in (
-        refusals_from (state_after begun first) early.0,
-        ap (refusals_from begun) early.1 ∙ refusals_on begun first early.0,
+        refusals_from (state_after (begun version) first) early.0,
+        ap (refusals_from (begun version)) early.1 ∙ refusals_on (begun version) first early.0,
       )
 
   -- ---- where it stopped
@@ -309,32 +310,32 @@ module _ (h : Heading) (said : List ℕ → LogMessage) where
   -- what is written and reported of decided messages
   abbrev decided_texts : Texts
   decided_texts = record {
-    output = decided_capture h said;
-    report = decided_report h said;
+    output = decided_capture h said version;
+    report = decided_report h said version;
   }
 
-  lines_longer : (xs ys : List Reception) → IsPrefix (lines_from begun xs) (lines_from begun (xs ++ ys))
-  lines_longer xs ys = (lines_from (state_after begun xs) ys, lines_on begun xs ys)
+  lines_longer : (xs ys : List Reception) → IsPrefix (lines_from (begun version) xs) (lines_from (begun version) (xs ++ ys))
+  lines_longer xs ys = (lines_from (state_after (begun version) xs) ys, lines_on (begun version) xs ys)
 
   refusals_longer : (xs ys : List Reception)
-      → IsPrefix (refusals_from begun xs) (refusals_from begun (xs ++ ys))
-  refusals_longer xs ys = (refusals_from (state_after begun xs) ys, refusals_on begun xs ys)
+      → IsPrefix (refusals_from (begun version) xs) (refusals_from (begun version) (xs ++ ys))
+  refusals_longer xs ys = (refusals_from (state_after (begun version) xs) ys, refusals_on (begun version) xs ys)
 
   -- all lines and refusals were written and reported
   all_done : Grows h said → (bytes : List ℕ) (w w1 u u1 : Option (List ℕ))
-      → AppendsAll w w1 (lines_from begun (receptions_of said (messages (format_of h) bytes)))
-      → AppendsAll u u1 (refusals_from begun (receptions_of said (messages (format_of h) bytes)))
+      → AppendsAll w w1 (lines_from (begun version) (receptions_of said (messages (format_of h) bytes)))
+      → AppendsAll u u1 (refusals_from (begun version) (receptions_of said (messages (format_of h) bytes)))
       → StopAtOnePlace (Some decided_texts) (Some bytes) w w1 u u1
   all_done grows bytes w w1 u u1 wrote told =
       let all = receptions_of said (messages (format_of h) bytes) in
       all_stopped decided_texts (Some bytes) w w1 u u1 (λ front begins.
       let some = decided_receptions said (decided (format_of h) front) in
       let first = decided_first grows bytes front begins in (
-        all_within w w1 (lines_from begun some) (lines_from begun all)
-            (subst (λ l. IsPrefix (lines_from begun some) (lines_from begun l)) (sym first.1)
+        all_within w w1 (lines_from (begun version) some) (lines_from (begun version) all)
+            (subst (λ l. IsPrefix (lines_from (begun version) some) (lines_from (begun version) l)) (sym first.1)
             (lines_longer some first.0)) wrote,
-        all_within u u1 (refusals_from begun some) (refusals_from begun all)
-            (subst (λ l. IsPrefix (refusals_from begun some) (refusals_from begun l)) (sym first.1)
+        all_within u u1 (refusals_from (begun version) some) (refusals_from (begun version) all)
+            (subst (λ l. IsPrefix (refusals_from (begun version) some) (refusals_from (begun version) l)) (sym first.1)
             (refusals_longer some first.0)) told,
       ))
 
@@ -342,36 +343,36 @@ module _ (h : Heading) (said : List ℕ → LogMessage) where
   stopped_at : Grows h said → (bytes : List ℕ) (done last more : List Reception)
       (w w1 u u1 : Option (List ℕ)) → length last ≤ 1
       → receptions_of said (messages (format_of h) bytes) ≡ (done ++ last) ++ more
-      → AppendsBetween w w1 (lines_from begun done) (lines_from begun (done ++ last))
-      → AppendsBetween u u1 (refusals_from begun done) (refusals_from begun (done ++ last))
+      → AppendsBetween w w1 (lines_from (begun version) done) (lines_from (begun version) (done ++ last))
+      → AppendsBetween u u1 (refusals_from (begun version) done) (refusals_from (begun version) (done ++ last))
       → StopAtOnePlace (Some decided_texts) (Some bytes) w w1 u u1
   stopped_at grows bytes done [] [] w w1 u u1 few all wrote told =
       let is : receptions_of said (messages (format_of h) bytes) ≡ done =
       all ∙ append-nil (done ++ []) ∙ append-nil done in
       all_done grows bytes w w1 u u1
-      (subst (λ l. AppendsAll w w1 (lines_from begun l)) (sym is) (all_of w w1 _ _ wrote))
-      (subst (λ l. AppendsAll u u1 (refusals_from begun l)) (sym is) (all_of u u1 _ _ told))
+      (subst (λ l. AppendsAll w w1 (lines_from (begun version) l)) (sym is) (all_of w w1 _ _ wrote))
+      (subst (λ l. AppendsAll u u1 (refusals_from (begun version) l)) (sym is) (all_of u u1 _ _ told))
   stopped_at grows bytes done [] (x ∷ more) w w1 u u1 few all wrote told =
       let same = append-nil done in
       stopped_in decided_texts (λ t. receptions_of said (messages (format_of h) t))
-      (λ t. decided_receptions said (decided (format_of h) t)) (lines_from begun)
-      (refusals_from begun) lines_longer refusals_longer bytes done more x
+      (λ t. decided_receptions said (decided (format_of h) t)) (lines_from (begun version))
+      (refusals_from (begun version)) lines_longer refusals_longer bytes done more x
       (all ∙ ap (λ l. l ++ x ∷ more) same) (decided_first grows bytes) (λ front begins. refl)
       (λ front begins. refl) w w1 u u1
-      (between_within w w1 (lines_from begun done) (lines_from begun done)
-      (lines_from begun (done ++ [])) (lines_from begun (done ++ x ∷ []))
-      (prefix_same (lines_from begun done))
-      (subst (λ l. IsPrefix (lines_from begun l) (lines_from begun (done ++ x ∷ []))) (sym same)
+      (between_within w w1 (lines_from (begun version) done) (lines_from (begun version) done)
+      (lines_from (begun version) (done ++ [])) (lines_from (begun version) (done ++ x ∷ []))
+      (prefix_same (lines_from (begun version) done))
+      (subst (λ l. IsPrefix (lines_from (begun version) l) (lines_from (begun version) (done ++ x ∷ []))) (sym same)
       (lines_longer done (x ∷ []))) wrote)
-      (between_within u u1 (refusals_from begun done) (refusals_from begun done)
-      (refusals_from begun (done ++ [])) (refusals_from begun (done ++ x ∷ []))
-      (prefix_same (refusals_from begun done))
-      (subst (λ l. IsPrefix (refusals_from begun l) (refusals_from begun (done ++ x ∷ [])))
+      (between_within u u1 (refusals_from (begun version) done) (refusals_from (begun version) done)
+      (refusals_from (begun version) (done ++ [])) (refusals_from (begun version) (done ++ x ∷ []))
+      (prefix_same (refusals_from (begun version) done))
+      (subst (λ l. IsPrefix (refusals_from (begun version) l) (refusals_from (begun version) (done ++ x ∷ [])))
       (sym same) (refusals_longer done (x ∷ []))) told)
   stopped_at grows bytes done (x ∷ []) more w w1 u u1 few all wrote told =
       stopped_in decided_texts (λ t. receptions_of said (messages (format_of h) t))
-      (λ t. decided_receptions said (decided (format_of h) t)) (lines_from begun)
-      (refusals_from begun) lines_longer refusals_longer bytes done more x
+      (λ t. decided_receptions said (decided (format_of h) t)) (lines_from (begun version))
+      (refusals_from (begun version)) lines_longer refusals_longer bytes done more x
       (all ∙ append_assoc done (x ∷ []) more) (decided_first grows bytes) (λ front begins. refl)
       (λ front begins. refl) w w1 u u1 wrote told
   stopped_at grows bytes done (x ∷ y ∷ zs) more w w1 u u1 few all wrote told =
@@ -380,33 +381,33 @@ module _ (h : Heading) (said : List ℕ → LogMessage) where
   -- a run that ended early
   broke : {S T U : Type 0} (b a : World S T U) (fault : BridgeFault) (v : LogView)
       (lines some told : List ℕ) (p : List ℕ → Type 0)
-      (m : Reads h said fresh v b.left a.left [] lines p)
-      → AppendsBetween b.written a.written some lines → IsPrefix (least_capture h said m.bytes) some
-      → AppendsBetween b.reported a.reported told (refusals_from begun m.hears.heard)
-      → IsPrefix (least_report h said m.bytes) told
+      (m : Reads h said (fresh version) v b.left a.left [] lines p)
+      → AppendsBetween b.written a.written some lines → IsPrefix (least_capture h said version m.bytes) some
+      → AppendsBetween b.reported a.reported told (refusals_from (begun version) m.hears.heard)
+      → IsPrefix (least_report h said version m.bytes) told
       → Grows h said → (done last : List Reception) → m.hears.heard ≡ done ++ last
       → length last ≤ 1
-      → AppendsBetween b.written a.written (lines_from begun done) lines
-      → AppendsBetween b.reported a.reported (refusals_from begun done)
-      (refusals_from begun m.hears.heard)
+      → AppendsBetween b.written a.written (lines_from (begun version) done) lines
+      → AppendsBetween b.reported a.reported (refusals_from (begun version) done)
+      (refusals_from (begun version) m.hears.heard)
       → HasItsCause {T = Unit {0}} (faults_in b) (faults_in a) (Err fault)
-      → Says (log_meaning h said) m.bytes b a fault → IsBroken (log_meaning h said) b a fault
+      → Says (log_meaning h said version) m.bytes b a fault → IsBroken (log_meaning h said version) b a fault
   broke b a fault v lines some told p m put least report least_told grows done last heard few upto
       upto_told cause says = record {
         taken = m.bytes;
         consumes = m.consumes;
-        text = between_within b.written a.written (least_capture h said m.bytes) some lines _ least
+        text = between_within b.written a.written (least_capture h said version m.bytes) some lines _ least
             (capture_front v m.bytes lines p m.hears m.bytes _ (received v m.bytes lines p m.hears))
             put;
-        told = between_within b.reported a.reported (least_report h said m.bytes) told
-            (refusals_from begun m.hears.heard) _ least_told
+        told = between_within b.reported a.reported (least_report h said version m.bytes) told
+            (refusals_from (begun version) m.hears.heard) _ least_told
             (report_front v m.bytes lines p m.hears m.bytes _ (received v m.bytes lines p m.hears))
             report;
-        ahead = ahead_by (log_meaning h said).whole b.left a.left b.written a.written
+        ahead = ahead_by (log_meaning h said version).whole b.left a.left b.written a.written
             b.reported a.reported m.bytes m.consumes (λ rest is. (
               prefix_within b.written a.written lines _
                   (capture_front v m.bytes lines p m.hears (m.bytes ++ rest) _ (all rest is)) wrote,
-              prefix_within b.reported a.reported (refusals_from begun m.hears.heard) _
+              prefix_within b.reported a.reported (refusals_from (begun version) m.hears.heard) _
                   (report_front v m.bytes lines p m.hears (m.bytes ++ rest) _ (all rest is)) said_so,
             ));
         stopped = with_rest b.left a.left m.bytes
@@ -414,12 +415,12 @@ module _ (h : Heading) (said : List ℕ → LogMessage) where
             a.reported) m.consumes (λ rest is.
             stopped_at grows (m.bytes ++ rest) done last _ b.written a.written b.reported a.reported
             few (all rest is ∙ ap (λ l. l ++ ahead h said false v.place rest) heard)
-            (subst (AppendsBetween b.written a.written (lines_from begun done))
-            (m.hears.lines_are ∙ ap (lines_from begun) heard) upto)
-            (subst (λ l. AppendsBetween b.reported a.reported (refusals_from begun done)
-            (refusals_from begun l)) heard upto_told));
+            (subst (AppendsBetween b.written a.written (lines_from (begun version) done))
+            (m.hears.lines_are ∙ ap (lines_from (begun version)) heard) upto)
+            (subst (λ l. AppendsBetween b.reported a.reported (refusals_from (begun version) done)
+            (refusals_from (begun version) l)) heard upto_told));
         counts_last = inl (with_rest b.left a.left m.bytes _ m.consumes (λ rest is.
-            prefix_within b.reported a.reported (refusals_from begun m.hears.heard) _
+            prefix_within b.reported a.reported (refusals_from (begun version) m.hears.heard) _
             (refusals_front v m.bytes lines p m.hears (m.bytes ++ rest) _ (all rest is)) said_so));
         cause = cause;
         leaves = record { unread = λ e. cc e; silent = λ e. cc e };
@@ -429,8 +430,8 @@ module _ (h : Heading) (said : List ℕ → LogMessage) where
       wrote : AppendsPrefix b.written a.written lines
       wrote = prefix_of b.written a.written some lines put
 
-      said_so : AppendsPrefix b.reported a.reported (refusals_from begun m.hears.heard)
-      said_so = prefix_of b.reported a.reported told (refusals_from begun m.hears.heard) report
+      said_so : AppendsPrefix b.reported a.reported (refusals_from (begun version) m.hears.heard)
+      said_so = prefix_of b.reported a.reported told (refusals_from (begun version) m.hears.heard) report
 
       all : (rest : List ℕ) → a.left ≡ Some rest
           → Begins v m.bytes lines p m.hears (m.bytes ++ rest) (ahead h said false v.place rest)
@@ -439,23 +440,23 @@ module _ (h : Heading) (said : List ℕ → LogMessage) where
 
   stop_says : {S T U : Type 0} (b a : World S T U) (fault : BridgeFault) (v : LogView)
       (waiting text : List ℕ)
-      (m : Reads h said fresh v b.left a.left [] (text ++ waiting)
+      (m : Reads h said (fresh version) v b.left a.left [] (text ++ waiting)
       (Reports fault b.reported a.reported))
       → Appends b.written a.written text
       → Stops h said v waiting b.never_fails b.reads_failed a.reads_failed b.reports_failed
       a.reports_failed fault
-      → Says (log_meaning h said) m.bytes b a fault
+      → Says (log_meaning h said version) m.bytes b a fault
   stop_says b a ReadFault v waiting text m put (rose, later, never, none, on, idle, silent) =
       let is = all_decided v m.bytes (text ++ waiting) _ m.hears on idle in
-      let lines : text ≡ decided_capture h said m.bytes =
+      let lines : text ≡ decided_capture h said version m.bytes =
       sym (append-nil text) ∙ ap (λ t. text ++ t) (sym none) ∙ m.hears.lines_are
-      ∙ ap (lines_from begun) (sym is) in (
+      ∙ ap (lines_from (begun version)) (sym is) in (
         refl,
         rose,
         never,
         (
           subst (Appends b.written a.written) lines put,
-          subst (λ rs. Appends b.reported a.reported (refusals_from begun rs)) (sym is)
+          subst (λ rs. Appends b.reported a.reported (refusals_from (begun version) rs)) (sym is)
               m.hears.told,
         ),
       )
@@ -481,37 +482,37 @@ module _ (h : Heading) (said : List ℕ → LogMessage) where
 
   -- what was written before the last piece is no less than the least
   least_written : (left l1 l2 w w1 r r1 : Option (List ℕ)) (u v : LogView) (old lines : List ℕ)
-      (p : List ℕ → Type 0) (far : SoFar h said left l1 w w1 r r1 u)
+      (p : List ℕ → Type 0) (far : SoFar h said version left l1 w w1 r r1 u)
       (m : Reads h said u v l1 l2 old lines p) (e : Early h said u m.bytes m.hears.heard)
-      → Grows h said → IsPrefix (least_capture h said (far.reads.bytes ++ m.bytes)) far.text
+      → Grows h said → IsPrefix (least_capture h said version (far.reads.bytes ++ m.bytes)) far.text
   least_written left l1 l2 w w1 r r1 u v old lines p far m e grows =
       let heard = far.reads.hears.heard in
       least_lines (far.reads.bytes ++ m.bytes) (heard ++ e.before) far.text
       (next_early left l1 l2 w w1 r r1 u v old lines p far m e grows)
-      (sym (lines_on begun heard e.before
-      ∙ ap (λ s. lines_from begun heard ++ lines_from s e.before) (sym far.reads.hears.state_is)
-      ∙ ap (λ t. lines_from begun heard ++ t) e.silent ∙ append-nil (lines_from begun heard)
+      (sym (lines_on (begun version) heard e.before
+      ∙ ap (λ s. lines_from (begun version) heard ++ lines_from s e.before) (sym far.reads.hears.state_is)
+      ∙ ap (λ t. lines_from (begun version) heard ++ t) e.silent ∙ append-nil (lines_from (begun version) heard)
       ∙ sym far.reads.hears.lines_are))
 
   -- all lines of receptions before the last were written
   lines_before : (left l1 w w1 r r1 : Option (List ℕ)) (u : LogView)
-      (far : SoFar h said left l1 w w1 r r1 u) (heard : List Reception) (o : OneLast u.state heard)
-      → lines_from begun (far.reads.hears.heard ++ o.done) ≡ far.text
+      (far : SoFar h said version left l1 w w1 r r1 u) (heard : List Reception) (o : OneLast u.state heard)
+      → lines_from (begun version) (far.reads.hears.heard ++ o.done) ≡ far.text
   lines_before left l1 w w1 r r1 u far heard o =
       let first = far.reads.hears.heard in
-      lines_on begun first o.done
-      ∙ ap (λ s. lines_from begun first ++ lines_from s o.done) (sym far.reads.hears.state_is)
-      ∙ ap (λ t. lines_from begun first ++ t) o.silent ∙ append-nil (lines_from begun first)
+      lines_on (begun version) first o.done
+      ∙ ap (λ s. lines_from (begun version) first ++ lines_from s o.done) (sym far.reads.hears.state_is)
+      ∙ ap (λ t. lines_from (begun version) first ++ t) o.silent ∙ append-nil (lines_from (begun version) first)
       ∙ sym far.reads.hears.lines_are
 
   -- no more lines came
   pub stopped : {S T U : Type 0} (b a : World S T U) (fault : BridgeFault)
       (l1 r1 : Option (List ℕ)) (u v : LogView) (old waiting : List ℕ) → Grows h said
-      → SoFar h said b.left l1 b.written a.written b.reported r1 u → old ≡ []
+      → SoFar h said version b.left l1 b.written a.written b.reported r1 u → old ≡ []
       → Breaks h said u v l1 a.left old waiting fault r1 a.reported
       → Stops h said v waiting b.never_fails b.reads_failed a.reads_failed b.reports_failed
       a.reports_failed fault → a.writes_failed ≡ b.writes_failed
-      → IsBroken (log_meaning h said) b a fault
+      → IsBroken (log_meaning h said version) b a fault
   unfolding next behind reads_on hears_on
   stopped b a fault l1 r1 u v old waiting grows far none m stops writes =
       let all = next b.left l1 a.left b.written a.written b.reported r1 u v old waiting
@@ -520,19 +521,19 @@ module _ (h : Heading) (said : List ℕ → LogMessage) where
       let heard = far.reads.hears.heard in
       let e = m.early none in
       let one = m.one none in
-      let first = refusals_from begun heard in
+      let first = refusals_from (begun version) heard in
       let before = refusals_from u.state e.before in
       let behind = refusals_from u.state m.reads.hears.heard in
       let on : (xs : List Reception)
-      → refusals_from begun (heard ++ xs) ≡ first ++ refusals_from u.state xs =
-      λ xs. refusals_on begun heard xs
+      → refusals_from (begun version) (heard ++ xs) ≡ first ++ refusals_from u.state xs =
+      λ xs. refusals_on (begun version) heard xs
       ∙ ap (λ s. first ++ refusals_from s xs) (sym far.reads.hears.state_is) in
       let report : AppendsBetween b.reported a.reported (first ++ before) (first ++ behind) =
       between_after b.reported r1 a.reported first before behind far.reads.hears.told
       (m.told none) in
       let some = lines_before b.left l1 b.written a.written b.reported r1 u far
       m.reads.hears.heard one in
-      broke b a fault v (far.text ++ waiting) far.text (refusals_from begun (heard ++ e.before))
+      broke b a fault v (far.text ++ waiting) far.text (refusals_from (begun version) (heard ++ e.before))
       (Reports fault b.reported a.reported) all
       (between_within b.written a.written far.text far.text far.text (far.text ++ waiting)
       (prefix_same far.text) (prefix_more far.text waiting)
@@ -540,7 +541,7 @@ module _ (h : Heading) (said : List ℕ → LogMessage) where
       (least_written b.left l1 a.left b.written a.written b.reported r1 u v old waiting
       (Reports fault r1 a.reported) far m.reads e grows)
       (subst (λ t. AppendsBetween b.reported a.reported t
-      (refusals_from begun (heard ++ m.reads.hears.heard))) (sym (on e.before))
+      (refusals_from (begun version) (heard ++ m.reads.hears.heard))) (sym (on e.before))
       (subst (AppendsBetween b.reported a.reported (first ++ before))
       (sym (on m.reads.hears.heard)) report))
       (least_refusals (far.reads.bytes ++ m.reads.bytes) (heard ++ e.before)
@@ -553,7 +554,7 @@ module _ (h : Heading) (said : List ℕ → LogMessage) where
       (prefix_same far.text) (prefix_more far.text waiting)
       (between_whole b.written a.written far.text far.grew)))
       (subst (λ t. AppendsBetween b.reported a.reported t
-      (refusals_from begun (heard ++ m.reads.hears.heard))) (sym (on one.done))
+      (refusals_from (begun version) (heard ++ m.reads.hears.heard))) (sym (on one.done))
       (subst (AppendsBetween b.reported a.reported (first ++ refusals_from u.state one.done))
       (sym (on m.reads.hears.heard))
       (between_after b.reported r1 a.reported first (refusals_from u.state one.done) behind
@@ -564,11 +565,11 @@ module _ (h : Heading) (said : List ℕ → LogMessage) where
   -- the lines were not written
   pub unwritten : {S T U : Type 0} (b a : World S T U) (l1 w1 r1 : Option (List ℕ))
       (u v : LogView) (old lines piece : List ℕ) → Grows h said
-      → SoFar h said b.left l1 b.written w1 b.reported r1 u → old ≡ []
+      → SoFar h said version b.left l1 b.written w1 b.reported r1 u → old ≡ []
       → Advances h said u v l1 a.left old lines (Appends r1 a.reported)
       → piece ≡ lines → AppendsPrefix w1 a.written piece → Rose b.writes_failed a.writes_failed
       → a.reads_failed ≡ b.reads_failed → a.reports_failed ≡ b.reports_failed
-      → IsBroken (log_meaning h said) b a WriteFault
+      → IsBroken (log_meaning h said version) b a WriteFault
   unfolding next behind reads_on hears_on
   unwritten b a l1 w1 r1 u v old lines piece grows far none m is put rose reads reports =
       let all = next b.left l1 a.left b.written w1 b.reported r1 u v old lines
@@ -579,14 +580,14 @@ module _ (h : Heading) (said : List ℕ → LogMessage) where
       let some = lines_before b.left l1 b.written w1 b.reported r1 u far m.reads.hears.heard one in
       let are : heard ++ m.reads.hears.heard ≡ (heard ++ one.done) ++ one.last =
       ap (λ t. heard ++ t) one.receptions_are ∙ sym (append_assoc heard one.done one.last) in
-      let whole = refusals_from begun all.hears.heard in
-      broke b a WriteFault v (far.text ++ lines) far.text (refusals_from begun all.hears.heard)
+      let whole = refusals_from (begun version) all.hears.heard in
+      broke b a WriteFault v (far.text ++ lines) far.text (refusals_from (begun version) all.hears.heard)
       (Appends b.reported a.reported) all
       (between_behind b.written w1 a.written far.text lines far.grew
       (subst (AppendsPrefix w1 a.written) is put))
       (least_written b.left l1 a.left b.written w1 b.reported r1 u v old lines
       (Appends r1 a.reported) far m.reads (m.early none) grows)
-      (between_whole b.reported a.reported (refusals_from begun all.hears.heard) all.hears.told)
+      (between_whole b.reported a.reported (refusals_from (begun version) all.hears.heard) all.hears.told)
       (least_refusals (far.reads.bytes ++ m.reads.bytes)
       (far.reads.hears.heard ++ m.reads.hears.heard)
       (next_all b.left l1 a.left b.written w1 b.reported r1 u v old lines (Appends r1 a.reported)
@@ -595,16 +596,16 @@ module _ (h : Heading) (said : List ℕ → LogMessage) where
       (subst (λ t. AppendsBetween b.written a.written t (far.text ++ lines)) (sym some)
       (between_behind b.written w1 a.written far.text lines far.grew
       (subst (AppendsPrefix w1 a.written) is put)))
-      (between_within b.reported a.reported (refusals_from begun (heard ++ one.done)) whole whole
+      (between_within b.reported a.reported (refusals_from (begun version) (heard ++ one.done)) whole whole
       whole
-      (subst (λ l. IsPrefix (refusals_from begun (heard ++ one.done)) (refusals_from begun l))
+      (subst (λ l. IsPrefix (refusals_from (begun version) (heard ++ one.done)) (refusals_from (begun version) l))
       (sym are) (refusals_longer (heard ++ one.done) one.last))
       (prefix_same whole) (between_whole b.reported a.reported whole all.hears.told))
       (write_failed b a rose reads reports) (rose, accepts b)
 
   -- all was read and written
   module _ {S T U : Type 0} (b a : World S T U) (r2 : Option (List ℕ)) (v : LogView)
-      (counts : LogCounts) (far : SoFar h said b.left a.left b.written a.written b.reported r2 v)
+      (counts : LogCounts) (far : SoFar h said version b.left a.left b.written a.written b.reported r2 v)
       (piece : List ℕ) (says : piece ≡ counts_report counts v.taken) (over : v.ended ≡ true) (idle : IsIdle h said v) (log : counts.log ≡ v.place.counts)
       (capture : counts.capture ≡ v.state.counts) where
     size : v.taken ≡ length far.reads.bytes
@@ -613,22 +614,22 @@ module _ (h : Heading) (said : List ℕ → LogMessage) where
     is : receptions_of said (messages (format_of h) far.reads.bytes) ≡ far.reads.hears.heard
     is = all_received v far.reads.bytes far.text _ far.reads.hears over idle
 
-    counts_are : counts ≡ counts_of said (messages (format_of h) far.reads.bytes)
+    counts_are : counts ≡ counts_of said version (messages (format_of h) far.reads.bytes)
     counts_are = counted v far.reads.bytes far.text _ far.reads.hears over idle counts log capture
 
     counts_text : counts_report counts v.taken
-        ≡ counts_report (counts_of said (messages (format_of h) far.reads.bytes)) (length far.reads.bytes)
+        ≡ counts_report (counts_of said version (messages (format_of h) far.reads.bytes)) (length far.reads.bytes)
     counts_text = ap (λ c. counts_report c v.taken) counts_are
         ∙ ap (counts_report _) size
 
     told : Appends b.reported r2
-        (refusals_from begun (receptions_of said (messages (format_of h) far.reads.bytes)))
-    told = subst (λ rs. Appends b.reported r2 (refusals_from begun rs)) (sym is)
+        (refusals_from (begun version) (receptions_of said (messages (format_of h) far.reads.bytes)))
+    told = subst (λ rs. Appends b.reported r2 (refusals_from (begun version) rs)) (sym is)
         far.reads.hears.told
 
     pub done : Appends r2 a.reported piece
         → a.reads_failed ≡ b.reads_failed → a.writes_failed ≡ b.writes_failed
-        → a.reports_failed ≡ b.reports_failed → IsDone (log_meaning h said) b a counts
+        → a.reports_failed ≡ b.reports_failed → IsDone (log_meaning h said version) b a counts
     done last reads writes reports =
         let ends = far.reads.end over (λ e. cc e) in
         record {
@@ -638,7 +639,7 @@ module _ (h : Heading) (said : List ℕ → LogMessage) where
           fits = omega (arith, size, ends.1);
           counted = ap Some (sym counts_are);
           text = subst (Appends b.written a.written)
-              (far.reads.hears.lines_are ∙ ap (lines_from begun) (sym is)) far.grew;
+              (far.reads.hears.lines_are ∙ ap (lines_from (begun version)) (sym is)) far.grew;
           told = Appends-trans b.reported r2 a.reported _ _ told
               (subst (Appends r2 a.reported) (says ∙ counts_text) last);
           leaves = record { unread = λ e. cc e; silent = λ e. cc e };
@@ -650,30 +651,30 @@ module _ (h : Heading) (said : List ℕ → LogMessage) where
     -- the counts were not reported
     pub unreported : Grows h said → AppendsPrefix r2 a.reported piece
         → Rose b.reports_failed a.reports_failed → a.reads_failed ≡ b.reads_failed
-        → a.writes_failed ≡ b.writes_failed → IsBroken (log_meaning h said) b a ReportFault
+        → a.writes_failed ≡ b.writes_failed → IsBroken (log_meaning h said version) b a ReportFault
     unreported grows part rose reads writes =
         let bytes = far.reads.bytes in
         let front = capture_front v bytes far.text _ far.reads.hears bytes _
         (received v bytes far.text _ far.reads.hears) in
-        let wrote : AppendsBetween b.written a.written (least_capture h said bytes)
-        (capture_of h said bytes) =
-        between_within b.written a.written (least_capture h said bytes) far.text far.text
-        (capture_of h said bytes)
+        let wrote : AppendsBetween b.written a.written (least_capture h said version bytes)
+        (capture_of h said version bytes) =
+        between_within b.written a.written (least_capture h said version bytes) far.text far.text
+        (capture_of h said version bytes)
         (least_lines bytes far.reads.hears.heard far.text far.early far.reads.hears.lines_are) front
         (between_whole b.written a.written far.text far.grew) in
-        let refusals = refusals_from begun (receptions_of said (messages (format_of h) bytes)) in
-        let least : IsPrefix (least_report h said bytes) refusals =
-        subst (λ rs. IsPrefix (least_report h said bytes) (refusals_from begun rs)) (sym is)
+        let refusals = refusals_from (begun version) (receptions_of said (messages (format_of h) bytes)) in
+        let least : IsPrefix (least_report h said version bytes) refusals =
+        subst (λ rs. IsPrefix (least_report h said version bytes) (refusals_from (begun version) rs)) (sym is)
         (least_refusals bytes far.reads.hears.heard far.early) in
         let ends = (far.reads.end over (λ e. cc e)).0 in
-        let capture : Appends b.written a.written (capture_of h said bytes) =
+        let capture : Appends b.written a.written (capture_of h said version bytes) =
         subst (Appends b.written a.written)
-        (far.reads.hears.lines_are ∙ ap (lines_from begun) (sym is)) far.grew in
-        let report : AppendsBetween b.reported a.reported (least_report h said bytes)
-        (report_of h said bytes) =
-        between_within b.reported a.reported (least_report h said bytes) refusals
-        (report_of h said bytes) (report_of h said bytes) least
-        (prefix_same (report_of h said bytes))
+        (far.reads.hears.lines_are ∙ ap (lines_from (begun version)) (sym is)) far.grew in
+        let report : AppendsBetween b.reported a.reported (least_report h said version bytes)
+        (report_of h said version bytes) =
+        between_within b.reported a.reported (least_report h said version bytes) refusals
+        (report_of h said version bytes) (report_of h said version bytes) least
+        (prefix_same (report_of h said version bytes))
         (between_behind b.reported r2 a.reported refusals _ told
         (subst (AppendsPrefix r2 a.reported) (says ∙ counts_text) part)) in
         record {
@@ -681,14 +682,14 @@ module _ (h : Heading) (said : List ℕ → LogMessage) where
           consumes = far.reads.consumes;
           text = wrote;
           told = report;
-          ahead = ahead_at_end (log_meaning h said).whole b.left a.left b.written a.written
+          ahead = ahead_at_end (log_meaning h said version).whole b.left a.left b.written a.written
               b.reported a.reported far.reads.bytes far.reads.consumes
               ends (prefix_of b.written a.written _ _ wrote)
               (prefix_of b.reported a.reported _ _ report);
           stopped = taken_all b.left a.left bytes (λ all. StopAtOnePlace (Some decided_texts)
               (Some all) b.written a.written b.reported a.reported) far.reads.consumes ends
               (all_done grows bytes b.written a.written b.reported a.reported
-              (all_whole b.written a.written (capture_of h said bytes) capture)
+              (all_whole b.written a.written (capture_of h said version bytes) capture)
               (all_of b.reported a.reported refusals _
               (between_behind b.reported r2 a.reported refusals _ told
               (subst (AppendsPrefix r2 a.reported) (says ∙ counts_text) part))));

@@ -17,11 +17,12 @@ use Rattle.receiver_log.proofs.LogSteps.{lines_on}
 
 module _ (h : Heading) (said : List ℕ → LogMessage) where
   -- nothing was read yet
-  pub start_left : (a : LogView) (waiting : List ℕ) (left : Option (List ℕ)) → a ≡ fresh
-      → waiting ≡ [] → left_of h said a waiting left ≡ capture_left h said left
-  start_left a waiting None is none = refl
-  start_left a waiting (Some xs) is none =
-      rw (is, none) (ap (λ rs. Some (lines_from begun rs))
+  pub start_left : (version : ℕ) (a : LogView) (waiting : List ℕ) (left : Option (List ℕ))
+      → a ≡ fresh version → waiting ≡ []
+      → left_of h said a waiting left ≡ capture_left h said version left
+  start_left version a waiting None is none = refl
+  start_left version a waiting (Some xs) is none =
+      rw (is, none) (ap (λ rs. Some (lines_from (begun version) rs))
       (sym (comes_as_defined false [] (map said (messages (format_of h) xs)))))
 
   -- what was read is left as lines that wait, or still to come

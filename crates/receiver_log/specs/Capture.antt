@@ -49,41 +49,41 @@ counts_after said c [] = c
 counts_after said c (m ∷ ms) = counts_after said (counted c (length m) (said m)) ms
 
 -- the counts of a log's messages, and of what became of its subframes and pages
-abbrev pub counts_of : (List ℕ → LogMessage) → List (List ℕ) → LogCounts
-counts_of said ms = record {
+abbrev pub counts_of : (List ℕ → LogMessage) → ℕ → List (List ℕ) → LogCounts
+counts_of said version ms = record {
   log = counts_after said none_counted ms;
-  capture = (state_after begun (receptions_of said ms)).counts;
+  capture = (state_after (begun version) (receptions_of said ms)).counts;
 }
 
 -- the capture of the bytes of a log
-abbrev pub capture_of : Heading → (List ℕ → LogMessage) → List ℕ → List ℕ
-capture_of heading said bytes =
-    lines_from begun (receptions_of said (messages (format_of heading) bytes))
+abbrev pub capture_of : Heading → (List ℕ → LogMessage) → ℕ → List ℕ → List ℕ
+capture_of heading said version bytes =
+    lines_from (begun version) (receptions_of said (messages (format_of heading) bytes))
 
 -- the report of a log: a line for each rejected message, and the counts
-abbrev pub report_of : Heading → (List ℕ → LogMessage) → List ℕ → List ℕ
-report_of heading said bytes =
-    refusals_from begun (receptions_of said (messages (format_of heading) bytes))
-    ++ counts_report (counts_of said (messages (format_of heading) bytes)) (length bytes)
+abbrev pub report_of : Heading → (List ℕ → LogMessage) → ℕ → List ℕ → List ℕ
+report_of heading said version bytes =
+    refusals_from (begun version) (receptions_of said (messages (format_of heading) bytes))
+    ++ counts_report (counts_of said version (messages (format_of heading) bytes)) (length bytes)
 
 -- the capture of the first bytes of a log: the lines of what is received in the decided messages and stays whatever follows
-abbrev pub decided_capture : Heading → (List ℕ → LogMessage) → List ℕ → List ℕ
-decided_capture heading said bytes =
-    lines_from begun (decided_receptions said (decided (format_of heading) bytes))
+abbrev pub decided_capture : Heading → (List ℕ → LogMessage) → ℕ → List ℕ → List ℕ
+decided_capture heading said version bytes =
+    lines_from (begun version) (decided_receptions said (decided (format_of heading) bytes))
 
 -- the report lines of the same
-abbrev pub decided_report : Heading → (List ℕ → LogMessage) → List ℕ → List ℕ
-decided_report heading said bytes =
-    refusals_from begun (decided_receptions said (decided (format_of heading) bytes))
+abbrev pub decided_report : Heading → (List ℕ → LogMessage) → ℕ → List ℕ → List ℕ
+decided_report heading said version bytes =
+    refusals_from (begun version) (decided_receptions said (decided (format_of heading) bytes))
 
 -- the least that was written of the bytes read, whatever fails: the lines of what all but the last
 -- 16,384 bytes decide (one read asks for so many)
-abbrev pub least_capture : Heading → (List ℕ → LogMessage) → List ℕ → List ℕ
-least_capture heading said bytes = decided_capture heading said (take (length bytes - 16384) bytes)
+abbrev pub least_capture : Heading → (List ℕ → LogMessage) → ℕ → List ℕ → List ℕ
+least_capture heading said version bytes = decided_capture heading said version (take (length bytes - 16384) bytes)
 
 -- the least that was reported of them: the report lines of the same
-abbrev pub least_report : Heading → (List ℕ → LogMessage) → List ℕ → List ℕ
-least_report heading said bytes = decided_report heading said (take (length bytes - 16384) bytes)
+abbrev pub least_report : Heading → (List ℕ → LogMessage) → ℕ → List ℕ → List ℕ
+least_report heading said version bytes = decided_report heading said version (take (length bytes - 16384) bytes)
 
 -- the number of bytes at which a log is too long
 abbrev pub too_many : ℕ
@@ -91,18 +91,18 @@ too_many = 2 ^ 64 - 1
 
 -- what a run makes of a log: its capture, its report and its counts. When a read fails, the lines and the refusals of all
 -- that is decided were written
-abbrev pub log_meaning : Heading → (List ℕ → LogMessage) → Meaning LogCounts
-log_meaning heading said = record {
+abbrev pub log_meaning : Heading → (List ℕ → LogMessage) → ℕ → Meaning LogCounts
+log_meaning heading said version = record {
   reads = true;
   reports = true;
   memory = false;
   limit = too_many;
-  counts = λ bytes. Some (counts_of said (messages (format_of heading) bytes));
-  whole = record { output = capture_of heading said; report = report_of heading said };
-  rejections = λ bytes. refusals_from begun (receptions_of said (messages (format_of heading) bytes));
-  least = record { output = least_capture heading said; report = least_report heading said };
+  counts = λ bytes. Some (counts_of said version (messages (format_of heading) bytes));
+  whole = record { output = capture_of heading said version; report = report_of heading said version };
+  rejections = λ bytes. refusals_from (begun version) (receptions_of said (messages (format_of heading) bytes));
+  least = record { output = least_capture heading said version; report = least_report heading said version };
   flushed = Some (record {
-    output = decided_capture heading said;
-    report = decided_report heading said;
+    output = decided_capture heading said version;
+    report = decided_report heading said version;
   });
 }

@@ -14,3 +14,8 @@ pub mod Mirrors
 pub mod Steps
 pub mod LogLeft
 pub mod SaysTimes
+pub mod Rules
+pub mod Orders
+pub mod Messages
+pub mod Named
+pub mod All

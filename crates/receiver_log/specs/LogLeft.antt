@@ -9,9 +9,9 @@ use Rattle.receiver_log.specs.Mirrors.{ahead}
 use Rattle.receiver_log.specs.Steps.{LogView}
 
 -- the capture of a log's bytes, if they are known
-abbrev pub capture_left : Heading → (List ℕ → LogMessage) → Option (List ℕ) → Option (List ℕ)
-capture_left heading said None = None
-capture_left heading said (Some bytes) = Some (capture_of heading said bytes)
+abbrev pub capture_left : Heading → (List ℕ → LogMessage) → ℕ → Option (List ℕ) → Option (List ℕ)
+capture_left heading said version None = None
+capture_left heading said version (Some bytes) = Some (capture_of heading said version bytes)
 
 -- what is left of the capture in the middle of a log: lines that wait, then those of the receptions to come, from the
 -- bytes held and from what follows; after the end only from the bytes held

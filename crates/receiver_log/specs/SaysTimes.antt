@@ -1,11 +1,17 @@
 -- In each format the messages have times of their own, or else time messages come between them.
 use Rattle.std.specs.Prelude.{◌==◌, ◌&&◌, ◌%◌, ℕ, Bool, true, false, refl, if◌then◌else◌}
-use Rattle.std.specs.Prelude.{nat_lt, nat_le, List, length, slice_index}
+use Rattle.std.specs.Prelude.{nat_lt, nat_le, List, length, slice_index, Option}
 use Rattle.receiver_log.specs.Numbers.{two_at}
 use Rattle.receiver_log.specs.Sbf.{block_content, pages_content, sbf_message, subframe_content}
 use Rattle.receiver_log.specs.Systems.{SaysTimes}
 use Rattle.receiver_log.specs.Ubx.{payload_of, payload_content, ubx_message, words_content}
 use Rattle.receiver_log.specs.declared.said.LogMessage.{LogMessage}
+use Rattle.receiver_log.specs.declared.said.LogMessage.TheVariants.{Other, Time, Received, Dated}
+use Rattle.receiver_log.specs.All.{dated_in, heard_in, instead, sbf_all, time_of, ubx_all}
+use Rattle.receiver_log.specs.Messages.{sbf_part, ubx_part}
+use Rattle.receiver_log.specs.declared.part.Found.{Found}
+use Rattle.receiver_log.specs.declared.part.Found.TheVariants.{Nothing, Refused, Part}
+use Rattle.receiver_log.specs.declared.tables.TheConstants.{SBF_PARTS, UBX_PARTS}
 
 says_if : (has_times b : Bool) (x y : LogMessage) → SaysTimes has_times x → SaysTimes has_times y
     → SaysTimes has_times (if b then x else y)
@@ -56,3 +62,29 @@ pub sbf_says_times : (block : List ℕ) → SaysTimes true (sbf_message block)
 unfolding sbf_message
 sbf_says_times block =
     says_if true (nat_lt (length block) 8) _ _ tt (block_says_times (two_at block 4 % 8192) block)
+
+instead_says : (has_times : Bool) (x y : LogMessage) → SaysTimes has_times x → SaysTimes has_times y
+    → SaysTimes has_times (instead x y)
+instead_says has_times Other y p q = q
+instead_says has_times (Time time) y p q = p
+instead_says has_times (Received content) y p q = p
+instead_says has_times (Dated time content) y p q = p
+
+heard_says : (found : Found) → SaysTimes false (heard_in found)
+heard_says Nothing = tt
+heard_says (Refused reason) = refl
+heard_says (Part p) = refl
+
+dated_says : (time : Option ℕ) (found : Found) → SaysTimes true (dated_in time found)
+dated_says time Nothing = tt
+dated_says time (Refused reason) = refl
+dated_says time (Part p) = refl
+
+pub ubx_all_says_times : (message : List ℕ) → SaysTimes false (ubx_all message)
+ubx_all_says_times message =
+    instead_says false _ _ (ubx_says_times message) (heard_says (ubx_part UBX_PARTS message))
+
+pub sbf_all_says_times : (block : List ℕ) → SaysTimes true (sbf_all block)
+sbf_all_says_times block =
+    instead_says true _ _ (sbf_says_times block)
+    (dated_says (time_of block) (sbf_part SBF_PARTS block))

@@ -40,9 +40,10 @@ view_of log = record {
 abbrev pub waiting_of : {J : Type 0} {r : _} {d : _} → Log J r d → List ℕ
 waiting_of log = drop log.given log.lines.items
 
--- a log before its first byte
-abbrev pub fresh : LogView
-fresh = record { place = start_of []; ended = false; state = begun; taken = 0 }
+-- a log before its first byte, for a capture of this version
+abbrev pub fresh : ℕ → LogView
+fresh version =
+    record { place = start_of []; ended = false; state = begun version; taken = 0 }
 
 -- Receptions were passed while these bytes were fed: they are the first of those to come, whatever follows, and the counts go
 -- on.

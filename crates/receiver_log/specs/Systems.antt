@@ -1,17 +1,19 @@
--- A subframe is of a GPS satellite, a page of a Galileo satellite; messages of a log with times of their own have no time
+-- A subframe is of a GPS satellite, a page of a Galileo satellite, a part of a kind with a letter; messages of a log with times of their own have no time
 -- messages between them.
-use Rattle.std.specs.Prelude.{◌≡◌, Bool, true, false}
+use Rattle.std.specs.Prelude.{◌≡◌, ◌≤◌, Bool, true, false}
 use Rattle.nav_eph.specs.declared.sat.System.TheVariants.{Gps, Gal}
 use Rattle.receiver_log.specs.declared.said.LogContent.{LogContent}
-use Rattle.receiver_log.specs.declared.said.LogContent.TheVariants.{Refused, Subframe, Page}
+use Rattle.receiver_log.specs.declared.said.LogContent.TheVariants.{Refused, Subframe, Page, Part}
 use Rattle.receiver_log.specs.declared.said.LogMessage.{LogMessage}
 use Rattle.receiver_log.specs.declared.said.LogMessage.TheVariants.{Other, Time, Received, Dated}
 
--- the satellite of a subframe is of GPS, that of a page of Galileo
+-- the satellite of a subframe is of GPS, that of a page of Galileo; a part has a capital letter and a satellite from 1 to 99
 abbrev pub IsOfSystem : LogContent → Type 0
 IsOfSystem (Refused reason) = Unit {0}
 IsOfSystem (Subframe sat words) = sat.system ≡ Gps
 IsOfSystem (Page sat signal even odd) = sat.system ≡ Gal
+IsOfSystem (Part kind satellite bits) =
+    ((65 ≤ kind) × (kind ≤ 90)) × ((1 ≤ satellite) × (satellite ≤ 99))
 
 -- the same of the content of a message
 abbrev pub SaysOfSystem : LogMessage → Type 0

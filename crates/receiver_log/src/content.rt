@@ -41,6 +41,15 @@ pub enum LogContent {
         /// The odd page part.
         odd: Bits<15>,
     },
+    /// A part of a message of a further kind.
+    Part {
+        /// The letter of the kind.
+        kind: u8,
+        /// The number of the satellite.
+        satellite: u8,
+        /// Its bits, the first the highest bit of the first number.
+        bits: [u64; 5],
+    },
 }
 
 /// The content of a message.

@@ -36,14 +36,14 @@ const TOO_MANY: u64 = u64::MAX;
 impl<J: Receiver> Log<J> {
     /// A log before its first byte.
     pub(crate) fn new() -> Self
-        ensures fresh { view_of result ≡ fresh }
+        ensures fresh { view_of result ≡ fresh J.version }
         ensures lines { waiting_of result ≡ [] }
     {
         Log {
             deframer: MessageDeframer::new(),
             counts: MessageCounts::new(),
             queue: Queue::new(),
-            state: LogState::new(),
+            state: LogState::new(J::capture_version()),
             lines: ArrayVec::new(),
             given: 0,
             taken: 0,

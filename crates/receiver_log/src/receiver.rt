@@ -18,6 +18,13 @@ pub trait Receiver: Judge {
     // Whether messages have times of their own; else time messages stand between them.
     ghost has_times: { Bool };
 
+    // The version of the capture that is written.
+    ghost version: { ℕ };
+
+    /// The version of the capture that is written.
+    fn capture_version() -> u8
+        ensures { result ≡ version };
+
     /// The content of a complete message.
     fn tell(message: &[u8]) -> LogMessage
         ensures value { result ≡ said message.now }
@@ -32,6 +39,12 @@ impl Receiver for UbxJudge {
 
     ghost has_times = { false };
 
+    ghost version = { 2 };
+
+    fn capture_version() -> u8 {
+        2
+    }
+
     ghost says_times = { ubx_says_times };
 
     fn tell(message: &[u8]) -> LogMessage {
@@ -43,6 +56,12 @@ impl Receiver for SbfJudge {
     ghost said = { sbf_says };
 
     ghost has_times = { true };
+
+    ghost version = { 2 };
+
+    fn capture_version() -> u8 {
+        2
+    }
 
     ghost says_times = { sbf_says_times };
 

@@ -1,17 +1,17 @@
-//! The lines of one subframe or page.
+//! The lines of one subframe, page or part.
 
 ghost use Rattle.std.specs.Prelude.{◌≡◌, ◌+◌, ◌-◌, ◌*◌};
 ghost use Rattle.std.specs.Prelude.{◌^◌, ◌<◌, ◌≤◌, ◌++◌};
 ghost use Rattle.arrayvec.specs.ArrayVec.{array_vec_len};
 ghost use Rattle.std.specs.Prelude.{ℕ, Some, IfNone};
 ghost use Rattle.nav_eph.specs.declared.sat.System.TheVariants.{Gps, Gal};
-ghost use Rattle.receiver_log.specs.declared.said.LogContent.TheVariants.{Subframe, Page};
+ghost use Rattle.receiver_log.specs.declared.said.LogContent.TheVariants.{Subframe, Page, Part};
 ghost use Rattle.receiver_log.specs.Systems.{IsOfSystem};
 ghost use Rattle.receiver_log.specs.Capture.{given};
 ghost use Rattle.receiver_log.specs.Log.{Gives, given_at, head_text, refused_by};
 ghost use Rattle.receiver_log.specs.Log.{reason_in as reason_of, week_of as head_week};
 
-use crate::lines::{LineBuffer, append_half, append_head, append_subframe};
+use crate::lines::{LineBuffer, append_half, append_head, append_part, append_subframe};
 use crate::reception::Reception;
 use crate::state::LogState;
 use crate::{LogContent, LogReason, read_words, subframe_bits};
@@ -65,6 +65,14 @@ fn receive_at(
             Some(time) => receive_page(state, time, *sat, *signal, even, odd, lines),
             None => refuse(state, LogReason::Untimed),
         },
+        LogContent::Part {
+            kind,
+            satellite,
+            bits,
+        } => match time {
+            Some(time) => hear_part(state, time, *kind, *satellite, bits, lines),
+            None => refuse(state, LogReason::Untimed),
+        },
     }
 }
 
@@ -112,11 +120,12 @@ fn begin(state: &mut LogState, week: u64, lines: &mut LineBuffer)
     ensures state { (first : ℕ) → week ≡ head_week state.old.week first
         → state.new ≡ record state.old { week = Some week } }
     ensures lines { (first : ℕ) → week ≡ head_week state.old.week first
-        → lines.new.items ≡ lines.old.items ++ head_text state.old.week first }
+        → lines.new.items
+        ≡ lines.old.items ++ head_text state.old.version state.old.week first }
     ensures short { array_vec_len lines.new ≤ array_vec_len lines.old + 640 }
 {
     if state.week.is_none() {
-        append_head(lines, week as u32);
+        append_head(lines, state.version, week as u32);
         state.week = Some(week as u32);
     }
 }
@@ -182,5 +191,30 @@ fn receive_page(
     append_half(lines, (first - WEEK * week) as u32, sat, signal, even);
     append_half(lines, (time - WEEK * week) as u32, sat, signal, odd);
     state.counts.pages = state.counts.pages.saturating_add(1);
+    None
+}
+
+// Processes a part of a further kind.
+fn hear_part(
+    state: &mut LogState,
+    time: Moment,
+    kind: u8,
+    satellite: u8,
+    bits: &[u64; 5],
+    lines: &mut LineBuffer,
+) -> Option<LogReason>
+    requires room { array_vec_len lines.old + 8192 ≤ 16384 }
+    requires system { IsOfSystem (Part kind satellite bits.now) }
+    ensures { Gives state.new lines.old.items lines.new.items result
+        (given_at state.old (Some time) (Part kind satellite bits.now)) }
+{
+    let time = time.value();
+    let week = week_of(state.week, time);
+    if let Some(reason) = reason_in(week, time, time) {
+        return refuse(state, reason);
+    }
+    begin(state, week, lines);
+    append_part(lines, (time - WEEK * week) as u32, kind, satellite, bits);
+    state.counts.parts = state.counts.parts.saturating_add(1);
     None
 }

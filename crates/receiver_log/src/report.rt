@@ -96,5 +96,8 @@ pub fn counts_text(counts: &LogCounts, taken: u64) -> Text
     append_count(&mut text, b"other", counts.log.other);
     append_count(&mut text, b"turned", counts.capture.turned);
     append_count(&mut text, b"parity", counts.capture.parity);
+    if counts.capture.parts > 0 {
+        append_count(&mut text, b"parts", counts.capture.parts);
+    }
     text
 }

@@ -28,7 +28,7 @@ pub fn run_log<J: Receiver, S: Source, T: Sink, U: Sink>(
     output: &mut T,
     report: &mut U,
 ) -> Result<LogCounts, BridgeFault>
-    ensures { Ran (log_meaning J.heading J.said)
+    ensures { Ran (log_meaning J.heading J.said J.version)
         S.left S.never_fails S.faults T.written T.faults U.written U.faults
         input.old input.new output.old output.new report.old report.new result }
 {

@@ -68,7 +68,7 @@ impl<J: Receiver, S: Source, N: Refused> LogSource<J, S, N> {
     /// The capture of the log that this source gives, from its beginning.
     pub fn new(source: S, refused: N) -> Self
         ensures left { ⟦<LogSource<J, S, N> as Source>⟧.left result
-            ≡ capture_left J.heading J.said (S.left source) }
+            ≡ capture_left J.heading J.said J.version (S.left source) }
         ensures faults { ⟦<LogSource<J, S, N> as Source>⟧.faults result ≡ S.faults source }
         ensures never { ⟦<LogSource<J, S, N> as Source>⟧.never_fails result
             ≡ (S.never_fails source && is_short 0 (S.left source)) }

@@ -29,6 +29,8 @@ pub struct CaptureCounts {
     pub subframes: u64,
     /// Pages written.
     pub pages: u64,
+    /// Parts of further kinds written.
+    pub parts: u64,
     /// Messages with a subframe or a page that were rejected.
     pub refused: u64,
     /// Subframes whose words had to be inverted back.
@@ -49,6 +51,8 @@ pub struct LogCounts {
 /// The state of a capture after some of a log's subframes and pages.
 #[derive(Clone, Copy, PartialEq, Eq)]
 pub struct LogState {
+    /// The version of the capture.
+    pub version: u8,
     /// The week in the first line of the capture, once written.
     pub week: Option<u32>,
     /// The counts.
@@ -77,15 +81,17 @@ pub struct Log<J: Receiver> {
 }
 
 impl LogState {
-    /// The state before the first subframe or page.
-    pub fn new() -> Self
-        ensures { result ≡ begun }
+    /// The state before the first subframe or page, in a capture of this version.
+    pub fn new(version: u8) -> Self
+        ensures { result ≡ begun version }
     {
         LogState {
+            version,
             week: None,
             counts: CaptureCounts {
                 subframes: 0,
                 pages: 0,
+                parts: 0,
                 refused: 0,
                 turned: 0,
                 parity: 0,

@@ -7,7 +7,7 @@ use Rattle.receiver_log.proofs.run.run_log.Goals as goal
 
 pub loop-log-init : goal.loop-log-init
 loop-log-init g c = record {
-  far = start g.J.Judge.heading g.J.Receiver.said _ _ _ _ c.new-log.ensures.fresh;
+  far = start g.J.Judge.heading g.J.Receiver.said g.J.Receiver.version _ _ _ _ c.new-log.ensures.fresh;
   none = c.new-log.ensures.lines;
   read = refl;
   write = refl;
@@ -20,7 +20,7 @@ returns-in_err-next_lines g c =
     let so_far = c.loop-log.invariant in
     let next = c.in_err-next_lines.ensures in
     let p = err_from_is_err_and c.from_residual.result c.from_residual.ensures.1 in
-    rw (p.1, p.2) (stopped g.J.Judge.heading g.J.Receiver.said _ _ _ _ _ _ _ _ _
+    rw (p.1, p.2) (stopped g.J.Judge.heading g.J.Receiver.said g.J.Receiver.version _ _ _ _ _ _ _ _ _
     (grows g.J.Judge.heading g.J.Receiver.said g.J.Receiver.has_times g.met.J.Receiver.says_times
     (c.decided_messages_stay_decided.ensures g.J.Judge.heading g.met.J.Judge.is_heading))
     so_far.far so_far.none next.stopped
@@ -32,7 +32,7 @@ loop-log-preserved g c =
     let so_far = c.loop-log.invariant in
     let next = c.in_ok-next_lines.ensures in
     rw c.clear.ensures.view (record {
-      far = further g.J.Judge.heading g.J.Receiver.said _ _ _ _ _ _ _ _ _ _ _ _ _ _
+      far = further g.J.Judge.heading g.J.Receiver.said g.J.Receiver.version _ _ _ _ _ _ _ _ _ _ _ _ _ _
           (grows g.J.Judge.heading g.J.Receiver.said g.J.Receiver.has_times
           g.met.J.Receiver.says_times (c.decided_messages_stay_decided.ensures g.J.Judge.heading
           g.met.J.Judge.is_heading))
@@ -48,7 +48,7 @@ pub returns-in-Err : goal.returns-in-Err
 returns-in-Err g c =
     let so_far = c.loop-log.invariant in
     let next = c.in_ok-next_lines.ensures in
-    unwritten g.J.Judge.heading g.J.Receiver.said _ _ _ _ _ _ _ _ _ _
+    unwritten g.J.Judge.heading g.J.Receiver.said g.J.Receiver.version _ _ _ _ _ _ _ _ _ _
     (grows g.J.Judge.heading g.J.Receiver.said g.J.Receiver.has_times g.met.J.Receiver.says_times
     (c.decided_messages_stay_decided.ensures g.J.Judge.heading g.met.J.Judge.is_heading))
     so_far.far so_far.none
@@ -61,8 +61,8 @@ returns-in-Ok-write g c =
     let so_far = c.loop-log.invariant in
     let next = c.in_ok-next_lines.ensures in
     let end = next.end c.if-branch.false in
-    done g.J.Judge.heading g.J.Receiver.said _ _ _ _ _
-    (further g.J.Judge.heading g.J.Receiver.said _ _ _ _ _ _ _ _ _ _ _ _ _ []
+    done g.J.Judge.heading g.J.Receiver.said g.J.Receiver.version _ _ _ _ _
+    (further g.J.Judge.heading g.J.Receiver.said g.J.Receiver.version _ _ _ _ _ _ _ _ _ _ _ _ _ []
     (grows g.J.Judge.heading g.J.Receiver.said g.J.Receiver.has_times g.met.J.Receiver.says_times
     (c.decided_messages_stay_decided.ensures g.J.Judge.heading g.met.J.Judge.is_heading))
     so_far.far so_far.none next.reads (sym end.0) (appends_none _)) _
@@ -75,8 +75,8 @@ returns g c =
     let so_far = c.loop-log.invariant in
     let next = c.in_ok-next_lines.ensures in
     let end = next.end c.if-branch.false in
-    unreported g.J.Judge.heading g.J.Receiver.said _ _ _ _ _
-    (further g.J.Judge.heading g.J.Receiver.said _ _ _ _ _ _ _ _ _ _ _ _ _ []
+    unreported g.J.Judge.heading g.J.Receiver.said g.J.Receiver.version _ _ _ _ _
+    (further g.J.Judge.heading g.J.Receiver.said g.J.Receiver.version _ _ _ _ _ _ _ _ _ _ _ _ _ []
     (grows g.J.Judge.heading g.J.Receiver.said g.J.Receiver.has_times g.met.J.Receiver.says_times
     (c.decided_messages_stay_decided.ensures g.J.Judge.heading g.met.J.Judge.is_heading))
     so_far.far so_far.none next.reads (sym end.0) (appends_none _)) _

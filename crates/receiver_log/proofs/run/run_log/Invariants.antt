@@ -6,7 +6,7 @@ use Rattle.receiver_log.proofs.run.run_log.Given as goal
 
 abbrev pub invariant-loop-log : goal.invariant-loop-log
 invariant-loop-log g l = record {
-  far : SoFar g.J.Judge.heading g.J.Receiver.said (g.S.Source.left l.fn.input)
+  far : SoFar g.J.Judge.heading g.J.Receiver.said g.J.Receiver.version (g.S.Source.left l.fn.input)
       (g.S.Source.left l.input) (g.T.Sink.written l.fn.output) (g.T.Sink.written l.output)
       (g.U.Sink.written l.fn.report) (g.U.Sink.written l.report) (view_of l.log);
   none : (waiting_of l.log) ≡ [];
