@@ -4,15 +4,14 @@
 //! pages, from u-blox UBX and Septentrio SBF.
 //!
 //! - [`ubx_message`] and [`sbf_message`], the content of a complete message ([`LogMessage`]): a
-//! time, a
-//!   subframe or a page ([`LogContent`]), or nothing that is used;
+//!   time, a subframe or a page ([`LogContent`]), or nothing that is used;
 //! - [`read_words`], the ten words of a subframe as sent, in whichever of three ways the receiver
 //!   logged them (IS-GPS-200, 20.3.5.2), and [`subframe_bits`], their 300 bits.
 //!
 //! ```rust
-//! match ubx_said(message) {
-//!     Said::Time(time) => set_time(time),
-//!     Said::Heard(Content::Subframe { sat, words }) => use_bits(sat, &subframe_bits(&words)),
+//! match ubx_message(message) {
+//!     LogMessage::Time(time) => set_time(time),
+//!     LogMessage::Received(LogContent::Subframe { sat, words }) => use_bits(sat, &subframe_bits(&words)),
 //!     _ => {}
 //! }
 //! ```
@@ -46,7 +45,8 @@
 //! takes no function.
 //!
 //! - [`ubx_part`] and [`sbf_part`], the part that a message has ([`Found`]);
-//! - [`ubx_all_message`] and [`sbf_all_message`], the content of a message with parts of further kinds.
+//! - [`ubx_all_message`] and [`sbf_all_message`], the content of a message with parts of further
+//!   kinds.
 //!
 //! ```rust
 //! match ubx_part(message) {
