@@ -29,11 +29,11 @@ use Rattle.framing.specs.Headings.{Heading, format_of}
 use Rattle.framing.specs.Messages.{messages}
 use Rattle.nav_bits.specs.Packed.{pack}
 use Rattle.receiver_log.specs.Words.{read_words, subframe_bytes, word_fields}
-use Rattle.receiver_log.specs.declared.said.LogContent.{LogContent}
-use Rattle.receiver_log.specs.declared.said.LogContent.TheVariants.{Refused, Subframe, Page, Part}
-use Rattle.receiver_log.specs.declared.said.LogReason.{LogReason}
-use Rattle.receiver_log.specs.declared.said.LogMessage.{LogMessage}
-use Rattle.receiver_log.specs.declared.said.LogMessage.TheVariants.{Other, Time, Received, Dated}
+use Rattle.receiver_log.specs.declared.content.LogContent.{LogContent}
+use Rattle.receiver_log.specs.declared.content.LogContent.TheVariants.{Refused, Subframe, Page, Part}
+use Rattle.receiver_log.specs.declared.content.LogReason.{LogReason}
+use Rattle.receiver_log.specs.declared.content.LogMessage.{LogMessage}
+use Rattle.receiver_log.specs.declared.content.LogMessage.TheVariants.{Other, Time, Received, Dated}
 use Rattle.receiver_log.specs.Capture as logs
 use Rattle.receiver_log.specs.Log.{begun, head_line, reason_in}
 use Rattle.receiver_log.specs.declared.reception.Reception.{Reception}

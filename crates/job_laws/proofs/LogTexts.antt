@@ -6,9 +6,9 @@ use Rattle.nav_eph.specs.declared.signal.Signal.{Signal}
 use Rattle.capture_lines.specs.Texts.{half_text}
 use Rattle.capture_lines.specs.declared.item.LineItem.{LineItem}
 use Rattle.sent_captures.specs.Slots.{text_of_item, text_of_items}
-use Rattle.receiver_log.specs.declared.said.LogContent.{LogContent}
-use Rattle.receiver_log.specs.declared.said.LogContent.TheVariants.{Refused, Subframe, Page, Part}
-use Rattle.receiver_log.specs.declared.said.LogReason.{LogReason}
+use Rattle.receiver_log.specs.declared.content.LogContent.{LogContent}
+use Rattle.receiver_log.specs.declared.content.LogContent.TheVariants.{Refused, Subframe, Page, Part}
+use Rattle.receiver_log.specs.declared.content.LogReason.{LogReason}
 use Rattle.receiver_log.specs.declared.reception.Reception.{Reception}
 use Rattle.receiver_log.specs.declared.state.LogState.{LogState}
 use Rattle.receiver_log.specs.Capture.{given, lines_from}

@@ -23,11 +23,11 @@ use Rattle.receiver_log.specs.Sbf.{time_at}
 use Rattle.receiver_log.specs.Ubx.{galileo_words, gps_words, page_with, payload_of}
 use Rattle.receiver_log.specs.Ubx.{payload_content, satellite_of, subframe_with, ubx_message}
 use Rattle.receiver_log.specs.Ubx.{words_content}
-use Rattle.receiver_log.specs.declared.said.LogContent.{LogContent}
-use Rattle.receiver_log.specs.declared.said.LogContent.TheVariants.{Refused, Subframe, Page, Part}
-use Rattle.receiver_log.specs.declared.said.LogReason.TheVariants.{Length}
-use Rattle.receiver_log.specs.declared.said.LogMessage.{LogMessage}
-use Rattle.receiver_log.specs.declared.said.LogMessage.TheVariants.{Other, Time, Received, Dated}
+use Rattle.receiver_log.specs.declared.content.LogContent.{LogContent}
+use Rattle.receiver_log.specs.declared.content.LogContent.TheVariants.{Refused, Subframe, Page, Part}
+use Rattle.receiver_log.specs.declared.content.LogReason.TheVariants.{Length}
+use Rattle.receiver_log.specs.declared.content.LogMessage.{LogMessage}
+use Rattle.receiver_log.specs.declared.content.LogMessage.TheVariants.{Other, Time, Received, Dated}
 
 -- a time is in the weeks that are accepted from receivers, or at the end of the last
 abbrev pub IsTime : Option ℕ → Type 0

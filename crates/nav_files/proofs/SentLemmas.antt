@@ -11,7 +11,7 @@ use Rattle.one_run.proofs.Surface.{prefix_after}
 use Rattle.nav_files.specs.declared.counts.RinexCounts.{RinexCounts}
 use Rattle.nav_files.proofs.Surface.{grew_between, grew_more}
 use Rattle.sent_captures.specs.Sendable.{sent_head, sent_text}
-use Rattle.nav_files.specs.declared.told.SendOutcome.{SendOutcome}
+use Rattle.nav_files.specs.declared.outcome.SendOutcome.{SendOutcome}
 use Rattle.nav_files.specs.Following.{counted}
 use Rattle.nav_files.specs.Sends.{counts_of_outcomes, sends_text, slot_behind, slots_behind, told, outcome_text, send_outcomes}
 use Rattle.nav_files.proofs.Tolds.{counts_more, slots_more, texts_are, tolds_append, tolds_length, tolds_more}

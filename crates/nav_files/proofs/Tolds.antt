@@ -11,7 +11,7 @@ use Rattle.sent_captures.specs.declared.fault.SendFault.{SendFault}
 use Rattle.sent_captures.specs.Slots.{slot_items, slot_text, text_of_items}
 use Rattle.sent_captures.specs.Sendable.{first_fault, has_other_issue, is_ephemeris, is_far, is_full, no_fault, send_fault, sendable, slots_items}
 use Rattle.sent_captures.proofs.Surface.{texts_append}
-use Rattle.nav_files.specs.declared.told.SendOutcome.{SendOutcome}
+use Rattle.nav_files.specs.declared.outcome.SendOutcome.{SendOutcome}
 use Rattle.nav_files.specs.Following.{counted}
 use Rattle.nav_files.specs.Sends.{counts_of_outcomes, is_item, is_passed, is_rejection, slot_behind, slots_behind, told, outcome_item, outcome_text, send_outcomes}
 

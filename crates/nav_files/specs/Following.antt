@@ -4,8 +4,8 @@ use Rattle.nav_eph.specs.Ranges.{IsItem}
 use Rattle.nav_eph.specs.declared.items.NavItem.{NavItem}
 use Rattle.nav_files.specs.declared.counts.RinexCounts.{RinexCounts}
 use Rattle.sent_captures.specs.Sendable.{IsEphemeris, send_fault}
-use Rattle.nav_files.specs.declared.told.SendOutcome.{SendOutcome}
-use Rattle.nav_files.specs.declared.told.SendOutcome.TheVariants.{Sent, NotSent, Withheld, Refused, PassedOver}
+use Rattle.nav_files.specs.declared.outcome.SendOutcome.{SendOutcome}
+use Rattle.nav_files.specs.declared.outcome.SendOutcome.TheVariants.{Sent, NotSent, Withheld, Refused, PassedOver}
 use Rattle.nav_files.specs.Sends.{is_item, is_passed, is_rejection}
 
 -- the item is an ephemeris that may be transmitted in the slot

@@ -15,8 +15,8 @@ use Rattle.sent_captures.specs.declared.fault.SendFault.{SendFault}
 use Rattle.sent_captures.specs.declared.fault.SendFault.TheVariants as faults
 use Rattle.sent_captures.specs.Slots.{slot_text}
 use Rattle.sent_captures.specs.Sendable.{is_ephemeris, send_fault, sent_head, sent_text}
-use Rattle.nav_files.specs.declared.told.SendOutcome.{SendOutcome}
-use Rattle.nav_files.specs.declared.told.SendOutcome.TheVariants.{Sent, NotSent, Withheld, Refused, PassedOver}
+use Rattle.nav_files.specs.declared.outcome.SendOutcome.{SendOutcome}
+use Rattle.nav_files.specs.declared.outcome.SendOutcome.TheVariants.{Sent, NotSent, Withheld, Refused, PassedOver}
 
 -- the report's word for why an ephemeris may not be transmitted
 abbrev pub fault_text : SendFault → List ℕ

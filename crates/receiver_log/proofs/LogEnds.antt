@@ -23,7 +23,7 @@ use Rattle.one_run.proofs.Surface.{ahead_at_end, ahead_by, between_behind, betwe
 use Rattle.one_run.proofs.Surface.{between_within, none_failed, prefix_more, prefix_of, prefix_same}
 use Rattle.one_run.proofs.Surface.{prefix_trans, prefix_within, read_failed, report_failed}
 use Rattle.one_run.proofs.Surface.{with_rest, write_failed}
-use Rattle.receiver_log.specs.declared.said.LogMessage.{LogMessage}
+use Rattle.receiver_log.specs.declared.content.LogMessage.{LogMessage}
 use Rattle.receiver_log.specs.declared.reception.Reception.{Reception}
 use Rattle.receiver_log.specs.declared.state.LogCounts.{LogCounts}
 use Rattle.receiver_log.specs.Capture.{capture_of, counts_after, counts_of, decided_capture}

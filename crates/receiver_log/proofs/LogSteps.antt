@@ -14,7 +14,7 @@ use Rattle.one_run.proofs.Surface.{prefix_behind, prefix_same}
 use Rattle.one_run.specs.declared.fault.BridgeFault.{BridgeFault}
 use Rattle.one_run.specs.declared.fault.BridgeFault.TheVariants.{ReadFault, WriteFault, ReportFault}
 use Rattle.one_run.specs.declared.fault.BridgeFault.TheVariants.{NotThisForm, TooLong, NoMemory}
-use Rattle.receiver_log.specs.declared.said.LogMessage.{LogMessage}
+use Rattle.receiver_log.specs.declared.content.LogMessage.{LogMessage}
 use Rattle.receiver_log.specs.declared.reception.Reception.{Reception}
 use Rattle.receiver_log.specs.declared.state.LogState.{LogState}
 use Rattle.receiver_log.specs.Capture.{counts_after, given, lines_from, refusal_text, refusals_from}

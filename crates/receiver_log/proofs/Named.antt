@@ -5,7 +5,7 @@ use Rattle.std.specs.Prelude.{◌==◌, Option, Some, None, if◌then◌else◌,
 use Rattle.std.proofs.lemmas.Bool.{and_parts, leb-true, ltb-true, or_cases}
 use Rattle.receiver_log.specs.Numbers.{two_at}
 use Rattle.receiver_log.specs.Ubx.{payload_of}
-use Rattle.receiver_log.specs.declared.said.LogReason.TheVariants.{Length}
+use Rattle.receiver_log.specs.declared.content.LogReason.TheVariants.{Length}
 use Rattle.receiver_log.specs.Messages.{payload_part, sbf_by, sbf_part, ubx_by, ubx_part}
 use Rattle.receiver_log.specs.Named.{IsNamed, are_named, are_rules, is_named}
 use Rattle.receiver_log.specs.Orders.{bits_in}

@@ -6,8 +6,8 @@ use Rattle.std.proofs.lemmas.Bool.{cases_Bool, cases_eq, le-leb, lt-leb, ltb-fal
 use Rattle.receiver_log.specs.Numbers.{two_at}
 use Rattle.receiver_log.specs.Sbf.{block_content, sbf_message}
 use Rattle.receiver_log.specs.Ubx.{payload_of, payload_content, ubx_message, words_content}
-use Rattle.receiver_log.specs.declared.said.LogMessage.{LogMessage}
-use Rattle.receiver_log.specs.declared.said.LogMessage.TheVariants.{Other}
+use Rattle.receiver_log.specs.declared.content.LogMessage.{LogMessage}
+use Rattle.receiver_log.specs.declared.content.LogMessage.TheVariants.{Other}
 use Rattle.receiver_log.specs.Messages.{payload_part, sbf_by, sbf_part, ubx_by, ubx_part}
 use Rattle.receiver_log.specs.Rules.{rule_in}
 use Rattle.receiver_log.specs.declared.part.Found.{Found}

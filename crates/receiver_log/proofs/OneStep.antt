@@ -2,12 +2,12 @@
 use Rattle.std.proofs.Common.{◌≡◌, ℕ, Bool, true, false, not, List, [], ◌∷◌, ◌++◌, length, map}
 use Rattle.std.proofs.Common.{refl, sym, ap, subst, ◌∙◌, append-nil, inl, inr, arith}
 use Rattle.std.specs.Prelude.{None, Option}
-use Rattle.receiver_log.specs.declared.said.LogReason.{LogReason}
+use Rattle.receiver_log.specs.declared.content.LogReason.{LogReason}
 use Rattle.framing.specs.Headings.{Heading, IsHeading, format_of}
 use Rattle.framing.specs.Messages.{messages, decided}
 use Rattle.framing.specs.MessageState.{IsWaiting, TakesMessage, TakesNone}
 use Rattle.framing.proofs.Surface.{decided_message, decided_none}
-use Rattle.receiver_log.specs.declared.said.LogMessage.{LogMessage}
+use Rattle.receiver_log.specs.declared.content.LogMessage.{LogMessage}
 use Rattle.receiver_log.specs.declared.reception.Reception.{Reception}
 use Rattle.receiver_log.specs.declared.state.LogState.{LogState}
 use Rattle.receiver_log.specs.declared.state.MessageCounts.{MessageCounts}

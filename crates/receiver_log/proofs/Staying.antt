@@ -8,9 +8,9 @@ use Rattle.std.specs.Prelude.{Option, Some, None}
 use Rattle.framing.specs.Headings.{Heading, format_of}
 use Rattle.framing.specs.Messages.{Format, decided, messages, messages_past, undecided}
 use Rattle.receiver_log.specs.Systems.{SaysTimes}
-use Rattle.receiver_log.specs.declared.said.LogContent.{LogContent}
-use Rattle.receiver_log.specs.declared.said.LogMessage.{LogMessage}
-use Rattle.receiver_log.specs.declared.said.LogMessage.TheVariants.{Other, Time, Received, Dated}
+use Rattle.receiver_log.specs.declared.content.LogContent.{LogContent}
+use Rattle.receiver_log.specs.declared.content.LogMessage.{LogMessage}
+use Rattle.receiver_log.specs.declared.content.LogMessage.TheVariants.{Other, Time, Received, Dated}
 use Rattle.receiver_log.specs.declared.reception.Reception.{Reception}
 use Rattle.receiver_log.specs.Log.{one_more}
 use Rattle.receiver_log.specs.Mirrors.{behind_time, decision, stamped}

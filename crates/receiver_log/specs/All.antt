@@ -3,9 +3,9 @@ use Rattle.std.specs.Prelude.{ℕ, nat_lt, if◌then◌else◌, List, length, Op
 use Rattle.receiver_log.specs.Sbf.{sbf_message, time_at}
 use Rattle.receiver_log.specs.Systems.{SaysTimes}
 use Rattle.receiver_log.specs.Ubx.{ubx_message}
-use Rattle.receiver_log.specs.declared.said.LogContent.TheVariants.{Part as Sent, Refused as Rejected}
-use Rattle.receiver_log.specs.declared.said.LogMessage.{LogMessage}
-use Rattle.receiver_log.specs.declared.said.LogMessage.TheVariants.{Other, Time, Received, Dated}
+use Rattle.receiver_log.specs.declared.content.LogContent.TheVariants.{Part as Sent, Refused as Rejected}
+use Rattle.receiver_log.specs.declared.content.LogMessage.{LogMessage}
+use Rattle.receiver_log.specs.declared.content.LogMessage.TheVariants.{Other, Time, Received, Dated}
 use Rattle.receiver_log.specs.Messages.{sbf_part, ubx_part}
 use Rattle.receiver_log.specs.declared.part.Found.{Found}
 use Rattle.receiver_log.specs.declared.part.Found.TheVariants.{Nothing, Refused, Part}

@@ -5,8 +5,8 @@ use Rattle.framing.specs.Messages.{messages, decided}
 use Rattle.framing.specs.Headings.{Heading, format_of}
 use Rattle.one_run.specs.Reports.{report_line}
 use Rattle.one_run.specs.Runs.{Meaning}
-use Rattle.receiver_log.specs.declared.said.LogReason.{LogReason}
-use Rattle.receiver_log.specs.declared.said.LogMessage.{LogMessage}
+use Rattle.receiver_log.specs.declared.content.LogReason.{LogReason}
+use Rattle.receiver_log.specs.declared.content.LogMessage.{LogMessage}
 use Rattle.receiver_log.specs.declared.reception.Reception.{Reception}
 use Rattle.receiver_log.specs.declared.state.LogCounts.{LogCounts}
 use Rattle.receiver_log.specs.declared.state.LogState.{LogState}

@@ -9,12 +9,12 @@ use Rattle.std.specs.Int.{bytes_high_first}
 use Rattle.capture_lines.specs.Lines.{part_text}
 use Rattle.capture_lines.specs.declared.part.PartLine.{PartLine}
 use Rattle.receiver_log.specs.Words.{read_words, has_good_reading, is_inverted, subframe_bytes}
-use Rattle.receiver_log.specs.declared.said.LogContent.{LogContent}
-use Rattle.receiver_log.specs.declared.said.LogContent.TheVariants.{Refused, Subframe, Page, Part}
-use Rattle.receiver_log.specs.declared.said.LogReason.{LogReason}
-use Rattle.receiver_log.specs.declared.said.LogReason.TheVariants.{Untimed, Late, Far}
-use Rattle.receiver_log.specs.declared.said.LogMessage.{LogMessage}
-use Rattle.receiver_log.specs.declared.said.LogMessage.TheVariants.{Other, Time, Received, Dated}
+use Rattle.receiver_log.specs.declared.content.LogContent.{LogContent}
+use Rattle.receiver_log.specs.declared.content.LogContent.TheVariants.{Refused, Subframe, Page, Part}
+use Rattle.receiver_log.specs.declared.content.LogReason.{LogReason}
+use Rattle.receiver_log.specs.declared.content.LogReason.TheVariants.{Untimed, Late, Far}
+use Rattle.receiver_log.specs.declared.content.LogMessage.{LogMessage}
+use Rattle.receiver_log.specs.declared.content.LogMessage.TheVariants.{Other, Time, Received, Dated}
 use Rattle.receiver_log.specs.declared.state.LogState.{LogState}
 use Rattle.receiver_log.specs.declared.state.CaptureCounts.{CaptureCounts}
 use Rattle.receiver_log.specs.declared.state.MessageCounts.{MessageCounts}

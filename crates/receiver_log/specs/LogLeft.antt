@@ -3,7 +3,7 @@ use Rattle.std.specs.Prelude.{◌≡◌, ◌≤◌, ℕ, ◌+◌, nat_lt, Bool, 
 use Rattle.std.specs.Prelude.{List, [], ◌++◌, length, Option, Some, None, Result, OnOk, OnErr, ◌⊎◌, ⊤}
 use Rattle.nav_io.specs.Causes.{Rose}
 use Rattle.framing.specs.Headings.{Heading}
-use Rattle.receiver_log.specs.declared.said.LogMessage.{LogMessage}
+use Rattle.receiver_log.specs.declared.content.LogMessage.{LogMessage}
 use Rattle.receiver_log.specs.Capture.{capture_of, lines_from, too_many}
 use Rattle.receiver_log.specs.Mirrors.{ahead}
 use Rattle.receiver_log.specs.Steps.{LogView}

@@ -3,7 +3,7 @@ use Rattle.std.specs.Prelude.{ℕ, ◌+◌, ◌-◌, ◌*◌, ◌%◌, ◌==◌,
 use Rattle.std.specs.Prelude.{List, length, slice_index, Option, Some, None}
 use Rattle.receiver_log.specs.Numbers.{two_at}
 use Rattle.receiver_log.specs.Ubx.{payload_of}
-use Rattle.receiver_log.specs.declared.said.LogReason.TheVariants.{Length}
+use Rattle.receiver_log.specs.declared.content.LogReason.TheVariants.{Length}
 use Rattle.receiver_log.specs.declared.part.Found.{Found}
 use Rattle.receiver_log.specs.declared.part.Found.TheVariants.{Nothing, Refused}
 use Rattle.receiver_log.specs.declared.rule.PartRule.{PartRule}

@@ -3,8 +3,8 @@ use Rattle.std.specs.Prelude.{ℕ, min, ◌+◌, ◌*◌, ◌&&◌, Bool, if◌t
 use Rattle.std.specs.Prelude.{◌++◌, length, map, Option, Some, None}
 use Rattle.framing.specs.Headings.{Heading, format_of}
 use Rattle.framing.specs.Messages.{messages_past}
-use Rattle.receiver_log.specs.declared.said.LogMessage.{LogMessage}
-use Rattle.receiver_log.specs.declared.said.LogMessage.TheVariants.{Other, Time, Received, Dated}
+use Rattle.receiver_log.specs.declared.content.LogMessage.{LogMessage}
+use Rattle.receiver_log.specs.declared.content.LogMessage.TheVariants.{Other, Time, Received, Dated}
 use Rattle.receiver_log.specs.declared.queue.Pending.{Pending}
 use Rattle.receiver_log.specs.declared.reception.Reception.{Reception}
 use Rattle.receiver_log.specs.declared.state.MessageCounts.{MessageCounts}

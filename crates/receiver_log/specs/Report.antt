@@ -1,9 +1,9 @@
 -- The report of a log.
 use Rattle.std.specs.Prelude.{ℕ, ◌-◌, ◌==◌, if◌then◌else◌, List, [], ◌++◌, codes}
 use Rattle.one_run.specs.Reports.{count_line}
-use Rattle.receiver_log.specs.declared.said.LogReason.{LogReason}
-use Rattle.receiver_log.specs.declared.said.LogReason.TheVariants.{Length, Satellite, Untimed}
-use Rattle.receiver_log.specs.declared.said.LogReason.TheVariants.{Late, Far}
+use Rattle.receiver_log.specs.declared.content.LogReason.{LogReason}
+use Rattle.receiver_log.specs.declared.content.LogReason.TheVariants.{Length, Satellite, Untimed}
+use Rattle.receiver_log.specs.declared.content.LogReason.TheVariants.{Late, Far}
 use Rattle.receiver_log.specs.declared.state.LogCounts.{LogCounts}
 
 -- the report's word for a reason

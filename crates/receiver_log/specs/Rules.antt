@@ -1,7 +1,7 @@
 -- The part that a table gives.
 use Rattle.std.specs.Prelude.{ℕ, ◌-◌, ◌==◌, ◌&&◌, ◌||◌, nat_le, Bool, false, if◌then◌else◌}
 use Rattle.std.specs.Prelude.{List, [], ◌∷◌, Option, Some, None}
-use Rattle.receiver_log.specs.declared.said.LogReason.TheVariants.{Satellite}
+use Rattle.receiver_log.specs.declared.content.LogReason.TheVariants.{Satellite}
 use Rattle.receiver_log.specs.declared.part.Found.{Found}
 use Rattle.receiver_log.specs.declared.part.Found.TheVariants.{Refused, Part}
 use Rattle.receiver_log.specs.declared.rule.PartRule.{PartRule}

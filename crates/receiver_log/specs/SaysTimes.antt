@@ -5,8 +5,8 @@ use Rattle.receiver_log.specs.Numbers.{two_at}
 use Rattle.receiver_log.specs.Sbf.{block_content, pages_content, sbf_message, subframe_content}
 use Rattle.receiver_log.specs.Systems.{SaysTimes}
 use Rattle.receiver_log.specs.Ubx.{payload_of, payload_content, ubx_message, words_content}
-use Rattle.receiver_log.specs.declared.said.LogMessage.{LogMessage}
-use Rattle.receiver_log.specs.declared.said.LogMessage.TheVariants.{Other, Time, Received, Dated}
+use Rattle.receiver_log.specs.declared.content.LogMessage.{LogMessage}
+use Rattle.receiver_log.specs.declared.content.LogMessage.TheVariants.{Other, Time, Received, Dated}
 use Rattle.receiver_log.specs.All.{dated_in, heard_in, instead, sbf_all, time_of, ubx_all}
 use Rattle.receiver_log.specs.Messages.{sbf_part, ubx_part}
 use Rattle.receiver_log.specs.declared.part.Found.{Found}

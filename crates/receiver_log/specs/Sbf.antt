@@ -9,10 +9,10 @@ use Rattle.receiver_log.specs.Times.{time_in}
 use Rattle.receiver_log.specs.Words.{words_at}
 use Rattle.receiver_log.specs.Halves.{sbf_even, sbf_odd}
 use Rattle.receiver_log.specs.Ubx.{satellite_of, subframe_with, page_with}
-use Rattle.receiver_log.specs.declared.said.LogContent.TheVariants.{Refused}
-use Rattle.receiver_log.specs.declared.said.LogReason.TheVariants.{Length}
-use Rattle.receiver_log.specs.declared.said.LogMessage.{LogMessage}
-use Rattle.receiver_log.specs.declared.said.LogMessage.TheVariants.{Other, Dated}
+use Rattle.receiver_log.specs.declared.content.LogContent.TheVariants.{Refused}
+use Rattle.receiver_log.specs.declared.content.LogReason.TheVariants.{Length}
+use Rattle.receiver_log.specs.declared.content.LogMessage.{LogMessage}
+use Rattle.receiver_log.specs.declared.content.LogMessage.TheVariants.{Other, Dated}
 
 -- the time tag of a block: TOW in milliseconds at offset 8, WNc at 12
 abbrev pub time_at : List ℕ → Option ℕ

@@ -2,10 +2,10 @@
 -- messages between them.
 use Rattle.std.specs.Prelude.{◌≡◌, ◌≤◌, Bool, true, false}
 use Rattle.nav_eph.specs.declared.sat.System.TheVariants.{Gps, Gal}
-use Rattle.receiver_log.specs.declared.said.LogContent.{LogContent}
-use Rattle.receiver_log.specs.declared.said.LogContent.TheVariants.{Refused, Subframe, Page, Part}
-use Rattle.receiver_log.specs.declared.said.LogMessage.{LogMessage}
-use Rattle.receiver_log.specs.declared.said.LogMessage.TheVariants.{Other, Time, Received, Dated}
+use Rattle.receiver_log.specs.declared.content.LogContent.{LogContent}
+use Rattle.receiver_log.specs.declared.content.LogContent.TheVariants.{Refused, Subframe, Page, Part}
+use Rattle.receiver_log.specs.declared.content.LogMessage.{LogMessage}
+use Rattle.receiver_log.specs.declared.content.LogMessage.TheVariants.{Other, Time, Received, Dated}
 
 -- the satellite of a subframe is of GPS, that of a page of Galileo; a part has a capital letter and a satellite from 1 to 99
 abbrev pub IsOfSystem : LogContent → Type 0

@@ -9,12 +9,12 @@ use Rattle.nav_eph.specs.declared.signal.Signal.TheVariants.{E1b, E5b}
 use Rattle.receiver_log.specs.Times.{time_of_week, time_of_date, time_of_raw}
 use Rattle.receiver_log.specs.Words.{words_at}
 use Rattle.receiver_log.specs.Halves.{ubx_even, ubx_odd}
-use Rattle.receiver_log.specs.declared.said.LogContent.{LogContent}
-use Rattle.receiver_log.specs.declared.said.LogContent.TheVariants.{Refused, Subframe, Page}
-use Rattle.receiver_log.specs.declared.said.LogReason.TheVariants.{Length}
-use Rattle.receiver_log.specs.declared.said.LogReason.TheVariants.{Satellite as NoSatellite}
-use Rattle.receiver_log.specs.declared.said.LogMessage.{LogMessage}
-use Rattle.receiver_log.specs.declared.said.LogMessage.TheVariants.{Other, Time, Received}
+use Rattle.receiver_log.specs.declared.content.LogContent.{LogContent}
+use Rattle.receiver_log.specs.declared.content.LogContent.TheVariants.{Refused, Subframe, Page}
+use Rattle.receiver_log.specs.declared.content.LogReason.TheVariants.{Length}
+use Rattle.receiver_log.specs.declared.content.LogReason.TheVariants.{Satellite as NoSatellite}
+use Rattle.receiver_log.specs.declared.content.LogMessage.{LogMessage}
+use Rattle.receiver_log.specs.declared.content.LogMessage.TheVariants.{Other, Time, Received}
 
 -- the satellite of a system with this number
 unfoldable pub satellite_of : System → ℕ → Option Satellite

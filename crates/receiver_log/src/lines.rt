@@ -7,7 +7,7 @@ ghost use Rattle.nav_eph.specs.declared.sat.System.TheVariants.{Gps, Gal};
 ghost use Rattle.capture_lines.specs.Texts.{half_text, lnav_text};
 ghost use Rattle.std.specs.Int.{bytes_high_first};
 ghost use Rattle.capture_lines.specs.Lines.{IsPart, part_text};
-ghost use Rattle.receiver_log.specs.declared.said.LogContent.TheVariants.{Part};
+ghost use Rattle.receiver_log.specs.declared.content.LogContent.TheVariants.{Part};
 ghost use Rattle.receiver_log.specs.Systems.{IsOfSystem};
 ghost use Rattle.receiver_log.specs.Log.{byte_count, bytes_of, head_line, part_at};
 

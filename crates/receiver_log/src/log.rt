@@ -9,7 +9,7 @@ ghost use Rattle.nav_io.specs.Prefix.{AppendsPrefix};
 ghost use Rattle.framing.specs.Headings.{format_of};
 ghost use Rattle.framing.specs.MessageState.{MayFeed};
 ghost use Rattle.receiver_log.specs.Capture.{refusal_line};
-ghost use Rattle.receiver_log.specs.declared.said.LogMessage.{LogMessage as StatedNow};
+ghost use Rattle.receiver_log.specs.declared.content.LogMessage.{LogMessage as StatedNow};
 ghost use Rattle.receiver_log.specs.Log.{counted};
 ghost use Rattle.receiver_log.specs.Mirrors.{to_come, work_left};
 ghost use Rattle.receiver_log.specs.Steps.{Advances, Breaks, BreaksLast, ReceivesLast, ReceivesOne};

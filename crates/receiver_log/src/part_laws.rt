@@ -3,7 +3,7 @@
 ghost use Rattle.std.specs.Prelude.{◌≡◌, ◌⊎◌, ℕ, List};
 ghost use Rattle.receiver_log.specs.Sbf.{sbf_message};
 ghost use Rattle.receiver_log.specs.Ubx.{ubx_message};
-ghost use Rattle.receiver_log.specs.declared.said.LogMessage.TheVariants.{Other};
+ghost use Rattle.receiver_log.specs.declared.content.LogMessage.TheVariants.{Other};
 ghost use Rattle.receiver_log.specs.Messages.{sbf_part, ubx_part};
 ghost use Rattle.receiver_log.specs.declared.tables.TheConstants.{SBF_PARTS, UBX_PARTS};
 ghost use Rattle.receiver_log.specs.declared.part.Found.TheVariants.{Nothing};

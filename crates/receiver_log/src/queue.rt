@@ -4,8 +4,8 @@ ghost use Rattle.std.specs.Prelude.{◌≡◌, ℕ, Bool, List, ◌∷◌, [], S
 ghost use Rattle.arrayvec.specs.ArrayVec.{array_vec_len};
 ghost use Rattle.std.specs.Prelude.{◌++◌, IfSome, IfNone, ◌⊎◌, All, length, drop, true, false};
 ghost use Rattle.receiver_log.specs.Systems.{IsOfSystem};
-ghost use Rattle.receiver_log.specs.declared.said.LogMessage.{LogMessage};
-ghost use Rattle.receiver_log.specs.declared.said.LogMessage.TheVariants.{Time, Received, Dated};
+ghost use Rattle.receiver_log.specs.declared.content.LogMessage.{LogMessage};
+ghost use Rattle.receiver_log.specs.declared.content.LogMessage.TheVariants.{Time, Received, Dated};
 ghost use Rattle.receiver_log.specs.Log.{one_more};
 ghost use Rattle.receiver_log.specs.Mirrors.{to_come, empty_queue};
 ghost use Rattle.receiver_log.specs.Receptions.{between as time_between};

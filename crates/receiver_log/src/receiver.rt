@@ -1,7 +1,7 @@
 //! Formats of receivers.
 
 ghost use Rattle.std.specs.Prelude.{◌≡◌, List, ℕ, Bool, true, false};
-ghost use Rattle.receiver_log.specs.declared.said.LogMessage.{LogMessage as WhatIsStated};
+ghost use Rattle.receiver_log.specs.declared.content.LogMessage.{LogMessage as WhatIsStated};
 ghost use Rattle.receiver_log.specs.Sbf.{sbf_message as sbf_says};
 ghost use Rattle.receiver_log.specs.Ubx.{ubx_message as ubx_says};
 ghost use Rattle.receiver_log.specs.Systems.{SaysOfSystem, SaysTimes};

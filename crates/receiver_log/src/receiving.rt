@@ -5,7 +5,7 @@ ghost use Rattle.std.specs.Prelude.{◌^◌, ◌<◌, ◌≤◌, ◌++◌};
 ghost use Rattle.arrayvec.specs.ArrayVec.{array_vec_len};
 ghost use Rattle.std.specs.Prelude.{ℕ, Some, IfNone};
 ghost use Rattle.nav_eph.specs.declared.sat.System.TheVariants.{Gps, Gal};
-ghost use Rattle.receiver_log.specs.declared.said.LogContent.TheVariants.{Subframe, Page, Part};
+ghost use Rattle.receiver_log.specs.declared.content.LogContent.TheVariants.{Subframe, Page, Part};
 ghost use Rattle.receiver_log.specs.Systems.{IsOfSystem};
 ghost use Rattle.receiver_log.specs.Capture.{given};
 ghost use Rattle.receiver_log.specs.Log.{Gives, given_at, head_text, refused_by};

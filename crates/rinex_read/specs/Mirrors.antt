@@ -19,7 +19,7 @@ use Rattle.nav_io.specs.LinesState.{LinesState}
 use Rattle.rinex_read.specs.declared.judged.HeaderFault.{HeaderFault}
 use Rattle.rinex_read.specs.declared.judged.HeaderFault.TheVariants as faults
 use Rattle.rinex_read.specs.States.{RecordsState, held_reads}
-use Rattle.rinex_read.specs.declared.said.RecordStated.{RecordStated}
+use Rattle.rinex_read.specs.declared.stated.RecordStated.{RecordStated}
 
 -- the definition of each kind of record
 abbrev pub kind_by : RecordKind → Kind
