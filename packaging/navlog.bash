@@ -7,6 +7,7 @@ _navlog() {
   [ "$current" != = ] || current=
   case $before in
     --from | =) words=(sbf ubx) ;;
+    sbf | ubx) words=(--all) ;;
     *) [ "$COMP_CWORD" != 1 ] || words=(--from) ;;
   esac
   [ "${COMP_WORDS[COMP_CWORD]}" != = ] || words=(sbf ubx)
