@@ -9,6 +9,6 @@ pub mod Decimals
 pub mod Written
 pub mod Printed
 pub mod Surface
-mod Numbers
+mod PartNumbers
 mod PartBodies
 mod Parts

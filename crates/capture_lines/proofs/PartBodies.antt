@@ -14,7 +14,7 @@ use Rattle.capture_lines.specs.Texts.{two_digits}
 use Rattle.capture_lines.specs.declared.part.PartLine.{PartLine}
 use Rattle.capture_lines.specs.Lines.{IsPart}
 use Rattle.capture_lines.specs.PartReading.{with_bytes, with_satellite, satellite_in, bits_in, body_in}
-use Rattle.capture_lines.proofs.Numbers.{digit_range}
+use Rattle.capture_lines.proofs.PartNumbers.{digit_range}
 
 -- the text after the time tag in the line of a part
 pub record Body (part : PartLine) (rest : List ℕ) : Type 0 where

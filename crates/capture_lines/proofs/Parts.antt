@@ -12,7 +12,7 @@ use Rattle.capture_lines.specs.Reading.{number_in}
 use Rattle.capture_lines.specs.declared.part.PartLine.{PartLine}
 use Rattle.capture_lines.specs.Lines.{IsPart, IsPartLine, written_line}
 use Rattle.capture_lines.specs.PartReading.{body_in, part_with, part_in}
-use Rattle.capture_lines.proofs.Numbers.{digits_in_front, prefix_digits, number_of_text, text_of_number, decimal_is_text}
+use Rattle.capture_lines.proofs.PartNumbers.{digits_in_front, prefix_digits, number_of_text, text_of_number, decimal_is_text}
 use Rattle.capture_lines.proofs.PartBodies.{HasBody, part_of_body, body_of_rest}
 
 -- a time tag and a space before a body

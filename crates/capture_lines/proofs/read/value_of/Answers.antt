@@ -1,7 +1,7 @@
 use Rattle.std.proofs.Common.{arith}
 use Rattle.std.specs.Char.{is_ascii_digit}
 use Rattle.std.proofs.lemmas.List.Sums.{prefix_len-le-length}
-use Rattle.capture_lines.proofs.Numbers.{digit_at, digit_range, next_value}
+use Rattle.capture_lines.proofs.PartNumbers.{digit_at, digit_range, next_value}
 use Rattle.capture_lines.proofs.read.value_of.Goals as goal
 
 pub bounds-line-i : goal.bounds-line-i
