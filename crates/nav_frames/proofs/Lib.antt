@@ -1,0 +1,10 @@
+mod Grouping
+mod Moving
+mod Order
+mod Lists
+mod FrameLemmas
+mod StandLemmas
+mod RunLemmas
+mod VerdictLemmas
+mod TogetherLemmas
+mod BeginLemmas

@@ -1,0 +1,4 @@
+pub mod Parity
+pub mod Glonass
+pub mod Beidou
+pub mod Crc

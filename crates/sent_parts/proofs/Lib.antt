@@ -1,0 +1,5 @@
+mod SourceLemmas
+mod FrameLemmas
+mod RunLemmas
+mod TimesLemmas
+mod RowLemmas
