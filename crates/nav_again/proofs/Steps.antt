@@ -5,7 +5,7 @@ use Rattle.std.specs.Ordering.{match_ordering}
 use Rattle.std.proofs.lemmas.Bool.Decides.{nat_tests}
 use Rattle.nav_again.specs.declared.ephemeris.Ephemeris.{Ephemeris}
 use Rattle.nav_again.specs.declared.ephemeris.Sender.{Sender}
-use Rattle.nav_again.specs.Again.{IsPut, is_again, is_from, known_at, last_from, new_after, sender_cmp}
+use Rattle.nav_again.specs.Again.{IsPut, Knows, is_again, is_from, known_at, last_from, new_after, sender_cmp}
 
 -- keys that compare alike, and those that do not
 at_same : (s a b : Sender) → sender_cmp a b ≡ Equal → is_at (sender_cmp s) a ≡ is_at (sender_cmp s) b
@@ -44,10 +44,6 @@ pub known_after : (es : List (Sender × Ephemeris)) (k : Sender) (v : Ephemeris)
     → known_at (insert_entry sender_cmp es k v) s ≡ cond (is_at (sender_cmp s) k) (Some v) (known_at es s)
 known_after [] k v s = refl
 known_after (e ∷ es) k v s = after_at k v e es s (sender_cmp k e.0) refl (known_after es k v s)
-
--- the map has the last ones
-abbrev pub Knows : List (Sender × Ephemeris) → List Ephemeris → Type 0
-Knows known before = (s : Sender) → known_at known s ≡ last_from s before
 
 pub knows_more : (known more : List (Sender × Ephemeris)) (before : List Ephemeris) (e : Ephemeris) → Knows known before → more ≡ insert_entry sender_cmp known e.sender e → Knows more (e ∷ before)
 knows_more known more before e h m s =

@@ -2,7 +2,7 @@
 use Rattle.std.specs.Prelude.{◌≡◌, ◌++◌, Bool, true, false, cond, ◌==◌, ◌&&◌, List, [], ◌∷◌}
 use Rattle.std.specs.Prelude.{Option, None, Some}
 use Rattle.std.specs.Map.{lookup}
-use Rattle.std.specs.BTreeMap.{is_at}
+use Rattle.std.specs.BTreeMap.{insert_entry, is_at}
 use Rattle.std.specs.Cmp.Lexicographic.{pointwise}
 use Rattle.std.specs.Ordering.{int_eq, nat_cmp, ordering_then}
 use Rattle.std.specs.declared.cmp.Ordering.{Ordering}
@@ -43,3 +43,12 @@ known_at known s = lookup (is_at (sender_cmp s)) known
 abbrev pub IsPut : Bool → Ephemeris → List Ephemeris → List Ephemeris → Type 0
 IsPut true e old new = new ≡ old
 IsPut false e old new = new ≡ old ++ e ∷ []
+
+-- the map has the last one of each sender among those before
+abbrev pub Knows : List (Sender × Ephemeris) → List Ephemeris → Type 0
+Knows known before = (s : Sender) → known_at known s ≡ last_from s before
+
+-- one more ephemeris becomes the last one of its sender
+abbrev pub KnowsMore : Type 0
+KnowsMore = (known : List (Sender × Ephemeris)) (before : List Ephemeris) (e : Ephemeris)
+    → Knows known before → Knows (insert_entry sender_cmp known e.sender e) (e ∷ before)

@@ -6,8 +6,10 @@
 
 mod again;
 mod ephemeris;
+mod laws;
 #[cfg(test)]
 mod tests;
 
 pub use crate::again::{is_new, keep_new};
 pub use crate::ephemeris::{Ephemeris, Sender};
+pub use crate::laws::last_ones_are_known;

@@ -9,7 +9,7 @@ use Rattle.nav_frames.specs.Parts.{part_cmp}
 use Rattle.nav_frames.specs.Frames.{IsTimely, Stands, accepted, frames_of, frames_before}
 use Rattle.nav_frames.specs.Verdicts.{judged_in, AreJudged, IsRun, IsStep}
 use Rattle.nav_frames.proofs.Lists.{In, All-in, sorted_in, in_back}
-use Rattle.nav_frames.proofs.StandLemmas.{stands_taken, stands_given, given_before, all_before, later_before, nothing_before, stands_nothing, judged_append}
+use Rattle.nav_frames.proofs.StandLemmas.{standing, stands_taken, stands_given, given_before, all_before, later_before, nothing_before, stands_nothing, judged_append}
 
 -- a part is taken, and what is due is judged
 pub run_taken : (rules : List FrameRule) (p : FramePart) (limit higher : ℕ) (kept mid new : List FramePart) (judged all_judged : List Judged) → limit ≤ p.begin → limit ≤ higher → mid ≡ insert_key part_cmp kept p
@@ -64,17 +64,23 @@ run_nothing rules kept judged k t = record {
   judged_is = t ∙ ap (judged_in rules) (sym nothing_before);
 }
 
+-- nothing is kept of parts that all begin before the limit
+kept_before : (kept parts : List FramePart) (limit : ℕ) → Stands kept parts limit → AllByRecursion (λ p. p.begin < limit) parts → (p : FramePart) → In kept p → p.begin < limit
+kept_before kept parts limit s h p i =
+    All-in (λ q. q.begin < limit) parts p h (elim (sorted_in [] parts p (subst (λ (xs : List FramePart). In xs p) (sym s.split) (in_back s.gone kept p i))) [
+      | inl a ↦ absurd a
+      | inr b ↦ b
+    ])
+
+pub ended : (limit : ℕ) (parts : List FramePart) → AllByRecursion (λ p. p.begin < limit) parts → frames_before limit parts ≡ frames_of parts
+ended limit parts h = let s = standing limit parts in all_before s.0 parts limit s.1 (kept_before s.0 parts limit s.1 h)
+
 -- all is judged at a limit before which all parts begin
 pub run_ended : (rules : List FrameRule) (taken : List FramePart) (limit higher : ℕ) (kept new : List FramePart) (judged all_judged : List Judged) → limit ≤ higher → AllByRecursion (λ p. p.begin < higher) taken
     → IsRun rules taken limit kept judged → AreJudged rules higher kept judged new all_judged → all_judged ≡ judged_in rules (frames_of taken)
 run_ended rules taken limit higher kept new judged all_judged m h r t =
-    let s = stands_given kept new taken limit higher t.given m r.stands t.are_given in
-    let all : (p : FramePart) → In new p → p.begin < higher = λ p i. All-in (λ q. q.begin < higher) taken p h (elim (sorted_in [] taken p (subst (λ (xs : List FramePart). In xs p) (sym s.split) (in_back s.gone new p i))) [
-      | inl a ↦ absurd a
-      | inr b ↦ b
-    ]) in
     t.judged_is ∙ ap (λ (ts : List Judged). ts ++ judged_in rules t.given) r.judged_is ∙ sym (judged_append rules (frames_before limit taken) t.given)
-    ∙ ap (judged_in rules) (sym (given_before kept new taken limit higher t.given m r.stands t.are_given) ∙ all_before new taken higher s all)
+    ∙ ap (judged_in rules) (sym (given_before kept new taken limit higher t.given m r.stands t.are_given) ∙ ended higher taken h)
 
 -- where no part is late, all are accepted
 higher_all : (lag limit : ℕ) (p : FramePart) (ps : List FramePart) → AllByRecursion (λ q. limit ≤ q.begin) ps → AllByRecursion (λ q. p.begin ≤ q.begin + lag) ps

@@ -1,5 +1,5 @@
 -- The frames of a set of parts.
-use Rattle.std.specs.Prelude.{◌≡◌, ℕ, ◌<◌, ◌≤◌, ◌+◌, ◌-◌, max, nat_lt, true, cond, List, [], ◌∷◌, ◌++◌, Contains, filter, Option, None, Some}
+use Rattle.std.specs.Prelude.{◌≡◌, ℕ, ◌<◌, ◌≤◌, ◌+◌, ◌-◌, max, nat_lt, true, cond, List, [], ◌∷◌, ◌++◌, All, Contains, filter, Option, None, Some}
 use Rattle.std.specs.List.{AllByRecursion}
 use Rattle.std.specs.BTreeSet.{insert_key}
 use Rattle.std.specs.declared.cmp.Ordering.TheVariants.{Less}
@@ -105,6 +105,28 @@ pub record AreGiven (limit : ℕ) (old : List FramePart) (given : List Frame) (n
   pub before : AllBefore limit moved
   pub begin_before : AllByRecursion (λ f. f.key.begin < limit) given
   pub none_before : NoneBefore limit new
+
+-- before the first part
+abbrev pub NothingStands : Type 0
+NothingStands = Stands [] [] 0 × (frames_before 0 [] ≡ [])
+
+-- one more part is kept, of a frame that does not begin before the limit
+abbrev pub TakenStands : Type 0
+TakenStands = (kept parts : List FramePart) (limit : ℕ) (p : FramePart) → limit ≤ p.begin
+    → Stands kept parts limit
+    → Stands (insert_key part_cmp kept p) (parts ++ p ∷ []) limit
+    × (frames_before limit (parts ++ p ∷ []) ≡ frames_before limit parts)
+
+-- frames are given up to a higher limit
+abbrev pub GivenStands : Type 0
+GivenStands = (kept new parts : List FramePart) (limit higher : ℕ) (given : List Frame)
+    → limit ≤ higher → Stands kept parts limit → AreGiven higher kept given new
+    → Stands new parts higher × (frames_before higher parts ≡ frames_before limit parts ++ given)
+
+-- where all parts begin before the limit, all frames are given
+abbrev pub AllAreBefore : Type 0
+AllAreBefore = (limit : ℕ) (parts : List FramePart) → All (λ p. p.begin < limit) parts
+    → frames_before limit parts ≡ frames_of parts
 
 -- no part begins more than the lag before one that came earlier
 abbrev pub IsTimely : ℕ → List FramePart → Type 0

@@ -3,8 +3,9 @@
 ghost use Rattle.std.specs.Prelude.{◌≡◌, ◌↔◌, ◌++◌, ◌≤◌, ℕ, List, All, Contains};
 ghost use Rattle.nav_frames.specs.declared.part.FramePart.{FramePart};
 ghost use Rattle.nav_frames.specs.declared.rule.FrameRule.{FrameRule};
-ghost use Rattle.nav_frames.specs.Frames.{AreFrames, Frame, IsTimely, accepted};
-ghost use Rattle.nav_frames.specs.Frames.{frames_before, frames_of};
+ghost use Rattle.nav_frames.specs.Frames.{AllAreBefore, AreFrames, Frame, GivenStands, IsTimely};
+ghost use Rattle.nav_frames.specs.Frames.{NothingStands, TakenStands, accepted, frames_before};
+ghost use Rattle.nav_frames.specs.Frames.{frames_of};
 ghost use Rattle.periods.specs.declared.closed.Closed.{Closed};
 ghost use Rattle.nav_frames.specs.Together.{LieBefore, LieFrom, periods_in, together};
 ghost use Rattle.nav_frames.specs.Verdicts.{IsVerdict, verdict_of};
@@ -39,6 +40,15 @@ pub fn closed_frames_stay()
         → frames_before limit (parts ++ later) ≡ frames_before limit parts }
     ensures first { (limit : ℕ) (parts : List FramePart) → (rest : List Frame)
         × (frames_of parts ≡ frames_before limit parts ++ rest) }
+{}
+
+/// What a run over parts keeps: the parts of the frames that do not begin before its limit; the
+/// frames that it gave are those that do.
+pub fn kept_parts_stand()
+    ensures nothing { NothingStands }
+    ensures taken { TakenStands }
+    ensures given { GivenStands }
+    ensures all { AllAreBefore }
 {}
 
 /// The verdict judged on a frame is that on the parts of the set.

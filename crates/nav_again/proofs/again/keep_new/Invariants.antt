@@ -1,7 +1,6 @@
 use Rattle.std.proofs.Common.{◌≡◌, ◌++◌, [], List, drop}
 use Rattle.nav_again.specs.declared.ephemeris.Ephemeris.{Ephemeris}
-use Rattle.nav_again.specs.Again.{new_after}
-use Rattle.nav_again.proofs.Steps.{Knows}
+use Rattle.nav_again.specs.Again.{Knows, new_after}
 use Rattle.nav_again.proofs.again.keep_new.Given as goal
 
 abbrev pub invariant-keeping : goal.invariant-keeping
