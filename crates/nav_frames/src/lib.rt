@@ -20,8 +20,8 @@ mod verdict;
 pub use crate::begin::{FrameClock, PartFault, begin_within, frame_begin, parts_of_a_frame_agree};
 pub use crate::frames::Frames;
 pub use crate::laws::{
-    closed_frames_stay, frames_are, kept_parts_stand, order_does_not_matter, periods_and_frames_go_together,
-    timely_parts_are_accepted, verdicts_are,
+    closed_frames_stay, frames_are, kept_parts_stand, order_does_not_matter,
+    periods_and_frames_go_together, timely_parts_are_accepted, verdicts_are,
 };
 pub use crate::part::{FrameKey, FramePart};
 pub use crate::rule::{

@@ -3,8 +3,7 @@
 ghost use Rattle.std.specs.Prelude.{◌≡◌, ◌+◌, ◌*◌, ◌≤◌};
 ghost use Rattle.part_checks.specs.Crc.{has_crc};
 
-use nav_bits::crc_bits;
-use nav_bits::Bits;
+use nav_bits::{Bits, crc_bits};
 
 /// Whether the 24 bits behind the first `count` bits are their CRC-24Q: 214 of a Galileo F/NAV page
 /// (OS SIS ICD, section 5.1.9.4), 262 of a NavIC subframe (IRNSS ICD for SPS, section 5.9), 226 of

@@ -33,7 +33,7 @@ source_fits bits frame given (Within from width most other) e =
     let n = number_at frame from width in (
       omega (arith, leb-true width 63 h.1),
       one_fits (nat_le n most) n other (2 ^ width) (number_at-lt frame from width)
-      (ltb-true other (2 ^ width) g.1),
+          (ltb-true other (2 ^ width) g.1),
     )
 source_fits bits frame given (Given place width) e =
     let h = both (nat_lt place 4) (nat_le width 63) e in (

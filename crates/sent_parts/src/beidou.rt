@@ -8,8 +8,8 @@ use crate::frame::FrameKind;
 use crate::run::{NONE, Number, Run};
 use crate::source::Source;
 use crate::times::Sending;
-use nav_tables::WeekRule;
 use nav_rows::{kind_d1, kind_d2};
+use nav_tables::WeekRule;
 
 // Each part takes 38 bytes.
 const PART: usize = 304;

@@ -7,8 +7,8 @@ use crate::frame::FrameKind;
 use crate::run::{NONE, Number, Run};
 use crate::source::Source;
 use crate::times::Sending;
-use nav_tables::WeekRule;
 use nav_rows::kind_fnav;
+use nav_tables::WeekRule;
 
 // Each part takes 31 bytes.
 const PART: usize = 248;

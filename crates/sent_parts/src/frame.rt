@@ -15,8 +15,8 @@ use crate::check::{Check, first_fault};
 use crate::source::{Source, message_of};
 use crate::times::{Sending, SentTimes, reference_of, times_in};
 use nav_eph::{Moment, RefWeek, Week};
-use nav_tables::{WeekRule, number_of_week};
 use nav_rows::{Kind, Row, RowFault, row_of_message};
+use nav_tables::{WeekRule, number_of_week};
 use rinex_write::{Column, Rule};
 
 /// A kind of frame: how its parts make up the message of its kind of ephemeris.

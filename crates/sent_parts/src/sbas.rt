@@ -11,8 +11,8 @@ ghost use Rattle.sent_parts.specs.Sbas.{column_of, sbas_row, sent_in};
 
 use crate::frame::{FrameFault, Heard};
 use arrayvec::ArrayVec;
-use nav_eph::Moment;
 use nav_bits::{number_in_bytes, sign_extended};
+use nav_eph::Moment;
 use nav_rows::{Kind, Row, has_fields};
 
 /// Where a column of an ephemeris of SBAS comes from.
@@ -156,7 +156,12 @@ pub fn row_of_sbas(kind: &Kind, heard: &Heard<'_>) -> Result<Row, FrameFault>
         return Err(FrameFault::OutOfRange);
     };
     let mut columns = ArrayVec::new();
-    push_columns(&SBAS_PLACES, message, sent_in(heard.near, epoch), &mut columns);
+    push_columns(
+        &SBAS_PLACES,
+        message,
+        sent_in(heard.near, epoch),
+        &mut columns,
+    );
     let row = Row {
         number: heard.satellite,
         moment: epoch,

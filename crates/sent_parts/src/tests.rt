@@ -4,8 +4,8 @@ ghost use Rattle.std.specs.Prelude.{◌≤◌};
 
 use crate::frame::{FrameFault, Heard, row_of_frame};
 use crate::kinds::frame_kind_of;
-use nav_eph::Moment;
 use hex::decode_to_slice;
+use nav_eph::Moment;
 use nav_io::MemSink;
 use nav_rows::{Row, write_record};
 use std::alloc::Global;

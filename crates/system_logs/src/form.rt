@@ -101,11 +101,17 @@ macro_rules! place {
 
 // The first 8, 21, 30, 44, 46 and 58 bits of a number, and all.
 const FIRST_8: u64 = 0xFF00_0000_0000_0000;
+
 const FIRST_21: u64 = 0xFFFF_F800_0000_0000;
+
 const FIRST_30: u64 = 0xFFFF_FFFC_0000_0000;
+
 const FIRST_44: u64 = 0xFFFF_FFFF_FFF0_0000;
+
 const FIRST_46: u64 = 0xFFFF_FFFF_FFFC_0000;
+
 const FIRST_58: u64 = 0xFFFF_FFFF_FFFF_FFC0;
+
 const ALL: u64 = 0xFFFF_FFFF_FFFF_FFFF;
 
 // Ten words of 30 bits.
@@ -174,13 +180,37 @@ macro_rules! form {
 /// The forms of the kinds. The numbers are in the bits of each part that are named first; of D2 the
 /// subframe and the page.
 pub const FORMS: [PartForm; 7] = [
-    form!(KIND_FDMA, Hamming, [ALL, FIRST_21, FIRST_8, 0, 0], number!(1 4), STRINGS),
+    form!(
+        KIND_FDMA,
+        Hamming,
+        [ALL, FIRST_21, FIRST_8, 0, 0],
+        number!(1 4),
+        STRINGS
+    ),
     form!(KIND_D1, Bch, WORDS, number!(15 3), D1_PLACES),
     form!(KIND_D2, Bch, WORDS, number!(15 3, 42 4), D2_PLACES),
     form!(KIND_QZSS, Parity, WORDS, number!(49 3), QZSS_PLACES),
-    form!(KIND_NAVIC, Crc262, [ALL, ALL, ALL, ALL, FIRST_30], number!(27 2), NAVIC_PLACES),
-    form!(KIND_FNAV, Crc214, [ALL, ALL, ALL, FIRST_46, 0], number!(0 6), FNAV_PLACES),
-    form!(KIND_SBAS, Crc226, [ALL, ALL, ALL, FIRST_58, 0], number!(8 6), SBAS_MESSAGES),
+    form!(
+        KIND_NAVIC,
+        Crc262,
+        [ALL, ALL, ALL, ALL, FIRST_30],
+        number!(27 2),
+        NAVIC_PLACES
+    ),
+    form!(
+        KIND_FNAV,
+        Crc214,
+        [ALL, ALL, ALL, FIRST_46, 0],
+        number!(0 6),
+        FNAV_PLACES
+    ),
+    form!(
+        KIND_SBAS,
+        Crc226,
+        [ALL, ALL, ALL, FIRST_58, 0],
+        number!(8 6),
+        SBAS_MESSAGES
+    ),
 ];
 
 /// The form of a kind: the first that names it.

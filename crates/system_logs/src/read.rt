@@ -8,8 +8,8 @@ ghost use Rattle.system_logs.specs.Reading.{IsBegin, IsChecked, IsRead, bytes_of
 ghost use Rattle.system_logs.specs.Reading.{form_of, frame_count, part_with, sends, words_of};
 
 use crate::form::{Count, FORMS, PartCheck, PartForm, form_in, place_in};
-use nav_eph::Moment;
 use nav_bits::{Bits, number_in_bytes};
+use nav_eph::Moment;
 use nav_frames::{FRAME_RULES, FramePart, KIND_D1, KIND_D2, begin_within, rule_of};
 use part_checks::{beidou_part, has_crc, is_good_string, lnav_part};
 use sent_parts::number_in;

@@ -11,11 +11,11 @@ ghost use Rattle.system_logs.specs.Rows.{sbas_in_bytes};
 use crate::kinds::SentKinds;
 use crate::read::bytes_of;
 use crate::told::SentRow;
-use nav_eph::Moment;
 use nav_again::{Ephemeris, Sender};
+use nav_eph::Moment;
 use nav_frames::{
-    FRAME_RULES, FrameKey, FramePart, FrameRule, KIND_D1, KIND_D2, KIND_FDMA, KIND_FNAV, KIND_NAVIC,
-    KIND_QZSS, KIND_SBAS, rule_of,
+    FRAME_RULES, FrameKey, FramePart, FrameRule, KIND_D1, KIND_D2, KIND_FDMA, KIND_FNAV,
+    KIND_NAVIC, KIND_QZSS, KIND_SBAS, rule_of,
 };
 use nav_rows::Kind;
 use sent_parts::{FrameFault, FrameKind, Heard, row_of_frame, row_of_sbas};

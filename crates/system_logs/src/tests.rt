@@ -2,8 +2,8 @@
 
 use crate::vectors::{KIND_PARTS, KIND_RECORDS, MIXED_RECORDS, SBF_PARTS, UBX_PARTS};
 use crate::{HeardPart, KindCounts, Outcome, SentKinds, SystemLog, Told, read_part};
-use nav_eph::Moment;
 use hex::decode_to_slice;
+use nav_eph::Moment;
 use nav_io::MemSink;
 use nav_rows::write_record;
 use std::alloc::Global;
@@ -12,7 +12,9 @@ use std::alloc::Global;
 fn number_of(digits: &[u8]) -> u64 {
     let mut number: u64 = 0;
     for digit in digits {
-        number = number.wrapping_mul(10).wrapping_add(u64::from(digit.wrapping_sub(b'0')));
+        number = number
+            .wrapping_mul(10)
+            .wrapping_add(u64::from(digit.wrapping_sub(b'0')));
     }
     number
 }
@@ -23,7 +25,9 @@ fn word(bytes: &[u8; 40], at: usize) -> u64 {
     for i in 0..8 {
         let place = at.wrapping_add(i);
         if place < 40 {
-            number = number.wrapping_mul(256).wrapping_add(u64::from(bytes[place]));
+            number = number
+                .wrapping_mul(256)
+                .wrapping_add(u64::from(bytes[place]));
         }
     }
     number
