@@ -1,5 +1,8 @@
 //! Counts by kind.
 
+ghost use Rattle.std.specs.Prelude.{◌≡◌, ◌≤◌};
+ghost use Rattle.system_logs.specs.Counts.{no_counts, with_frame, with_part};
+
 use crate::read::PartRefusal;
 use crate::told::{Outcome, Told};
 
@@ -26,7 +29,9 @@ pub struct KindCounts {
 
 impl KindCounts {
     /// No parts.
-    pub fn zero() -> KindCounts {
+    pub fn zero() -> KindCounts
+        ensures { result ≡ no_counts }
+    {
         KindCounts {
             parts: 0,
             check_failed: 0,
@@ -40,7 +45,9 @@ impl KindCounts {
     }
 
     /// Counts a part: the reason for which it was not read; `late` if it was, and came too late.
-    pub fn add_part(&mut self, refusal: Option<PartRefusal>, late: bool) {
+    pub fn add_part(&mut self, refusal: Option<PartRefusal>, late: bool)
+        ensures { self.new ≡ with_part self.old refusal late }
+    {
         self.parts = self.parts.saturating_add(1);
         match refusal {
             Some(PartRefusal::Check) => self.check_failed = self.check_failed.saturating_add(1),
@@ -55,7 +62,9 @@ impl KindCounts {
     }
 
     /// Counts a frame.
-    pub fn add_frame(&mut self, told: &Told) {
+    pub fn add_frame(&mut self, told: &Told)
+        ensures { self.new ≡ with_frame self.old told.now.outcome }
+    {
         match told.outcome {
             Outcome::New(_) => self.complete = self.complete.saturating_add(1),
             Outcome::Again => self.again = self.again.saturating_add(1),

@@ -35,5 +35,5 @@ pub use crate::form::{Count, FORMS, PartCheck, PartForm, PartPlace, form_in, pla
 pub use crate::kinds::SentKinds;
 pub use crate::read::{HeardPart, PartRefusal, read_part};
 pub use crate::rows::row_of_parts;
-pub use crate::run::SystemLog;
+pub use crate::run::{SystemLog, tell_parts};
 pub use crate::told::{Outcome, SentRow, Told};
