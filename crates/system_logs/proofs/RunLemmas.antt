@@ -37,7 +37,7 @@ frames_more ks given f known mid new told some all a t =
           let r = a.knows before k in
           let s = t.knows (before_after ks before given) r.1 in (
             ap (λ (l : List Told). l ++ one t.outcome) r.0 ∙ ap (λ (o : Outcome). told_after ks before given ++ one o) s.0
-            ∙ sym (told_append ks before given (f ∷ [])),
+                ∙ sym (told_append ks before given (f ∷ [])),
             subst (Knows new) (sym (before_append ks before given (f ∷ []))) s.1,
           );
     }
@@ -114,10 +114,10 @@ told_frame law ks f known new_known told all row outcome r o n a = record {
   outcome = outcome;
   told_is = a;
   knows = λ before k. (
-      o ∙ ap (λ (x : Option Ephemeris). outcome_of x f.key row) (k (sender_of f.key)) ∙ ap (outcome_of (last_from (sender_of f.key) before) f.key) r,
-      subst (λ (m : List (Sender × Ephemeris)). Knows m (before_with before f.key (frame_row ks f.key f.parts))) (sym (n ∙ ap (known_with known f.key) r))
-      (knows_with law known before f.key (frame_row ks f.key f.parts) k),
-    );
+    o ∙ ap (λ (x : Option Ephemeris). outcome_of x f.key row) (k (sender_of f.key)) ∙ ap (outcome_of (last_from (sender_of f.key) before) f.key) r,
+    subst (λ (m : List (Sender × Ephemeris)). Knows m (before_with before f.key (frame_row ks f.key f.parts))) (sym (n ∙ ap (known_with known f.key) r))
+        (knows_with law known before f.key (frame_row ks f.key f.parts) k),
+  );
 }
 
 pub told_part : KnowsMore → (ks : SentKinds) (parts : List FramePart) (p : FramePart) (ps : List FramePart) (known new_known : List (Sender × Ephemeris)) (told all : List Told)

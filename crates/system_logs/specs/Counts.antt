@@ -12,8 +12,14 @@ more n = min (n + 1) 18446744073709551615
 
 abbrev pub no_counts : KindCounts
 no_counts = record {
-  parts = 0; check_failed = 0; unused = 0; rejected = 0;
-  complete = 0; again = 0; partial = 0; contradicted = 0;
+  parts = 0;
+  check_failed = 0;
+  unused = 0;
+  rejected = 0;
+  complete = 0;
+  again = 0;
+  partial = 0;
+  contradicted = 0;
 }
 
 -- a part is counted: why it was not read, or whether it came too late

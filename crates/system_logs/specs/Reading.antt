@@ -6,6 +6,7 @@ use Rattle.std.specs.Int.{w64, to_be_bytes}
 use Rattle.nav_eph.specs.Weeks.{IsNearestMoment, IsWeek, week_of}
 use Rattle.lnav_subframe.specs.Words.{AreGood, AreSource}
 use Rattle.nav_bits.specs.Bits.{number_at}
+use Rattle.nav_frames.specs.declared.begin.FrameClock.{FrameClock}
 use Rattle.nav_frames.specs.declared.rule.TheConstants.{FRAME_RULES}
 use Rattle.nav_frames.specs.declared.part.FramePart.{FramePart}
 use Rattle.nav_frames.specs.declared.rule.FrameRule.{FrameRule}
@@ -89,24 +90,26 @@ count_of (Sent number) bytes received = number_in bytes number
 count_of Superframe bytes received = frame_count bytes received
 count_of Received bytes received = received % 604800
 
--- the frame begins at the moment that its count tells, no further from the reception than the
--- tolerance
-pub record IsBeginBy (rule : FrameRule) (received tolerance count number begin : ℕ) : Type 0 where
-  pub week : IsWeek (week_of received)
-  pub nearest : IsNearestMoment received (begin_second rule.clock count number) begin
-  pub within : IsWithin tolerance received begin
+-- the frame begins at the moment that the count of its part tells, no further from the reception than
+-- the tolerance; there is none if there is no such moment, or no such week
+abbrev pub IsBeginBy : FrameClock → ℕ → ℕ → ℕ → ℕ → Option ℕ → Type 0
+IsBeginBy clock tolerance received count number (Some begin) =
+    IsWeek (week_of received) × IsNearestMoment received (begin_second clock count number) begin
+    × IsWithin tolerance received begin
+IsBeginBy clock tolerance received count number None = (begin : ℕ) → IsWeek (week_of received)
+    → IsNearestMoment received (begin_second clock count number) begin
+    → IsWithin tolerance received begin → ⊥
 
-abbrev pub IsBeginIf : Option FrameRule → HeardPart → ℕ → ℕ → ℕ → ℕ → Type 0
-IsBeginIf None part tolerance count number begin = ⊥
-IsBeginIf (Some rule) part tolerance count number begin =
-    IsBeginBy rule part.received tolerance count number begin
+abbrev pub IsBeginIf : Option FrameRule → ℕ → ℕ → ℕ → ℕ → Option ℕ → Type 0
+IsBeginIf None tolerance received count number begin = begin ≡ None
+IsBeginIf (Some rule) tolerance received count number begin =
+    IsBeginBy rule.clock tolerance received count number begin
 
--- the begin of the frame, if there is one
-abbrev pub IsBegin : HeardPart → ℕ → ℕ → ℕ → Option ℕ → Type 0
-IsBegin part tolerance count number (Some begin) =
-    IsBeginIf (rule_of FRAME_RULES part.kind) part tolerance count number begin
-IsBegin part tolerance count number None = (begin : ℕ)
-    → IsBeginIf (rule_of FRAME_RULES part.kind) part tolerance count number begin → ⊥
+-- the begin of the frame of a part, by the rule of its kind
+abbrev pub IsBegin : HeardPart → ℕ → PartPlace → List ℕ → Option ℕ → Type 0
+IsBegin part tolerance place words begin =
+    IsBeginIf (rule_of FRAME_RULES part.kind) tolerance part.received
+    (count_of place.count (bytes_of words) part.received) place.number begin
 
 -- ---- parts
 
@@ -142,7 +145,7 @@ IsDated part number masks words (Some begin) result =
 
 pub record IsReadAt (part : HeardPart) (tolerance : ℕ) (form : PartForm) (words : List ℕ) (place : PartPlace) (result : Result FramePart PartRefusal) : Type 0 where
   pub begin : Option ℕ
-  pub begin_is : IsBegin part tolerance (count_of place.count (bytes_of words) part.received) place.number begin
+  pub begin_is : IsBegin part tolerance place words begin
   pub result_is : IsDated part place.number form.masks words begin result
 
 abbrev pub IsReadBy : HeardPart → ℕ → PartForm → List ℕ → Option PartPlace → Result FramePart PartRefusal → Type 0

@@ -117,6 +117,15 @@ const ALL: u64 = 0xFFFF_FFFF_FFFF_FFFF;
 // Ten words of 30 bits.
 const WORDS: [u64; 5] = [ALL, ALL, ALL, ALL, FIRST_44];
 
+// The first 24 bits of each.
+const DATA_BITS: [u64; 5] = [
+    0xFFFF_FF03_FFFF_FC0F,
+    0xFFFF_F03F_FFFF_C0FF,
+    0xFFFF_03FF_FFFC_0FFF,
+    0xFFF0_3FFF_FFC0_FFFF,
+    0xFF03_FFFF_FC00_0000,
+];
+
 // Strings 1 to 5; the frequency number plus 7 counts, too.
 const STRINGS: [PartPlace; 5] = [
     place!(1, 1, Count::Superframe),
@@ -189,7 +198,7 @@ pub const FORMS: [PartForm; 7] = [
     ),
     form!(KIND_D1, Bch, WORDS, number!(15 3), D1_PLACES),
     form!(KIND_D2, Bch, WORDS, number!(15 3, 42 4), D2_PLACES),
-    form!(KIND_QZSS, Parity, WORDS, number!(49 3), QZSS_PLACES),
+    form!(KIND_QZSS, Parity, DATA_BITS, number!(49 3), QZSS_PLACES),
     form!(
         KIND_NAVIC,
         Crc262,

@@ -20,15 +20,19 @@
 
 mod counts;
 mod form;
+#[cfg(test)]
+mod kind_vectors;
 mod kinds;
 mod read;
 mod rows;
 mod run;
 #[cfg(test)]
+mod sbf_vectors;
+#[cfg(test)]
 mod tests;
 mod told;
 #[cfg(test)]
-mod vectors;
+mod ubx_vectors;
 
 pub use crate::counts::KindCounts;
 pub use crate::form::{Count, FORMS, PartCheck, PartForm, PartPlace, form_in, place_in};

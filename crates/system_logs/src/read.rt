@@ -1,16 +1,18 @@
 //! Reading parts: the check, the number and the begin of the frame of each.
 
-ghost use Rattle.std.specs.Prelude.{◌≡◌, ◌≤◌, IsTrue, length, take, if◌then◌else◌, ◌&&◌, ◌||◌, not};
-ghost use Rattle.std.specs.Prelude.{nat_eq, nat_le, Some, None, IfSome, IfNone};
-ghost use Rattle.nav_eph.specs.Weeks.{IsWeek, week_of};
-ghost use Rattle.system_logs.specs.Forms.{is_count};
-ghost use Rattle.system_logs.specs.Reading.{IsBegin, IsChecked, IsRead, bytes_of, count_of};
-ghost use Rattle.system_logs.specs.Reading.{form_of, frame_count, part_with, sends, words_of};
+ghost use Rattle.std.specs.Prelude.{◌≡◌, ◌≤◌, IsTrue, take, if◌then◌else◌, Some, None, IfSome};
+ghost use Rattle.part_checks.specs.Crc.{has_crc};
+ghost use Rattle.sent_parts.specs.Runs.{number_in};
+ghost use Rattle.system_logs.specs.Forms.{is_count, is_form, place_in};
+ghost use Rattle.system_logs.specs.Reading.{IsBegin, IsBeginBy, IsChecked, IsRead, IsReadAt};
+ghost use Rattle.system_logs.specs.Reading.{IsReadBy, IsReadIn, bytes_of, count_of, form_of};
+ghost use Rattle.system_logs.specs.Reading.{frame_count, part_with, sends, words_of};
+ghost use Rattle.system_logs.specs.declared.form.PartCheck.TheVariants.{Bch, Parity};
 
-use crate::form::{Count, FORMS, PartCheck, PartForm, form_in, place_in};
+use crate::form::{Count, FORMS, PartCheck, PartForm, PartPlace, form_in, place_in};
 use nav_bits::{Bits, number_in_bytes};
 use nav_eph::Moment;
-use nav_frames::{FRAME_RULES, FramePart, KIND_D1, KIND_D2, begin_within, rule_of};
+use nav_frames::{FRAME_RULES, FrameClock, FramePart, KIND_D1, KIND_D2, begin_within, rule_of};
 use part_checks::{beidou_part, has_crc, is_good_string, lnav_part};
 use sent_parts::number_in;
 
@@ -173,18 +175,36 @@ fn count_of(count: &Count, bytes: &[u8; 40], received: Moment) -> u32
     }
 }
 
-// When the frame of a part begins.
-fn begin_of(part: &HeardPart, tolerance: u32, count: u32, number: u8) -> Option<Moment>
-    ensures { IsBegin part.now tolerance count number result }
+// When the frame of a part begins, by a clock.
+fn begin_by(
+    clock: &FrameClock,
+    tolerance: u32,
+    received: Moment,
+    count: u32,
+    number: u8,
+) -> Option<Moment>
+    ensures { IsBeginBy clock.now tolerance received count number result }
 {
-    let week = part.received.week();
+    let week = received.week();
     if week < 1 || week > 16_382 {
         return None;
     }
-    let rule = rule_of(&FRAME_RULES, part.kind)?;
-    match begin_within(&rule.clock, tolerance, part.received, count, number) {
+    match begin_within(clock, tolerance, received, count, number) {
         Ok(begin) => Some(begin),
         Err(_) => None,
+    }
+}
+
+// When the frame of a part begins.
+fn begin_of(part: &HeardPart, tolerance: u32, place: &PartPlace, words: &[u64; 5]) -> Option<Moment>
+    requires { IsTrue (is_count place.now.count) }
+    ensures { IsBegin part.now tolerance place.now words.now result }
+{
+    let bytes = bytes_of(words);
+    let count = count_of(&place.count, &bytes, part.received);
+    match rule_of(&FRAME_RULES, part.kind) {
+        None => None,
+        Some(rule) => begin_by(&rule.clock, tolerance, part.received, count, place.number),
     }
 }
 
@@ -236,6 +256,53 @@ fn part_with(
     }
 }
 
+// The part at a place of its form.
+fn read_at(
+    part: &HeardPart,
+    tolerance: u32,
+    form: &PartForm,
+    words: &[u64; 5],
+    place: &PartPlace,
+) -> Result<FramePart, PartRefusal>
+    requires { IsTrue (is_count place.now.count) }
+    ensures { IsReadAt part.now tolerance form.now words.now place.now result }
+{
+    match begin_of(part, tolerance, place, words) {
+        None => Err(PartRefusal::Time),
+        Some(begin) => Ok(part_with(part, begin, place.number, &form.masks, words)),
+    }
+}
+
+// The part of checked bits, at the place that its number has in the form.
+fn read_by(
+    part: &HeardPart,
+    tolerance: u32,
+    form: &PartForm,
+    words: &[u64; 5],
+) -> Result<FramePart, PartRefusal>
+    requires { IsTrue (is_form form.now) }
+    ensures { IsReadBy part.now tolerance form.now words.now
+        (place_in form.now.places.now (number_in (bytes_of words.now) form.now.number)) result }
+{
+    let bytes = bytes_of(words);
+    let number = number_in(&form.number, &bytes);
+    match place_in(form.places, number) {
+        None => Err(PartRefusal::Unused),
+        Some(place) => read_at(part, tolerance, form, words, &place),
+    }
+}
+
+// The part of a form.
+fn read_in(part: &HeardPart, tolerance: u32, form: &PartForm) -> Result<FramePart, PartRefusal>
+    requires { IsTrue (is_form form.now) }
+    ensures { IsReadIn part.now tolerance form.now result }
+{
+    match checked(form.check, &part.bits) {
+        None => Err(PartRefusal::Check),
+        Some(words) => read_by(part, tolerance, form, &words),
+    }
+}
+
 /// The place of a part in its frame, which begins no further from the reception than `tolerance`
 /// seconds.
 ///
@@ -243,19 +310,8 @@ fn part_with(
 pub fn read_part(part: &HeardPart, tolerance: u32) -> Result<FramePart, PartRefusal>
     ensures { IsRead part.now tolerance result }
 {
-    let Some(form) = form_of(part) else {
-        return Err(PartRefusal::Kind);
-    };
-    let Some(words) = checked(form.check, &part.bits) else {
-        return Err(PartRefusal::Check);
-    };
-    let bytes = bytes_of(&words);
-    let Some(place) = place_in(form.places, number_in(&form.number, &bytes)) else {
-        return Err(PartRefusal::Unused);
-    };
-    let count = count_of(&place.count, &bytes, part.received);
-    match begin_of(part, tolerance, count, place.number) {
-        None => Err(PartRefusal::Time),
-        Some(begin) => Ok(part_with(part, begin, place.number, &form.masks, &words)),
+    match form_of(part) {
+        None => Err(PartRefusal::Kind),
+        Some(form) => read_in(part, tolerance, &form),
     }
 }

@@ -11,9 +11,7 @@ use crate::kinds::SentKinds;
 use crate::rows::{ephemeris_of, row_of_parts};
 use crate::told::{Outcome, SentRow, Told};
 use nav_again::{Ephemeris, Sender, is_new, last_ones_are_known};
-use nav_frames::{
-    FRAME_RULES, FrameKey, FramePart, Frames, Verdict, kept_parts_stand, verdict_on,
-};
+use nav_frames::{FRAME_RULES, FrameKey, FramePart, Frames, Verdict, kept_parts_stand, verdict_on};
 use std::alloc::{AllocError, Global};
 use std::collections::BTreeMap;
 use std::marker::Model;
@@ -35,10 +33,10 @@ impl Model for SystemLog {
     ghost Value = { LogState };
 
     ghost view = { λ s. record {
-        kept = s.frames;
-        known = s.known.entries;
-        lag = s.lag;
-        limit = s.limit;
+      kept = s.frames;
+      known = s.known.entries;
+      lag = s.lag;
+      limit = s.limit;
     } };
 }
 
@@ -131,7 +129,7 @@ impl SystemLog {
     /// A run before its first part. A frame is told as soon as a part of one that begins more than
     /// `lag` seconds later was received.
     pub fn new(alloc: Global, lag: u32) -> SystemLog
-        ensures { result ≡ record { kept = []; known = []; lag = lag; limit = 0 } }
+        ensures state { result ≡ record { kept = []; known = []; lag = lag; limit = 0 } }
         ensures starts { (ks : SentKinds) → IsRun ks [] result [] }
     {
         kept_parts_stand();

@@ -1,6 +1,8 @@
 //! The parts of logs, and the records that they give.
 
-use crate::vectors::{KIND_PARTS, KIND_RECORDS, MIXED_RECORDS, SBF_PARTS, UBX_PARTS};
+use crate::kind_vectors::{KIND_PARTS, KIND_RECORDS};
+use crate::sbf_vectors::SBF_PARTS;
+use crate::ubx_vectors::{MIXED_RECORDS, UBX_PARTS};
 use crate::{HeardPart, KindCounts, Outcome, SentKinds, SystemLog, Told, read_part};
 use hex::decode_to_slice;
 use nav_eph::Moment;
