@@ -1,5 +1,5 @@
 -- What a run tells, frame by frame and part by part.
-use Rattle.std.proofs.Common.{◌≡◌, ℕ, ◌<◌, ◌≤◌, ◌-◌, max, Bool, true, false, cond, nat_lt, Option, Result, Ok, Err, List, [], ◌∷◌, ◌++◌, All, refl, sym, ap, ap₂, subst, ◌∙◌, arith, append_assoc}
+use Rattle.std.proofs.Common.{◌≡◌, ℕ, ◌<◌, ◌≤◌, ◌-◌, max, Bool, true, false, cond, nat_lt, Option, Some, Result, Ok, Err, slice_get, List, [], ◌∷◌, ◌++◌, All, refl, sym, ap, ap₂, subst, ◌∙◌, arith, append_assoc}
 use Rattle.std.specs.List.{AllByRecursion}
 use Rattle.std.specs.BTreeSet.{insert_key}
 use Rattle.nav_again.specs.declared.ephemeris.Ephemeris.{Ephemeris}
@@ -120,17 +120,25 @@ told_frame law ks f known new_known told all row outcome r o n a = record {
   );
 }
 
-pub told_part : KnowsMore → (ks : SentKinds) (parts : List FramePart) (p : FramePart) (ps : List FramePart) (known new_known : List (Sender × Ephemeris)) (told all : List Told)
-    (key : FrameKey) (row : Result KindRow Outcome) (outcome : Outcome) → parts ≡ p ∷ ps → key ≡ frame_of p → row ≡ frame_row ks key parts
+told_part_at : KnowsMore → (ks : SentKinds) (p q : FramePart) (ps : List FramePart) (known new_known : List (Sender × Ephemeris)) (told all : List Told)
+    (key : FrameKey) (row : Result KindRow Outcome) (outcome : Outcome) → q ≡ p → key ≡ frame_of p → row ≡ frame_row ks key (q ∷ ps)
+    → outcome ≡ outcome_of (known_at known (sender_of key)) key row → new_known ≡ known_with known key row
+    → all ≡ told ++ record { key = key; outcome = outcome } ∷ [] → IsFrameTold ks (frame_from q ps) known told new_known all
+told_part_at law ks p q ps known new_known told all key row outcome d e r o n a =
+    let k : key ≡ frame_of q = e ∙ ap frame_of (sym d) in
+    told_frame law ks (frame_from q ps) known new_known told all row outcome
+    (r ∙ ap (λ (x : FrameKey). frame_row ks x (q ∷ ps)) k)
+    (o ∙ ap (λ (x : FrameKey). outcome_of (known_at known (sender_of x)) x row) k)
+    (n ∙ ap (λ (x : FrameKey). known_with known x row) k)
+    (a ∙ ap (λ (x : FrameKey). told ++ record { key = x; outcome = outcome } ∷ []) k)
+
+pub told_part : KnowsMore → (ks : SentKinds) (parts : List FramePart) (p : FramePart) (known new_known : List (Sender × Ephemeris)) (told all : List Told)
+    (key : FrameKey) (row : Result KindRow Outcome) (outcome : Outcome) → slice_get parts 0 ≡ Some p → key ≡ frame_of p → row ≡ frame_row ks key parts
     → outcome ≡ outcome_of (known_at known (sender_of key)) key row → new_known ≡ known_with known key row
     → all ≡ told ++ record { key = key; outcome = outcome } ∷ [] → IsTold ks parts known told new_known all
-told_part law ks parts p ps known new_known told all key row outcome d e r o n a =
-    subst (λ (xs : List FramePart). IsTold ks xs known told new_known all) (sym d)
-    (told_frame law ks (frame_from p ps) known new_known told all row outcome
-    (r ∙ ap (frame_row ks key) d ∙ ap (λ (k : FrameKey). frame_row ks k (p ∷ ps)) e)
-    (o ∙ ap (λ (k : FrameKey). outcome_of (known_at known (sender_of k)) k row) e)
-    (n ∙ ap (λ (k : FrameKey). known_with known k row) e)
-    (a ∙ ap (λ (k : FrameKey). told ++ record { key = k; outcome = outcome } ∷ []) e))
+told_part law ks [] p known new_known told all key row outcome d e r o n a = tt
+told_part law ks (q ∷ ps) p known new_known told all key row outcome d e r o n a =
+    told_part_at law ks p q ps known new_known told all key row outcome cc e r o n a
 
 -- ---- a whole run
 

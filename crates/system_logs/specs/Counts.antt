@@ -1,5 +1,5 @@
 -- Counts of parts and frames of a kind.
-use Rattle.std.specs.Prelude.{ℕ, ◌+◌, min, Bool, true, false, Option, Some, None}
+use Rattle.std.specs.Prelude.{ℕ, ◌+◌, ◌-◌, ◌^◌, min, Bool, true, false, Option, Some, None}
 use Rattle.system_logs.specs.declared.counts.KindCounts.{KindCounts}
 use Rattle.system_logs.specs.declared.read.PartRefusal.{PartRefusal}
 use Rattle.system_logs.specs.declared.read.PartRefusal.TheVariants.{Kind, Check, Unused, Time}
@@ -8,7 +8,7 @@ use Rattle.system_logs.specs.declared.told.Outcome.TheVariants.{New, Again, Reje
 
 -- one more, up to the greatest number of 64 bits
 abbrev pub more : ℕ → ℕ
-more n = min (n + 1) 18446744073709551615
+more n = min (n + 1) (2 ^ 64 - 1)
 
 abbrev pub no_counts : KindCounts
 no_counts = record {

@@ -1,8 +1,8 @@
 //! Reading parts: the check, the number and the begin of the frame of each.
 
-ghost use Rattle.std.specs.Prelude.{◌≡◌, ◌≤◌, IsTrue, take, if◌then◌else◌, Some, None, IfSome};
+ghost use Rattle.std.specs.Prelude.{◌≡◌, ◌≤◌, ◌<◌, ◌^◌, IsTrue, take, if◌then◌else◌, Some, None, IfSome};
 ghost use Rattle.part_checks.specs.Crc.{has_crc};
-ghost use Rattle.sent_parts.specs.Runs.{number_in};
+ghost use Rattle.sent_parts.specs.Runs.{is_number, number_in};
 ghost use Rattle.system_logs.specs.Forms.{is_count, is_form, place_in};
 ghost use Rattle.system_logs.specs.Reading.{IsBegin, IsBeginBy, IsChecked, IsRead, IsReadAt};
 ghost use Rattle.system_logs.specs.Reading.{IsReadBy, IsReadIn, bytes_of, count_of, form_of};
@@ -14,7 +14,7 @@ use nav_bits::{Bits, number_in_bytes};
 use nav_eph::Moment;
 use nav_frames::{FRAME_RULES, FrameClock, FramePart, KIND_D1, KIND_D2, begin_within, rule_of};
 use part_checks::{beidou_part, has_crc, is_good_string, lnav_part};
-use sent_parts::number_in;
+use sent_parts::{Number, number_in};
 
 /// A string, subframe, page or message as it was received.
 #[derive(Clone, Copy, PartialEq, Eq)]
@@ -64,27 +64,20 @@ pub(crate) fn bytes_of(words: &[u64; 5]) -> [u8; 40]
 fn string_of(words: &[u64; 5]) -> Bits<11>
     ensures { result ≡ take 11 (bytes_of words.now) }
 {
-    let a = words[0].to_be_bytes();
-    let b = words[1].to_be_bytes();
-    Bits::from_bytes([
-        a[0], a[1], a[2], a[3], a[4], a[5], a[6], a[7], b[0], b[1], b[2],
-    ])
+    let bytes = bytes_of(words);
+    let mut first = [0u8; 11];
+    first.copy_from_slice(&bytes[..11]);
+    Bits::from_bytes(first)
 }
 
 // The first 304 bits of five numbers.
 fn ten_words_of(words: &[u64; 5]) -> Bits<38>
     ensures { result ≡ take 38 (bytes_of words.now) }
 {
-    let a = words[0].to_be_bytes();
-    let b = words[1].to_be_bytes();
-    let c = words[2].to_be_bytes();
-    let d = words[3].to_be_bytes();
-    let e = words[4].to_be_bytes();
-    Bits::from_bytes([
-        a[0], a[1], a[2], a[3], a[4], a[5], a[6], a[7], b[0], b[1], b[2], b[3], b[4], b[5], b[6],
-        b[7], c[0], c[1], c[2], c[3], c[4], c[5], c[6], c[7], d[0], d[1], d[2], d[3], d[4], d[5],
-        d[6], d[7], e[0], e[1], e[2], e[3], e[4], e[5],
-    ])
+    let bytes = bytes_of(words);
+    let mut first = [0u8; 38];
+    first.copy_from_slice(&bytes[..38]);
+    Bits::from_bytes(first)
 }
 
 // The bits of ten words as five numbers.
@@ -150,13 +143,23 @@ fn checked(check: PartCheck, words: &[u64; 5]) -> Option<[u64; 5]>
     }
 }
 
+// A number in the bits of five numbers.
+fn number_of(number: &Number, words: &[u64; 5]) -> u64
+    requires { IsTrue (is_number 320 number.now) }
+    ensures same { result ≡ number_in (bytes_of words.now) number.now }
+    ensures small { result < 2 ^ 32 }
+{
+    number_in(number, &bytes_of(words))
+}
+
 // The frame of the week of UTC + 3 h by the numbers of the superframe and of the frame, which count
 // from 1; without them by the time of reception.
-fn frame_count(bytes: &[u8; 40], received: Moment) -> u32
-    ensures { result ≡ frame_count bytes.now received }
+fn frame_count(words: &[u64; 5], received: Moment) -> u32
+    ensures { result ≡ frame_count (bytes_of words.now) received }
 {
-    let superframe = number_in_bytes(bytes, 96, 16) as u32;
-    let frame = number_in_bytes(bytes, 112, 16) as u32;
+    let bytes = bytes_of(words);
+    let superframe = number_in_bytes(&bytes, 96, 16) as u32;
+    let frame = number_in_bytes(&bytes, 112, 16) as u32;
     if superframe == 0 {
         return (received.second().value() + 10_782) % 604_800 / 30;
     }
@@ -164,13 +167,13 @@ fn frame_count(bytes: &[u8; 40], received: Moment) -> u32
 }
 
 // The count by which a part is dated.
-fn count_of(count: &Count, bytes: &[u8; 40], received: Moment) -> u32
+fn count_of(count: &Count, words: &[u64; 5], received: Moment) -> u32
     requires { IsTrue (is_count count.now) }
-    ensures { result ≡ count_of count.now bytes.now received }
+    ensures { result ≡ count_of count.now (bytes_of words.now) received }
 {
     match count {
-        Count::Sent(number) => number_in(number, bytes) as u32,
-        Count::Superframe => frame_count(bytes, received),
+        Count::Sent(number) => number_of(number, words) as u32,
+        Count::Superframe => frame_count(words, received),
         Count::Received => received.second().value(),
     }
 }
@@ -200,8 +203,7 @@ fn begin_of(part: &HeardPart, tolerance: u32, place: &PartPlace, words: &[u64; 5
     requires { IsTrue (is_count place.now.count) }
     ensures { IsBegin part.now tolerance place.now words.now result }
 {
-    let bytes = bytes_of(words);
-    let count = count_of(&place.count, &bytes, part.received);
+    let count = count_of(&place.count, words, part.received);
     match rule_of(&FRAME_RULES, part.kind) {
         None => None,
         Some(rule) => begin_by(&rule.clock, tolerance, part.received, count, place.number),
@@ -284,9 +286,7 @@ fn read_by(
     ensures { IsReadBy part.now tolerance form.now words.now
         (place_in form.now.places.now (number_in (bytes_of words.now) form.now.number)) result }
 {
-    let bytes = bytes_of(words);
-    let number = number_in(&form.number, &bytes);
-    match place_in(form.places, number) {
+    match place_in(form.places, number_of(&form.number, words)) {
         None => Err(PartRefusal::Unused),
         Some(place) => read_at(part, tolerance, form, words, &place),
     }
