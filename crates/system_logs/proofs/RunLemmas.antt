@@ -1,5 +1,5 @@
 -- What a run tells, frame by frame and part by part.
-use Rattle.std.proofs.Common.{◌≡◌, ℕ, ◌<◌, ◌≤◌, ◌-◌, max, Bool, true, false, cond, nat_lt, Option, Some, Result, Ok, Err, slice_get, List, [], ◌∷◌, ◌++◌, All, refl, sym, ap, ap₂, subst, ◌∙◌, arith, append_assoc}
+use Rattle.std.proofs.Common.{◌≡◌, ℕ, ◌<◌, ◌≤◌, ◌-◌, max, Bool, true, false, cond, nat_lt, Option, Some, Result, Ok, Err, slice_get, List, [], ◌∷◌, ◌++◌, All, refl, sym, ap, ap₂, subst, ◌∙◌, arith, append_assoc, le-ltb}
 use Rattle.std.specs.List.{AllByRecursion}
 use Rattle.std.specs.BTreeSet.{insert_key}
 use Rattle.nav_again.specs.declared.ephemeris.Ephemeris.{Ephemeris}
@@ -8,13 +8,13 @@ use Rattle.nav_again.specs.Again.{Knows, KnowsMore, known_at, last_from}
 use Rattle.nav_frames.specs.declared.part.FrameKey.{FrameKey}
 use Rattle.nav_frames.specs.declared.part.FramePart.{FramePart}
 use Rattle.nav_frames.specs.Parts.{frame_of, part_cmp}
-use Rattle.nav_frames.specs.Frames.{AllAreBefore, AllBefore, Frame, GivenStands, IsFirstGiven, Stands, TakenStands, accepted, frame_from, frames_before, frames_of, grouped}
+use Rattle.nav_frames.specs.Frames.{AllAreBefore, AllBefore, Frame, GivenStands, IsFirstGiven, NothingStands, Stands, TakenStands, accepted, frame_from, frames_before, frames_of, grouped}
 use Rattle.nav_rows.specs.Order.{KindRow}
 use Rattle.system_logs.specs.declared.kinds.SentKinds.{SentKinds}
 use Rattle.system_logs.specs.declared.told.Outcome.{Outcome}
 use Rattle.system_logs.specs.declared.told.Told.{Told}
 use Rattle.system_logs.specs.Rows.{ephemeris_of}
-use Rattle.system_logs.specs.Runs.{AreFramesTold, AreTold, IsFrameTold, IsRun, IsStep, IsTold, LogState, before_after, before_with, frame_row, known_with, outcome_of, sender_of, told_after, told_in, told_of}
+use Rattle.system_logs.specs.Runs.{AreFramesTold, AreTold, IsFinished, IsFrameTold, IsRun, IsStep, IsTold, LogState, before_after, before_with, frame_row, known_with, outcome_of, sender_of, told_after, told_in, told_of}
 
 -- frames after others
 pub told_append : (ks : SentKinds) (before : List Ephemeris) (fs gs : List Frame) → told_after ks before (fs ++ gs) ≡ told_after ks before fs ++ told_after ks (before_after ks before fs) gs
@@ -178,3 +178,45 @@ pub stepped : (ks : SentKinds) (p : FramePart) (lag : ℕ) (s n : LogState) (tol
     → Next ks lag s told qs all → Next ks lag n new_told ps all
 stepped ks p lag s n told new_told qs ps all d t x =
     step_at ks p lag s n told new_told ps all x.taken (nat_lt p.begin s.limit) t (ap (λ (xs : List FramePart). x.taken ++ accepted lag s.limit xs) (sym d) ∙ x.rest) x.lag_is x.run
+
+pub started : (ks : SentKinds) (lag : ℕ) (s : LogState) (told : List Told) (parts : List FramePart) → s ≡ record { kept = []; known = []; lag = lag; limit = 0 } → IsRun ks [] s [] → told ≡ []
+    → Next ks lag s told parts (accepted lag 0 parts)
+started ks lag s told parts e r t = record {
+  taken = [];
+  rest = ap (λ (x : LogState). accepted lag x.limit parts) e;
+  lag_is = ap (λ (x : LogState). x.lag) e;
+  run = subst (IsRun ks [] s) (sym t) r;
+}
+
+-- ---- the steps of a run
+
+pub run_nothing : NothingStands → (ks : SentKinds) (s : LogState) → s.kept ≡ [] → s.known ≡ [] → s.limit ≡ 0 → IsRun ks [] s []
+run_nothing law ks s k m l = record {
+  stands = subst (λ (n : ℕ). Stands s.kept [] n) (sym l) (subst (λ (xs : List FramePart). Stands xs [] 0) (sym k) law.0);
+  told_is = ap (told_after ks []) (sym law.1 ∙ ap (λ (n : ℕ). frames_before n []) (sym l));
+  knows = subst (λ (fs : List Frame). Knows s.known (before_after ks [] fs)) (sym law.1 ∙ ap (λ (n : ℕ). frames_before n []) (sym l))
+      (λ x. ap (λ (es : List (Sender × Ephemeris)). known_at es x) m);
+}
+
+max_above : (a b n : ℕ) → n ≡ max a b → a ≤ n
+max_above a b n e = grind arith
+
+pub pushed : TakenStands → GivenStands → (ks : SentKinds) (p : FramePart) (s n : LogState) (mid : List FramePart) (t all : List Told) → s.limit ≤ p.begin → n.lag ≡ s.lag
+    → n.limit ≡ max s.limit (p.begin - s.lag) → mid ≡ insert_key part_cmp s.kept p → AreTold ks n.limit mid s.known t n.kept n.known all
+    → IsStep (nat_lt p.begin s.limit) ks p s t n all
+pushed taken_law given_law ks p s n mid t all l a m e g =
+    subst (λ (b : Bool). IsStep b ks p s t n all) (sym (le-ltb p.begin s.limit l)) (record {
+      lag_is = a;
+      limit_is = m;
+      more = g.are_told.more;
+      told_is = g.are_told.told_is;
+      run = λ taken told r. run_taken taken_law given_law ks p s n mid t all l (max_above s.limit (p.begin - s.lag) n.limit m) e g taken told r;
+    })
+
+pub finished : GivenStands → AllAreBefore → (ks : SentKinds) (s n : LogState) (t all : List Told) → s.limit ≤ n.limit → n.limit ≡ 18446744073709551615
+    → AreTold ks n.limit s.kept s.known t n.kept n.known all → IsFinished ks s t all
+finished given_law all_law ks s n t all m e g = record {
+  more = g.are_told.more;
+  told_is = g.are_told.told_is;
+  run = λ taken told h r. run_ended given_law all_law ks taken s n told t all m (subst (λ (k : ℕ). All (λ p. p.begin < k) taken) (sym e) h) r g;
+}

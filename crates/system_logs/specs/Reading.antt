@@ -49,15 +49,15 @@ words_of part =
 abbrev pub checked_if : Bool → List ℕ → Option (List ℕ)
 checked_if holds words = if holds then Some words else None
 
+abbrev pub IsWordsOf : Option (List ℕ) → Option (List ℕ) → Type 0
+IsWordsOf None checked = checked ≡ None
+IsWordsOf (Some part) checked = checked ≡ Some (words_of part)
+
 -- the subframe or page of BeiDou in the bits, with its code words parted, where some order is right
 pub record IsBeidou (words : List ℕ) (checked : Option (List ℕ)) : Type 0 where
   pub part : Option (List ℕ)
   pub part_is : IsPart (take 38 (bytes_of words)) (order_in (take 38 (bytes_of words))) part
   pub checked_is : IsWordsOf part checked
-
-abbrev pub IsWordsOf : Option (List ℕ) → Option (List ℕ) → Type 0
-IsWordsOf None checked = checked ≡ None
-IsWordsOf (Some part) checked = checked ≡ Some (words_of part)
 
 -- the data bits of a subframe of LNAV where all parity is right
 abbrev pub IsLnav : List ℕ → Option (List ℕ) → Type 0

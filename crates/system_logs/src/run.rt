@@ -188,7 +188,8 @@ impl SystemLog {
             &mut self.known,
             &mut self.frame,
             told,
-        )
+        )?;
+        Ok(())
     }
 }
 
@@ -210,5 +211,6 @@ pub fn tell_parts(
     'taking: for part in parts {
         log.push(kinds, part, told)?;
     }
-    log.finish(kinds, told)
+    log.finish(kinds, told)?;
+    Ok(())
 }
