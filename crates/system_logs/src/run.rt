@@ -1,6 +1,6 @@
 //! The run over parts.
 
-ghost use Rattle.std.specs.Prelude.{◌≡◌, ◌≤◌, [], IfOk, OnOk, All, nat_lt, not};
+ghost use Rattle.std.specs.Prelude.{◌≡◌, ◌<◌, ◌≤◌, [], IfOk, OnOk, All, nat_lt, not};
 ghost use Rattle.nav_again.specs.Again.{known_at};
 ghost use Rattle.nav_frames.specs.Frames.{accepted};
 ghost use Rattle.system_logs.specs.declared.kinds.SentKinds.{SentKinds};
