@@ -3,3 +3,4 @@ mod FrameLemmas
 mod RunLemmas
 mod TimesLemmas
 mod RowLemmas
+mod SbasLemmas

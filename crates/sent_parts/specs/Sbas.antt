@@ -13,12 +13,16 @@ use Rattle.sent_parts.specs.declared.sbas.Place.{Place}
 use Rattle.sent_parts.specs.declared.sbas.Place.TheVariants.{Number, Signed, Sent, Health}
 use Rattle.sent_parts.specs.declared.sbas.TheConstants.{SBAS_PLACES}
 
+-- 1 if the URA index is 15, else 0
+abbrev pub health_of : ℕ → ℤ
+health_of ura = if nat_eq ura 15 then pos 1 else pos 0
+
 -- the number of a column
 abbrev pub column_of : List ℕ → ℤ → Place → ℤ
 column_of message sent (Number from width) = pos (number_at message from width)
 column_of message sent (Signed from width) = signed_at message from width
 column_of message sent Sent = sent
-column_of message sent Health = if nat_eq (number_at message 35 4) 15 then pos 1 else pos 0
+column_of message sent Health = health_of (number_at message 35 4)
 
 unfoldable pub columns_of : List ℕ → ℤ → List Place → List ℤ
 columns_of message sent [] = []

@@ -1,6 +1,7 @@
 //! Numbers whose bits lie in several runs.
 
 ghost use Rattle.std.specs.Prelude.{◌≡◌, ◌+◌, ◌*◌, ◌^◌, ◌<◌, ◌≤◌, IsTrue, length};
+ghost use Rattle.nav_bits.specs.Bits.{number_at};
 ghost use Rattle.sent_parts.specs.Runs.{is_number, number_in, width_of};
 
 use nav_bits::number_in_bytes;
@@ -40,6 +41,17 @@ fn joined(high: u64, high_width: u32, low: u64, low_width: u32) -> u64
     ensures small { result < 2 ^ 32 }
 {
     (high << low_width) + low
+}
+
+/// The number in adjacent bits of a frame.
+pub(crate) fn bits_at(frame: &[u8], from: usize, width: u32) -> u64
+    requires inside { from + width ≤ 8 * length frame.now }
+    requires most { width ≤ 32 }
+    ensures same { result ≡ number_at frame.now from width }
+    ensures fits { result < 2 ^ width }
+    ensures small { result < 2 ^ 32 }
+{
+    number_in_bytes(frame, from, width as usize)
 }
 
 /// The number in a frame.
