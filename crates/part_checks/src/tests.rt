@@ -90,8 +90,10 @@ fn words_are_read_in_three_orders(rt: HostRuntime) {
 
 #[test]
 fn words_with_a_wrong_bit_are_refused(rt: HostRuntime) {
-    for bit in 15..300usize {
-        assert!(rt; beidou_part(&turned(&PARTED, bit)).is_none());
+    for bytes in [PARTED, INTERLEAVED, JOINED] {
+        for bit in 15..300usize {
+            assert!(rt; beidou_part(&turned(&bytes, bit)).is_none());
+        }
     }
 }
 
