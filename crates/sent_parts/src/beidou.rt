@@ -7,101 +7,13 @@ use crate::check::Check;
 use crate::frame::FrameKind;
 use crate::run::{NONE, Number, Run};
 use crate::source::Source;
+use crate::tables::{alike, fixed, given, is, number, run, sent};
 use crate::times::Sending;
 use nav_rows::{kind_d1, kind_d2};
 use nav_tables::WeekRule;
 
 // Each part takes 38 bytes.
 const PART: usize = 304;
-
-// Bits of the message: of a part the bit offset and the width; given ones; constant ones.
-macro_rules! sent {
-    ($part:literal, $from:literal, $width:literal) => {
-        Source::Sent {
-            from: PART * $part + $from,
-            width: $width,
-        }
-    };
-}
-
-macro_rules! given {
-    ($place:literal, $width:literal) => {
-        Source::Given {
-            place: $place,
-            width: $width,
-        }
-    };
-}
-
-macro_rules! fixed {
-    ($number:literal, $width:literal) => {
-        Source::Fixed {
-            number: $number,
-            width: $width,
-        }
-    };
-}
-
-macro_rules! run {
-    ($part:literal $from:literal $width:literal) => {
-        Run {
-            from: PART * $part + $from,
-            width: $width,
-        }
-    };
-}
-
-// A number by its runs, each a part, a bit offset and a width.
-macro_rules! number {
-    ($p:literal $f:literal $w:literal) => {
-        Number {
-            high: NONE,
-            middle: NONE,
-            low: run!($p $f $w),
-        }
-    };
-    ($p:literal $f:literal $w:literal, $q:literal $g:literal $v:literal) => {
-        Number {
-            high: NONE,
-            middle: run!($p $f $w),
-            low: run!($q $g $v),
-        }
-    };
-    ($p:literal $f:literal $w:literal, $q:literal $g:literal $v:literal,
-        $r:literal $h:literal $u:literal) => {
-        Number {
-            high: run!($p $f $w),
-            middle: run!($q $g $v),
-            low: run!($r $h $u),
-        }
-    };
-}
-
-// A number with one value, and one of a range.
-macro_rules! is {
-    ($number:expr, $value:literal) => {
-        is!($number, $value, $value)
-    };
-    ($number:expr, $low:literal, $high:literal) => {
-        Check::Range {
-            number: $number,
-            low: $low,
-            high: $high,
-        }
-    };
-}
-
-// A number that is another raised by a constant, modulo another constant.
-macro_rules! alike {
-    ($first:expr, $plus:literal, $modulo:literal, $second:expr) => {
-        Check::Alike {
-            first: $first,
-            second: $second,
-            plus: $plus,
-            modulo: $modulo,
-        }
-    };
-}
 
 // Preamble, number and second of week of each subframe: six seconds apart, all of one frame.
 const D1_CHECKS: [Check; 11] = [

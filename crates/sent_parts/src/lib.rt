@@ -25,6 +25,7 @@ mod qzss;
 mod run;
 mod sbas;
 mod source;
+mod tables;
 #[cfg(test)]
 mod tests;
 mod times;

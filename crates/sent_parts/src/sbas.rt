@@ -152,6 +152,7 @@ fn is_of_type_9(heard: &Heard<'_>) -> bool
 }
 
 // The columns of a message.
+#[tactic(auto, using(crate::proofs::SbasLemmas::sbas_places))]
 fn columns_in(message: &[u8], sent: i64) -> ArrayVec<i64, 29>
     requires { 32 ≤ length message.now }
     ensures { result.items ≡ columns_of message.now sent SBAS_PLACES }
