@@ -254,11 +254,11 @@ fn take_row<T: Sink, U: Sink>(
         systems.pass(frame, state);
         return Ok(());
     };
-    match row_of_message(&kind, payload, systems.week) {
-        Ok(row) => systems.give_row(&kind, &row, frame, state, output),
+    match &row_of_message(kind, payload, systems.week) {
+        Ok(row) => systems.give_row(kind, row, frame, state, output),
         Err(fault) => systems.reject(
             u64::from(number),
-            row_reason(&kind.clock, &fault),
+            row_reason(&kind.clock, fault),
             frame,
             state,
             report,

@@ -136,7 +136,7 @@ fn letter_kind(kinds: &Kinds, letter: u8, satellite: u64, lines: &[[u8; 80]]) ->
     ensures kind { IfSome result IsKind }
 {
     if letter == b'C' {
-        return Some(kinds.beidou(satellite));
+        return Some(*kinds.beidou(satellite));
     }
     if letter == b'E' {
         return galileo_kind(kinds, lines);

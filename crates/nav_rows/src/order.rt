@@ -51,15 +51,14 @@ fn settle(kind: &Kind, columns: &mut [i64])
     columns[kind.sent] = 0;
 }
 
-// Numbers behind others.
-fn extended(numbers: ArrayVec<i64, 34>, more: &[i64]) -> ArrayVec<i64, 34>
-    requires { length numbers.items + length more.now ≤ 34 }
-    ensures { result.items ≡ numbers.items ++ more.now }
+// Appends numbers.
+fn extend(numbers: &mut ArrayVec<i64, 34>, more: &[i64])
+    requires { length numbers.old.items + length more.now ≤ 34 }
+    ensures { numbers.new.items ≡ numbers.old.items ++ more.now }
 {
-    let mut numbers = numbers;
     match numbers.try_extend_from_slice(more) {
-        Ok(()) => numbers,
-        Err(_) => numbers,
+        Ok(()) => {}
+        Err(_) => {}
     }
 }
 
@@ -97,10 +96,11 @@ pub fn rank_of(kind: &Kind, row: &Row) -> ArrayVec<i64, 34>
     requires fields { AreFields kind.now.layout.columns.now row.now.columns.items }
     ensures { result.items ≡ rank_of kind.now (value row.now) }
 {
-    let front = extended(ArrayVec::new(), &front_of(kind, row));
-    let mut columns = extended(ArrayVec::new(), row.columns.as_slice());
-    settle(kind, columns.as_mut_slice());
-    extended(front, columns.as_slice())
+    let mut rank = ArrayVec::new();
+    extend(&mut rank, &front_of(kind, row));
+    extend(&mut rank, row.columns.as_slice());
+    settle(kind, &mut rank.as_mut_slice()[5..]);
+    rank
 }
 
 /// Compares rows by time (toe or, of GLONASS, the epoch), system, satellite, message type, epoch

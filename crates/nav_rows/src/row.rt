@@ -75,21 +75,22 @@ pub fn row_of_message(kind: &Kind, payload: &[u8], reference: RefWeek) -> Result
     ensures fields { IfOk result (λ row. AreFields kind.now.layout.columns.now row.columns.items) }
     ensures err { IfErr result (λ fault. row_in kind.now payload.now reference ≡ Err fault) }
 {
-    let numbers = match read_message(&kind.table, payload) {
-        Ok(numbers) => numbers,
-        Err(fault) => return Err(RowFault::Message(fault)),
+    let read = read_message(&kind.table, payload);
+    let numbers = match &read {
+        Ok(numbers) => numbers.as_slice(),
+        Err(fault) => return Err(RowFault::Message(*fault)),
     };
-    if has_spare_sisa(kind.sisa, numbers.as_slice()) {
+    if has_spare_sisa(kind.sisa, numbers) {
         return Err(RowFault::SpareSisa);
     }
-    let Some(times) = times_told(&kind.clock, numbers.as_slice(), reference) else {
+    let Some(times) = times_told(&kind.clock, numbers, reference) else {
         return Err(RowFault::Day);
     };
     let given = given_of(&times);
     Ok(Row {
-        number: satellite_of(numbers.as_slice()),
+        number: satellite_of(numbers),
         moment: times.epoch,
-        columns: columns_of(kind.links, kind.parts, numbers.as_slice(), &given),
+        columns: columns_of(kind.links, kind.parts, numbers, &given),
     })
 }
 
