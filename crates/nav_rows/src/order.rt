@@ -98,8 +98,10 @@ pub fn rank_of(kind: &Kind, row: &Row) -> ArrayVec<i64, 34>
 {
     let mut rank = ArrayVec::new();
     extend(&mut rank, &front_of(kind, row));
-    extend(&mut rank, row.columns.as_slice());
-    settle(kind, &mut rank.as_mut_slice()[5..]);
+    let mut columns = ArrayVec::new();
+    extend(&mut columns, row.columns.as_slice());
+    settle(kind, columns.as_mut_slice());
+    extend(&mut rank, columns.as_slice());
     rank
 }
 
