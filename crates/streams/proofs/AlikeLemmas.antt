@@ -27,20 +27,7 @@ use Rattle.rtcm_eph.specs.Writing.{bytes_1019, bytes_1046, message_1019, message
 use Rattle.framing.specs.State.{payload_of}
 use Rattle.streams.specs.Streams.{has, items_of_readings, readings}
 use Rattle.streams.specs.Mirrors.{any_alike, sent_alike}
-
--- what the crates below promise of messages and items
-pub record Laws (r : ℕ) : Type 0 where
-  pub gives : (payload : List ℕ) → GivesItem r (content_of payload) (item_in r payload)
-  pub whole : (payload : List ℕ) → IfOk (item_in r payload) IsItem
-  pub fields_gps : (e : GpsEph) → HasGpsRanges e → StandFrom (bytes_1019 e) 0 0 (fields_1019 (message_1019 e))
-  pub fields_gal : (e : GalEph) → HasGalRanges e → StandFrom (bytes_1046 e) 0 0 (fields_1046 (message_1046 e))
-  pub size_gps : (e : GpsEph) → AreBytes 61 (bytes_1019 e)
-  pub size_gal : (e : GalEph) → AreBytes 63 (bytes_1046 e)
-  pub read_gps : (e : GpsEph) (payload : List ℕ) (week : ℕ) (answer : Result NavItem MessageFault) → IsGps e → IsNearGps week e.toe_week → Begins1019 payload e
-      → GivesItem week (content_of payload) answer → answer ≡ Ok (Gps (record e { sent = Unknown }))
-  pub read_gal : (e : GalEph) (payload : List ℕ) (week : ℕ) (answer : Result NavItem MessageFault) → IsGal e → IsNearGalileo week e.toe_week → Begins1046 payload e
-      → GivesItem week (content_of payload) answer → answer ≡ Ok (Gal (record e { sent = Unknown }))
-  pub decides : (a b : NavItem) → (same_item a b ≡ true) ↔ (a ≡ b)
+use Rattle.streams.specs.Standing.{MessageLaws}
 
 -- an ephemeris that is read for the reference week
 record ReadGps (r : ℕ) (e : GpsEph) : Type 0 where
@@ -86,7 +73,7 @@ ok_same : (a b : NavItem) (x y : Result NavItem MessageFault) → x ≡ Ok a →
 ok_same a b x y xa yb is = cc
 
 -- two ephemerides of GPS for which the same message is sent
-same_gps : (r : ℕ) (a b : GpsEph) → Laws r → ReadGps r a → ReadGps r b → bytes_1019 a ≡ bytes_1019 b → Gps a ≡ Gps b
+same_gps : (r : ℕ) (a b : GpsEph) → MessageLaws r → ReadGps r a → ReadGps r b → bytes_1019 a ≡ bytes_1019 b → Gps a ≡ Gps b
 same_gps r a b laws ra rb same =
     let gives = laws.gives (bytes_1019 a) in
     let size : 61 ≤ length (bytes_1019 a) = omega (arith, (laws.size_gps a).count_is) in
@@ -96,7 +83,7 @@ same_gps r a b laws ra rb same =
     let second = laws.read_gps b (bytes_1019 a) r (item_in r (bytes_1019 a)) rb.is rb.near (subst (λ (l : List ℕ). Begins1019 l b) (sym same) other) gives in
     ok_same (Gps a) (Gps b) _ _ (first ∙ ap (λ (e : GpsEph). Ok (Gps e)) ra.unsent) (second ∙ ap (λ (e : GpsEph). Ok (Gps e)) rb.unsent) refl
 
-same_gal : (r : ℕ) (a b : GalEph) → Laws r → ReadGal r a → ReadGal r b → bytes_1046 a ≡ bytes_1046 b → Gal a ≡ Gal b
+same_gal : (r : ℕ) (a b : GalEph) → MessageLaws r → ReadGal r a → ReadGal r b → bytes_1046 a ≡ bytes_1046 b → Gal a ≡ Gal b
 same_gal r a b laws ra rb same =
     let gives = laws.gives (bytes_1046 a) in
     let size : 63 ≤ length (bytes_1046 a) = omega (arith, (laws.size_gal a).count_is) in
@@ -134,7 +121,7 @@ own_alike r (Gps e) is = own_key (bytes_1019 e)
 own_alike r (Gal e) is = own_key (bytes_1046 e)
 own_alike r (Ion e) is = absurd is
 
-alike_same : (r : ℕ) (a b : NavItem) → Laws r → IsRead r a → IsRead r b → sent_alike a b ≡ true → a ≡ b
+alike_same : (r : ℕ) (a b : NavItem) → MessageLaws r → IsRead r a → IsRead r b → sent_alike a b ≡ true → a ≡ b
 alike_same r (Gps a) (Gps b) laws ra rb same = same_gps r a b laws ra rb (equal_keys (bytes_1019 a) (bytes_1019 b) same)
 alike_same r (Gal a) (Gal b) laws ra rb same = same_gal r a b laws ra rb (equal_keys (bytes_1046 a) (bytes_1046 b) same)
 alike_same r (Gps a) (Gal b) laws ra rb same = cc
@@ -143,23 +130,23 @@ alike_same r (Ion a) b laws ra rb same = absurd ra
 alike_same r (Gps a) (Ion b) laws ra rb same = absurd rb
 alike_same r (Gal a) (Ion b) laws ra rb same = absurd rb
 
-alike_is : (r : ℕ) (a b : NavItem) → Laws r → IsRead r a → IsRead r b → sent_alike a b ≡ same_item a b
+alike_is : (r : ℕ) (a b : NavItem) → MessageLaws r → IsRead r a → IsRead r b → sent_alike a b ≡ same_item a b
 alike_is r a b laws ra rb =
     bool_same (sent_alike a b) (same_item a b)
     (λ same. (laws.decides a b).1 (alike_same r a b laws ra rb same))
     (λ same. subst (λ (x : NavItem). sent_alike a x ≡ true) ((laws.decides a b).0 same) (own_alike r a ra))
 
-read_is : (r : ℕ) (payload : List ℕ) (item : NavItem) → Laws r → item_in r payload ≡ Ok item → IsRead r item
+read_is : (r : ℕ) (payload : List ℕ) (item : NavItem) → MessageLaws r → item_in r payload ≡ Ok item → IsRead r item
 read_is r payload item laws is =
     is_read r (content_of payload) item (subst (GivesItem r (content_of payload)) is (laws.gives payload))
     (subst (λ (x : Result NavItem MessageFault). IfOk x IsItem) is (laws.whole payload))
 
 -- an item that is read is sent as itself
-pub read_own : (r : ℕ) (payload : List ℕ) (item : NavItem) → Laws r → item_in r payload ≡ Ok item → sent_alike item item ≡ true
+pub read_own : (r : ℕ) (payload : List ℕ) (item : NavItem) → MessageLaws r → item_in r payload ≡ Ok item → sent_alike item item ≡ true
 read_own r payload item laws is = own_alike r item (read_is r payload item laws is)
 
 -- among the items of frames an ephemeris is looked for by its message
-pub looked_for : (r : ℕ) (frames : List (List ℕ)) (payload : List ℕ) (item : NavItem) → Laws r → item_in r payload ≡ Ok item
+pub looked_for : (r : ℕ) (frames : List (List ℕ)) (payload : List ℕ) (item : NavItem) → MessageLaws r → item_in r payload ≡ Ok item
     → any_alike (items_of_readings (readings r frames)) item ≡ has (items_of_readings (readings r frames)) item
 looked_for r [] payload item laws is = refl
 looked_for r (frame ∷ frames) payload item laws is = step (item_in r (payload_of frame)) refl (looked_for r frames payload item laws is) where

@@ -4,12 +4,10 @@ mod MessageKeys
 mod SentLemmas
 mod KnownLemmas
 mod StreamLemmas
+mod ItemLemmas
 mod DecidedLemmas
 mod Stopping
-mod MoveLemmas
-mod PieceLemmas
 mod PieceEnds
-mod StreamEnds
 mod StreamStays
 mod Pushing
 mod Breakings

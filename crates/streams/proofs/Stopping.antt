@@ -5,12 +5,22 @@ use Rattle.std.specs.Io.KnownBytes.{Appends, Consumes, IsAtEnd}
 use Rattle.nav_io.specs.Prefix.{AppendsPrefix, IsPrefix}
 use Rattle.framing.specs.Frames.{decided, frames, undecided}
 use Rattle.one_run.specs.Runs.{AppendsAll, AppendsBetween, StopAtOnePlace, Texts}
-use Rattle.one_run.proofs.Surface.{BeginsWith, all_of, all_stopped, all_within, between_within, prefix_nil, prefix_same, stopped_in, taken_all, with_rest}
-use Rattle.streams.specs.Mirrors.{IsNext}
+use Rattle.one_run.proofs.Surface.{BeginsWith, all_of, all_stopped, all_within, between_within, prefix_nil, prefix_same, prefix_trans, stopped_in, taken_all, with_rest}
+use Rattle.streams.specs.Taken.{IsNext}
 
 -- what belongs to more frames begins with what belongs to fewer
 abbrev pub Grows : (List (List ℕ) → List ℕ) → Type 0
 Grows text = (some more : List (List ℕ)) → IsPrefix (text some) (text (some ++ more))
+
+pub grows_to : {text : List (List ℕ) → List ℕ} → Grows text → {some all : List (List ℕ)} (rest : List (List ℕ)) → all ≡ some ++ rest → IsPrefix (text some) (text all)
+grows_to {text = text} grows {some = some} rest is = subst (λ (l : List (List ℕ)). IsPrefix (text some) (text l)) (sym is) (grows some rest)
+
+-- so it does where what belongs to one frame more does
+pub grows_by_one : (text : List (List ℕ) → List ℕ) → ((some : List (List ℕ)) (frame : List ℕ) → IsPrefix (text some) (text (some ++ frame ∷ []))) → Grows text
+grows_by_one text one some [] = subst (λ (l : List (List ℕ)). IsPrefix (text some) (text l)) (sym (append-nil some)) (prefix_same (text some))
+grows_by_one text one some (m ∷ ms) =
+    subst (λ (l : List (List ℕ)). IsPrefix (text some) (text l)) (append_assoc some (m ∷ []) ms)
+    (prefix_trans (text some) (text (some ++ m ∷ [])) (text ((some ++ m ∷ []) ++ ms)) (one some m) (grows_by_one text one (some ++ m ∷ []) ms))
 
 -- the frames of bytes begin with those that their first bytes decide
 abbrev pub Stays : Type 0

@@ -2,27 +2,23 @@
 use Rattle.std.proofs.Common.{◌≡◌, ℕ, ◌+◌, ◌||◌, Bool, true, false, if◌then◌else◌, List, [], ◌∷◌, ◌++◌, length, map, sum, refl, sym, ap, subst, ◌∙◌, arith, append_assoc, append-nil, length-append, inl}
 use Rattle.std.specs.Prelude.{Option, Result, Ok, Err, OnOk, OnErr}
 use Rattle.std.specs.List.{flat_map, sum_by}
-use Rattle.std.specs.Io.KnownBytes.{Appends}
-use Rattle.std.proofs.KnownBytes.{Appends-nil, Appends-trans}
 use Rattle.std.proofs.lemmas.Grind.{flat_map-append}
 use Rattle.std.proofs.lemmas.List.Sums.{sum-map, sum_by-append}
-use Rattle.nav_io.specs.Prefix.{AppendsPrefix}
 use Rattle.nav_eph.specs.Items.{same_item}
 use Rattle.nav_eph.specs.declared.items.NavItem.{NavItem}
 use Rattle.rtcm_eph.specs.declared.fault.MessageFault.{MessageFault}
 use Rattle.rtcm_eph.specs.declared.fault.MessageFault.TheVariants.{NoNumber, OtherMessage, Short, BadSat, BadTime, SpareSisa}
 use Rattle.rtcm_eph.specs.Reading.{item_in}
 use Rattle.framing.specs.State.{payload_of}
-use Rattle.one_run.specs.Runs.{AppendsBetween}
 use Rattle.streams.specs.declared.counts.StreamCounts.{StreamCounts}
 use Rattle.streams.specs.Times.{times_of, with_item as timed}
 use Rattle.streams.specs.declared.times.Times.{Times}
 use Rattle.streams.proofs.OutletsSurface.{times_more}
 use Rattle.streams.specs.Streams.{Reading, readings, has, items_of_readings, first_places, first_places_behind, reading_report, readings_report, counts_of_readings, is_refused, is_unused, readings_output}
-use Rattle.streams.specs.Mirrors.{GivenState, KeptPlaces, StandsIn, StreamBroke, StreamSoFar, any_alike, is_given, once_text, sent_alike, with_fault, with_item, with_refusal, with_unused}
-use Rattle.streams.proofs.AlikeLemmas.{Laws, looked_for, read_own}
-use Rattle.streams.proofs.KnownLemmas.{adds_nothing, is_known, known_more}
-use Rattle.one_run.proofs.Surface.{between_behind, between_whole}
+use Rattle.streams.specs.Mirrors.{GivenState, KeptPlaces, NothingKept, any_alike, is_given, once_text, sent_alike, with_fault, with_item, with_refusal, with_unused}
+use Rattle.streams.specs.Standing.{HasGiven, MessageLaws}
+use Rattle.streams.proofs.AlikeLemmas.{looked_for, read_own}
+use Rattle.streams.proofs.KnownLemmas.{adds_nothing, known_more, none_known}
 
 -- an item, where it was not there before
 abbrev pub once : Bool → NavItem → List NavItem
@@ -68,7 +64,7 @@ items_same [] fault = refl
 items_same (Ok i ∷ rs) fault = ap (λ (l : List NavItem). i ∷ l) (items_same rs fault)
 items_same (Err other ∷ rs) fault = items_same rs fault
 
-report_more : (n : ℕ) (rs : List Reading) (reading : Reading)
+pub report_more : (n : ℕ) (rs : List Reading) (reading : Reading)
     → readings_report n (rs ++ reading ∷ []) ≡ readings_report n rs ++ reading_report (n + length rs) reading
 report_more n [] reading = append-nil (reading_report n reading) ∙ ap (λ m. reading_report m reading) (here n) where
   here : (m : ℕ) → m ≡ m + 0
@@ -78,7 +74,7 @@ report_more n (r ∷ rs) reading =
     ap (λ (l : List ℕ). reading_report n r ++ l) (report_more (n + 1) rs reading ∙ ap (λ m. readings_report (n + 1) rs ++ reading_report m reading) number)
     ∙ sym (append_assoc (reading_report n r) (readings_report (n + 1) rs) (reading_report (n + length (r ∷ rs)) reading))
 
-count-append : (kind : Reading → ℕ) (xs ys : List Reading) → sum (map kind (xs ++ ys)) ≡ sum (map kind xs) + sum (map kind ys)
+pub count-append : (kind : Reading → ℕ) (xs ys : List Reading) → sum (map kind (xs ++ ys)) ≡ sum (map kind xs) + sum (map kind ys)
 count-append kind xs ys =
     sum-map kind (xs ++ ys) ∙ sum_by-append kind xs ys ∙ sym (ap (λ m. m + sum (map kind ys)) (sum-map kind xs) ∙ ap (λ m. sum_by kind xs + m) (sum-map kind ys))
 
@@ -106,7 +102,7 @@ once_times : (b : Bool) (items : List NavItem) (item : NavItem) → (if b then t
 once_times true items item = ap times_of (sym (append-nil items))
 once_times false items item = sym (times_more items item)
 
-counts_item : (rs : List Reading) (item : NavItem) → with_item (counts_of_readings rs) (has (items_of_readings rs) item) item ≡ counts_of_readings (rs ++ Ok item ∷ [])
+pub counts_item : (rs : List Reading) (item : NavItem) → with_item (counts_of_readings rs) (has (items_of_readings rs) item) item ≡ counts_of_readings (rs ++ Ok item ∷ [])
 counts_item rs item =
     counts_are (with_item (counts_of_readings rs) (has (items_of_readings rs) item) item) _ _ _ _ _
     (omega (arith, length-append rs (Ok item ∷ [])))
@@ -138,7 +134,7 @@ counts_unused rs fault refused unused =
     (ap (λ (l : List NavItem). length (first_places l)) (sym (items_same rs fault)))
     (ap (λ (l : List NavItem). times_of (first_places l)) (sym (items_same rs fault)))
 
-counts_fault : (rs : List Reading) (fault : MessageFault) → with_fault (counts_of_readings rs) fault ≡ counts_of_readings (rs ++ Err fault ∷ [])
+pub counts_fault : (rs : List Reading) (fault : MessageFault) → with_fault (counts_of_readings rs) fault ≡ counts_of_readings (rs ++ Err fault ∷ [])
 counts_fault rs NoNumber = counts_unused rs NoNumber refl refl
 counts_fault rs (OtherMessage other) = counts_unused rs (OtherMessage other) refl refl
 counts_fault rs Short = counts_refused rs Short refl refl
@@ -168,109 +164,57 @@ pub readings_more : (r : ℕ) (past : List (List ℕ)) (frame : List ℕ) (x : R
 readings_more r [] frame x is = ap (λ (y : Reading). y ∷ []) is
 readings_more r (p ∷ past) frame x is = ap (λ (l : List Reading). item_in r (payload_of p) ∷ l) (readings_more r past frame x is)
 
+-- ---- the items that were given
+
+-- nothing was given
+pub none_given : (r : ℕ) (g : GivenState) → ((other : NavItem) → is_given g other ≡ false) → NothingKept g → HasGiven r g []
+none_given r g none kept = record { items = none; known = none_known r g kept }
+
+-- whether an item was given before
+pub was_given : (r : ℕ) (g : GivenState) (past : List (List ℕ)) (frame : List ℕ) (item : NavItem) → MessageLaws r → item_in r (payload_of frame) ≡ Ok item
+    → HasGiven r g past → is_given g item ≡ has (items_of_readings (readings r past)) item
+was_given r g past frame item laws is far = far.items item ∙ looked_for r past (payload_of frame) item laws is
+
 -- a frame that yields an item
-pub so_far_item : (r : ℕ) (prefix : List ℕ) (text : NavItem → List ℕ) (past : List (List ℕ)) (frame : List ℕ) (item : NavItem)
-    (w w1 w2 u u1 : Option (List ℕ)) (given given_new : GivenState) (c c1 : StreamCounts) (before : Bool)
-    → item_in r (payload_of frame) ≡ Ok item → before ≡ is_given given item
-    → any_alike (items_of_readings (readings r past)) item ≡ has (items_of_readings (readings r past)) item
-    → StreamSoFar r prefix text past w w1 u u1 given c
-    → Appends w1 w2 (once_text text before item) → c1 ≡ with_item c before item
-    → ((other : NavItem) → is_given given_new other ≡ (sent_alike item other || is_given given other))
-    → sent_alike item item ≡ true → KeptPlaces given given_new (payload_of frame)
-    → StreamSoFar r prefix text (past ++ frame ∷ []) w w2 u u1 given_new c1
-so_far_item r prefix text past frame item w w1 w2 u u1 given given_new c c1 before is was looked far output counts adds own kept =
+pub given_item : (r : ℕ) (g g1 : GivenState) (past : List (List ℕ)) (frame : List ℕ) (item : NavItem) → MessageLaws r → item_in r (payload_of frame) ≡ Ok item
+    → ((other : NavItem) → is_given g1 other ≡ (sent_alike item other || is_given g other)) → KeptPlaces g g1 (payload_of frame)
+    → HasGiven r g past → HasGiven r g1 (past ++ frame ∷ [])
+given_item r g g1 past frame item laws is adds kept far =
     let rs = readings r past in
-    let more = readings_more r past frame (Ok item) is in
-    let there : before ≡ has (items_of_readings rs) item = was ∙ far.holds item ∙ looked in
     record {
-      output = subst (Appends w w2) (sym (ap (readings_output prefix text) more ∙ output_item prefix text rs item))
-          (Appends-trans w w1 w2 _ _ far.output (subst (λ (b : Bool). Appends w1 w2 (once_text text b item)) there output));
-      report = subst (Appends u u1) (sym (ap (readings_report 1) more ∙ report_more 1 rs (Ok item) ∙ append-nil (readings_report 1 rs))) far.report;
-      counts_are = counts ∙ ap (λ (x : StreamCounts). with_item x before item) far.counts_are ∙ ap (λ (b : Bool). with_item (counts_of_readings rs) b item) there
-          ∙ counts_item rs item ∙ ap counts_of_readings (sym more);
-      holds = λ other. adds other ∙ ap (λ (b : Bool). sent_alike item other || b) (far.holds other) ∙ sym (any_more (items_of_readings rs) item other)
-          ∙ ap (λ (l : List NavItem). any_alike l other) (sym (items_more rs item)) ∙ ap (λ (l : List Reading). any_alike (items_of_readings l) other) (sym more);
-      known = known_more r given given_new (payload_of frame) item is own adds kept far.known;
+      items = λ other. adds other ∙ ap (λ (b : Bool). sent_alike item other || b) (far.items other) ∙ sym (any_more (items_of_readings rs) item other)
+          ∙ ap (λ (l : List NavItem). any_alike l other) (sym (items_more rs item)) ∙ ap (λ (l : List Reading). any_alike (items_of_readings l) other) (sym (readings_more r past frame (Ok item) is));
+      known = known_more r g g1 (payload_of frame) item is (read_own r (payload_of frame) item laws is) adds kept far.known;
     }
 
--- a frame whose payload is kept
-pub so_far_again : (r : ℕ) (prefix : List ℕ) (text : NavItem → List ℕ) (past : List (List ℕ)) (frame : List ℕ)
-    (w w1 u u1 : Option (List ℕ)) (given : GivenState) (c c1 : StreamCounts) (laws : Laws r)
-    → StandsIn given (payload_of frame) → StreamSoFar r prefix text past w w1 u u1 given c → ((item : NavItem) → c1 ≡ with_item c true item)
-    → StreamSoFar r prefix text (past ++ frame ∷ []) w w1 u u1 given c1
-so_far_again r prefix text past frame w w1 u u1 given c c1 laws stands far counts =
-    let known = is_known r given (payload_of frame) stands far.known in
-    so_far_item r prefix text past frame known.item w w1 w1 u u1 given given c c1 true known.is (sym known.given)
-    (looked_for r past (payload_of frame) known.item laws known.is) far (Appends-nil w1) (counts known.item)
-    (adds_nothing given known.item known.given) (read_own r (payload_of frame) known.item laws known.is) (inl refl, inl refl)
+-- a frame whose payload is in the cache
+pub given_again : (r : ℕ) (g : GivenState) (past : List (List ℕ)) (frame : List ℕ) (item : NavItem) → MessageLaws r → item_in r (payload_of frame) ≡ Ok item → is_given g item ≡ true
+    → HasGiven r g past → HasGiven r g (past ++ frame ∷ [])
+given_again r g past frame item laws is given far = given_item r g g past frame item laws is (adds_nothing g item given) (inl refl, inl refl) far
 
--- a frame that is refused or not used
-pub so_far_fault : (r : ℕ) (prefix : List ℕ) (text : NavItem → List ℕ) (past : List (List ℕ)) (frame : List ℕ) (fault : MessageFault)
-    (w w1 u u1 u2 : Option (List ℕ)) (given : GivenState) (c c1 : StreamCounts) (number : ℕ)
-    → item_in r (payload_of frame) ≡ Err fault → number ≡ c.frames + 1
-    → StreamSoFar r prefix text past w w1 u u1 given c
-    → Appends u1 u2 (reading_report number (Err fault)) → c1 ≡ with_fault c fault
-    → StreamSoFar r prefix text (past ++ frame ∷ []) w w1 u u2 given c1
-so_far_fault r prefix text past frame fault w w1 u u1 u2 given c c1 number is nth far report counts =
-    let rs = readings r past in
-    let more = readings_more r past frame (Err fault) is in
-    let frames : c.frames ≡ length rs = ap (λ (x : StreamCounts). x.frames) far.counts_are in
-    let place : number ≡ 1 + length rs = omega (arith, nth, frames) in
-    record {
-      output = subst (Appends w w1) (sym (ap (readings_output prefix text) more ∙ output_fault prefix text rs fault)) far.output;
-      report = subst (Appends u u2) (sym (ap (readings_report 1) more ∙ report_more 1 rs (Err fault)))
-          (Appends-trans u u1 u2 _ _ far.report (subst (λ n. Appends u1 u2 (reading_report n (Err fault))) place report));
-      counts_are = counts ∙ ap (λ (x : StreamCounts). with_fault x fault) far.counts_are ∙ counts_fault rs fault ∙ ap counts_of_readings (sym more);
-      holds = λ other. far.holds other ∙ ap (λ (l : List NavItem). any_alike l other) (sym (items_same rs fault)) ∙ ap (λ (l : List Reading). any_alike (items_of_readings l) other) (sym more);
-      known = far.known;
-    }
+-- a frame without an item
+pub given_fault : (r : ℕ) (g : GivenState) (past : List (List ℕ)) (frame : List ℕ) (fault : MessageFault) → item_in r (payload_of frame) ≡ Err fault
+    → HasGiven r g past → HasGiven r g (past ++ frame ∷ [])
+given_fault r g past frame fault is far = record {
+  items = λ other. far.items other ∙ ap (λ (l : List NavItem). any_alike l other) (sym (items_same (readings r past) fault))
+      ∙ ap (λ (l : List Reading). any_alike (items_of_readings l) other) (sym (readings_more r past frame (Err fault) is));
+  known = far.known;
+}
 
--- a frame whose item is not written to its end
-pub broke_item : (r : ℕ) (prefix : List ℕ) (text : NavItem → List ℕ) (past : List (List ℕ)) (frame : List ℕ) (item : NavItem)
-    (w w1 w2 u u1 : Option (List ℕ)) (given : GivenState) (c : StreamCounts) (before : Bool)
-    → item_in r (payload_of frame) ≡ Ok item → before ≡ is_given given item
-    → any_alike (items_of_readings (readings r past)) item ≡ has (items_of_readings (readings r past)) item
-    → StreamSoFar r prefix text past w w1 u u1 given c
-    → AppendsPrefix w1 w2 (once_text text before item)
-    → StreamBroke r prefix text past (past ++ frame ∷ []) w w2 u u1
-broke_item r prefix text past frame item w w1 w2 u u1 given c before is was looked far output =
-    let rs = readings r past in
-    let more = readings_more r past frame (Ok item) is in
-    let there : before ≡ has (items_of_readings rs) item = was ∙ far.holds item ∙ looked in
-    record {
-      output = subst (AppendsBetween w w2 (readings_output prefix text rs)) (sym (ap (readings_output prefix text) more ∙ output_item prefix text rs item))
-          (between_behind w w1 w2 _ _ far.output (subst (λ (b : Bool). AppendsPrefix w1 w2 (once_text text b item)) there output));
-      report = subst (AppendsBetween u u1 (readings_report 1 rs)) (sym (ap (readings_report 1) more ∙ report_more 1 rs (Ok item) ∙ append-nil (readings_report 1 rs)))
-          (between_whole u u1 (readings_report 1 rs) far.report);
-    }
+-- ---- answers
 
--- a frame whose refusal is not reported to its end
-pub broke_fault : (r : ℕ) (prefix : List ℕ) (text : NavItem → List ℕ) (past : List (List ℕ)) (frame : List ℕ) (fault : MessageFault)
-    (w w1 u u1 u2 : Option (List ℕ)) (given : GivenState) (c : StreamCounts) (number : ℕ)
-    → item_in r (payload_of frame) ≡ Err fault → number ≡ c.frames + 1
-    → StreamSoFar r prefix text past w w1 u u1 given c
-    → AppendsPrefix u1 u2 (reading_report number (Err fault))
-    → StreamBroke r prefix text past (past ++ frame ∷ []) w w1 u u2
-broke_fault r prefix text past frame fault w w1 u u1 u2 given c number is nth far report =
-    let rs = readings r past in
-    let more = readings_more r past frame (Err fault) is in
-    let frames : c.frames ≡ length rs = ap (λ (x : StreamCounts). x.frames) far.counts_are in
-    let place : number ≡ 1 + length rs = omega (arith, nth, frames) in
-    record {
-      output = subst (AppendsBetween w w1 (readings_output prefix text rs)) (sym (ap (readings_output prefix text) more ∙ output_fault prefix text rs fault))
-          (between_whole w w1 _ far.output);
-      report = subst (AppendsBetween u u2 (readings_report 1 rs)) (sym (ap (readings_report 1) more ∙ report_more 1 rs (Err fault)))
-          (between_behind u u1 u2 _ _ far.report (subst (λ n. AppendsPrefix u1 u2 (reading_report n (Err fault))) place report));
-    }
-
-pub on_ok4 : {T E P Q S V R : Type 0} (r : Result T E) → OnOk r P → OnOk r Q → OnOk r S → OnOk r V → (P → Q → S → V → R) → OnOk r R
-on_ok4 (Ok x) p q s v f = f p q s v
-on_ok4 (Err e) p q s v f = tt
+pub on_ok3 : {T E P Q S R : Type 0} (r : Result T E) → OnOk r P → OnOk r Q → OnOk r S → (P → Q → S → R) → OnOk r R
+on_ok3 (Ok x) p q s f = f p q s
+on_ok3 (Err e) p q s f = tt
 
 pub on_ok2 : {T E P Q R : Type 0} (r : Result T E) → OnOk r P → OnOk r Q → (P → Q → R) → OnOk r R
 on_ok2 (Ok x) p q f = f p q
 on_ok2 (Err e) p q f = tt
 
-pub on_err1 : {T E P R : Type 0} (r : Result T E) → OnErr r P → (P → R) → OnErr r R
-on_err1 (Ok x) p f = tt
-on_err1 (Err e) p f = f p
+pub any_ok : {T E P : Type 0} (r : Result T E) → P → OnOk r P
+any_ok (Ok x) p = p
+any_ok (Err e) p = tt
+
+pub any_err : {T E P : Type 0} (r : Result T E) → P → OnErr r P
+any_err (Ok x) p = tt
+any_err (Err e) p = p

@@ -1,4 +1,3 @@
 -- Lemmas that proofs of other crates cite.
 pub use Rattle.streams.proofs.OutletsSurface.{times_behind}
-pub use Rattle.streams.proofs.StreamSurface.{Laws, adds_nothing, any_more, counts_are, is_known, items_more}
-pub use Rattle.streams.proofs.StreamSurface.{items_same, known_more, looked_for, none_known, read_own, readings_more}
+pub use Rattle.streams.proofs.StreamSurface.{any_err, counts_are, given_again, given_fault, given_item, gives_one, grows_by_one, is_known, none_given, part_one, was_given}

@@ -12,10 +12,9 @@ use Rattle.one_run.specs.declared.fault.BridgeFault.TheVariants.{ReadFault, Writ
 use Rattle.one_run.specs.Causes.{HasItsCause, faults_of}
 use Rattle.one_run.specs.Runs.{AppendsBetween, IsBroken, CountsAreLast, IsDone, Leaves, Says, World, faults_in}
 use Rattle.one_run.proofs.Surface.{ahead_at_end, ahead_by, all_of, between, between_behind, between_whole, between_within, no_prefix, nothing_told, prefix_nil, prefix_of, prefix_same, prefix_trans, prefix_within, report_failed, taken_all, whole_prefix, with_rest, write_failed}
-use Rattle.streams.specs.Mirrors.{BeginsFlushed, IsStreamFault}
-use Rattle.streams.specs.Taken.{Gives, Stops, Takes, TakesAll, TakesPart, frames_meaning_by, least_by}
+use Rattle.streams.specs.Mirrors.{IsStreamFault}
+use Rattle.streams.specs.Taken.{BeginsFlushed, Gives, Stops, Takes, TakesAll, TakesPart, frames_meaning_by, least_by}
 use Rattle.streams.proofs.PieceEnds.{IsFaultAt, begins_all, begins_flushed, flushed_frames, kind_at, long_at, takes_none}
-use Rattle.streams.proofs.StreamEnds.{all_frames}
 use Rattle.streams.proofs.Stopping.{Grows, Stays, decided_texts, end_stopped, ended_stopped, frames_stopped, none_stopped, rest_stopped}
 use Rattle.streams.proofs.TakenLemmas.{stops_on, takes_fed, takes_nowhere, takes_on}
 
@@ -294,6 +293,10 @@ broke_frames {text = text} {whole = whole} {told = told} {reported = reported} c
     }
 
 -- ---- all frames were processed
+
+-- the frames that were taken are all
+all_frames : (taken : List ℕ) (them : List (List ℕ)) → frames (taken ++ []) ≡ them ++ frames [] → frames taken ≡ them
+all_frames taken them is = ap frames (sym (append-nil taken)) ∙ is ∙ append-nil them
 
 -- what was written and reported of all frames
 pub all_given : {X : Type 0} {text whole told reported : List (List ℕ) → List ℕ} {holds : X → List (List ℕ) → Type 0} {left l1 : Option (List ℕ)} (w : Option (List ℕ)) {w1 w2 u u1 : Option (List ℕ)} {s s1 : X}

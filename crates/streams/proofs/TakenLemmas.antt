@@ -4,9 +4,12 @@ use Rattle.std.specs.Prelude.{Option}
 use Rattle.std.proofs.lemmas.List.{take-append-drop}
 use Rattle.std.proofs.Math.Seq.{take-add}
 use Rattle.std.specs.Io.KnownBytes.{Appends}
+use Rattle.std.proofs.KnownBytes.{Appends-trans}
+use Rattle.nav_io.specs.Prefix.{AppendsPrefix}
 use Rattle.framing.specs.Frames.{decided, frames}
 use Rattle.framing.specs.State.{TakesFrame, TakesNone}
 use Rattle.one_run.specs.Runs.{AppendsBetween}
+use Rattle.one_run.proofs.Surface.{between_behind}
 use Rattle.streams.specs.Taken.{Gives, GivesBetween, HasRoomFor, Holds, Stops, Takes}
 use Rattle.streams.proofs.DecidedLemmas.{decided_frame, decided_none}
 use Rattle.streams.proofs.Stopping.{next_behind}
@@ -33,6 +36,18 @@ between_on holds {text = text} {xs = xs} {done = done} {ys = ys} {w2 = w2} held 
     subst (λ (l : List (List ℕ)). AppendsBetween start w2 (text l) (text (past ++ (xs ++ ys)))) (append_assoc past xs done)
     (subst (λ (l : List (List ℕ)). AppendsBetween start w2 (text ((past ++ xs) ++ done)) (text l)) (append_assoc past xs ys)
     (second (past ++ xs) start (held past h) (first past start h grew)))
+
+-- what belongs to one frame more
+pub gives_one : {X : Type 0} {holds : X → List (List ℕ) → Type 0} {s : X} {text : List (List ℕ) → List ℕ} {frame more : List ℕ} {w w1 : Option (List ℕ)}
+    → ((past : List (List ℕ)) → holds s past → text (past ++ frame ∷ []) ≡ text past ++ more) → Appends w w1 more → Gives holds s text (frame ∷ []) w w1
+gives_one {w = w} {w1 = w1} adds grew past start held wrote = subst (Appends start w1) (sym (adds past held)) (Appends-trans start w w1 _ _ wrote grew)
+
+-- a prefix of it
+pub part_one : {X : Type 0} {holds : X → List (List ℕ) → Type 0} {s : X} {text : List (List ℕ) → List ℕ} {frame more : List ℕ} {w w1 : Option (List ℕ)}
+    → ((past : List (List ℕ)) → holds s past → text (past ++ frame ∷ []) ≡ text past ++ more) → AppendsPrefix w w1 more → GivesBetween holds s text [] (frame ∷ []) w w1
+part_one {text = text} {frame = frame} {w = w} {w1 = w1} adds grew past start held wrote =
+    subst (λ (l : List (List ℕ)). AppendsBetween start w1 (text l) (text (past ++ frame ∷ []))) (sym (append-nil past))
+    (subst (AppendsBetween start w1 (text past)) (sym (adds past held)) (between_behind start w w1 _ _ wrote grew))
 
 -- ---- frames after frames
 

@@ -5,6 +5,7 @@ pub mod Times
 pub mod StreamTargets
 pub mod Streams
 pub mod Mirrors
+pub mod Standing
 pub mod Pushed
 pub mod FrameLines
 pub mod FrameRuns

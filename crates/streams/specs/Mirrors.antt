@@ -1,5 +1,5 @@
 -- A stream while it is read. Private functions cite these.
-use Rattle.std.specs.Prelude.{◌≡◌, ◌+◌, ◌-◌, ◌*◌, ◌%◌, ◌^◌, ◌<◌, ◌≤◌, ◌||◌, ◌⊎◌, ℕ, Bool, true, false, if◌then◌else◌, List, [], ◌∷◌, ◌++◌, length, take, Option, None, Some, Ok, IfSome, replicate, slice_get, slice_set, bit_xor}
+use Rattle.std.specs.Prelude.{◌≡◌, ◌+◌, ◌*◌, ◌%◌, ◌^◌, ◌<◌, ◌≤◌, ◌||◌, ◌⊎◌, ℕ, Bool, true, false, if◌then◌else◌, List, [], ◌∷◌, length, Option, None, Some, Ok, IfSome, replicate, slice_get, slice_set, bit_xor}
 use Rattle.std.specs.List.{All}
 use Rattle.std.specs.Ordering.{nat_cmp}
 use Rattle.std.specs.Cmp.Lexicographic.{slice_cmp}
@@ -7,7 +7,6 @@ use Rattle.std.specs.BTreeSet.{BTreeSet, btree_set_len, contains}
 use Rattle.std.specs.BTreeMap.{is_at}
 use Rattle.std.specs.Map.{lookup}
 use Rattle.std.specs.Option.{unwrap_or}
-use Rattle.std.specs.Io.KnownBytes.{Appends, Consumes, IsAtEnd}
 use Rattle.nav_bits.specs.Bits.{number_at}
 use Rattle.nav_eph.specs.declared.items.NavItem.{NavItem}
 use Rattle.nav_eph.specs.declared.items.NavItem.TheVariants.{Gps, Gal, Ion}
@@ -15,13 +14,10 @@ use Rattle.rtcm_eph.specs.Reading.{GivesItem, content_of, item_in}
 use Rattle.rtcm_eph.specs.Writing.{bytes_1019, bytes_1046}
 use Rattle.rtcm_eph.specs.declared.fault.MessageFault.{MessageFault}
 use Rattle.rtcm_eph.specs.declared.fault.MessageFault.TheVariants.{NoNumber, OtherMessage, Short, BadSat, BadTime, SpareSisa}
-use Rattle.framing.specs.Frames.{decided, frames}
 use Rattle.streams.specs.Times.{with_item as timed}
-use Rattle.one_run.specs.Runs.{AppendsBetween}
 use Rattle.one_run.specs.declared.fault.BridgeFault.{BridgeFault}
-use Rattle.one_run.specs.declared.fault.BridgeFault.TheVariants.{ReadFault, WriteFault, ReportFault, NotThisForm, TooLong, NoMemory}
+use Rattle.one_run.specs.declared.fault.BridgeFault.TheVariants.{WriteFault, ReportFault, NoMemory}
 use Rattle.streams.specs.declared.counts.StreamCounts.{StreamCounts}
-use Rattle.streams.specs.Streams.{readings, items_of_readings, readings_output, readings_report, counts_of_readings}
 
 -- the hash with the eight bytes more that begin at this bit offset
 abbrev pub hash_with : ℕ → List ℕ → ℕ → ℕ
@@ -168,80 +164,6 @@ with_item c before item = record {
   items = if before then c.items else c.items + 1;
   times = if before then c.times else timed c.times item;
 }
-
--- The frames `past` begin the stream, and all that they give was written, reported, counted and kept.
-pub record StreamSoFar (r : ℕ) (prefix : List ℕ) (text : NavItem → List ℕ) (past : List (List ℕ)) (written written_new reported reported_new : Option (List ℕ)) (given : GivenState) (counts : StreamCounts) : Type 0 where
-  pub output : Appends written written_new (readings_output prefix text (readings r past))
-  pub report : Appends reported reported_new (readings_report 1 (readings r past))
-  pub counts_are : counts ≡ counts_of_readings (readings r past)
-  pub holds : (other : NavItem) → is_given given other ≡ any_alike (items_of_readings (readings r past)) other
-  pub known : AreKnown r given
-
--- A prefix was written and reported of what these frames give, and no less than what the frames `done` give.
-pub record StreamBroke (r : ℕ) (prefix : List ℕ) (text : NavItem → List ℕ) (done frames_are : List (List ℕ)) (written written_new reported reported_new : Option (List ℕ)) : Type 0 where
-  pub output : AppendsBetween written written_new (readings_output prefix text (readings r done)) (readings_output prefix text (readings r frames_are))
-  pub report : AppendsBetween reported reported_new (readings_report 1 (readings r done)) (readings_report 1 (readings r frames_are))
-
--- These frames follow those already processed, and are processed.
-abbrev pub StreamGoes : ℕ → List ℕ → (NavItem → List ℕ) → List (List ℕ) → Option (List ℕ) → Option (List ℕ) → Option (List ℕ) → Option (List ℕ) → GivenState → GivenState → StreamCounts → StreamCounts → Type 0
-StreamGoes r prefix text more written written_new reported reported_new given given_new counts counts_new =
-    (past : List (List ℕ)) (start begun : Option (List ℕ)) → StreamSoFar r prefix text past start written begun reported given counts
-    → StreamSoFar r prefix text (past ++ more) start written_new begun reported_new given_new counts_new
-
--- These frames follow those already processed, and the last of them is not fully processed.
-abbrev pub StreamBreaks : ℕ → List ℕ → (NavItem → List ℕ) → List (List ℕ) → Option (List ℕ) → Option (List ℕ) → Option (List ℕ) → Option (List ℕ) → GivenState → StreamCounts → Type 0
-StreamBreaks r prefix text more written written_new reported reported_new given counts =
-    (past : List (List ℕ)) (start begun : Option (List ℕ)) → StreamSoFar r prefix text past start written begun reported given counts
-    → StreamBroke r prefix text past (past ++ more) start written_new begun reported_new
-
--- These frames were found and processed, and the bytes not yet used went from `before` to `after`.
--- Whatever bytes follow, the frames of the old bytes are these and then those of the new; so are
--- the decided ones, if more bytes may come.
-pub record StreamMoves (r : ℕ) (prefix : List ℕ) (text : NavItem → List ℕ) (more : Bool) (before after : List ℕ) (written written_new reported reported_new : Option (List ℕ)) (given given_new : GivenState) (counts counts_new : StreamCounts) : Type 0 where
-  pub frames_are : List (List ℕ)
-  pub stream : (following : List ℕ) → (more ≡ false → following ≡ []) → frames (before ++ following) ≡ frames_are ++ frames (after ++ following)
-  pub decides : (following : List ℕ) → more ≡ true → decided (before ++ following) ≡ frames_are ++ decided (after ++ following)
-  pub goes : StreamGoes r prefix text frames_are written written_new reported reported_new given given_new counts counts_new
-
--- these frames are the others, or have one frame more
-abbrev pub IsNext : List (List ℕ) → List (List ℕ) → Type 0
-IsNext done given = (given ≡ done) ⊎ ((frame : List ℕ) × (given ≡ done ++ frame ∷ []))
-
--- Frames of these bytes were found, and the last of them is not fully processed, whatever bytes follow.
-pub record StreamStops (r : ℕ) (prefix : List ℕ) (text : NavItem → List ℕ) (more : Bool) (before : List ℕ) (written written_new reported reported_new : Option (List ℕ)) (given : GivenState) (counts : StreamCounts) : Type 0 where
-  pub done : List (List ℕ)
-  pub frames_are : List (List ℕ)
-  pub next : IsNext done frames_are
-  pub stream : (following : List ℕ) → (more ≡ false → following ≡ []) → (rest : List (List ℕ)) × (frames (before ++ following) ≡ frames_are ++ rest)
-  pub breaks : (past : List (List ℕ)) (start begun : Option (List ℕ)) → StreamSoFar r prefix text past start written begun reported given counts
-      → StreamBroke r prefix text (past ++ done) (past ++ frames_are) start written_new begun reported_new
-
--- These frames begin with those that all but the last 16,384 bytes decide.
-abbrev pub BeginsFlushed : List (List ℕ) → List ℕ → Type 0
-BeginsFlushed them taken = (rest : List (List ℕ)) × (them ≡ decided (take (length taken - 16384) taken) ++ rest)
-
--- The complete input was read, and all its frames processed.
-pub record StreamAll (r : ℕ) (prefix : List ℕ) (text : NavItem → List ℕ) (left left_new written written_new reported reported_new : Option (List ℕ)) (given given_new : GivenState) (counts counts_new : StreamCounts) : Type 0 where
-  pub taken : List ℕ
-  pub consumes : Consumes left left_new taken
-  pub end : IsAtEnd left_new
-  pub fits : length taken < 2 ^ 32
-  pub moves : StreamMoves r prefix text false taken [] written written_new reported reported_new given given_new counts counts_new
-  pub flushes : BeginsFlushed moves.frames_are taken
-
--- These bytes were read, and a prefix of what their frames give was written and reported, whatever bytes follow unless they were
--- read to their end; after a failed read exactly what the decided frames give.
-pub record StreamPart (r : ℕ) (prefix : List ℕ) (text : NavItem → List ℕ) (left left_new written written_new reported reported_new : Option (List ℕ)) (given given_new : GivenState) (counts counts_new : StreamCounts) (fault : BridgeFault) : Type 0 where
-  pub taken : List ℕ
-  pub consumes : Consumes left left_new taken
-  pub more : Bool
-  pub end : more ≡ false → IsAtEnd left_new
-  pub stops : StreamStops r prefix text more taken written written_new reported reported_new given counts
-  pub flushes : BeginsFlushed stops.done taken
-  pub too_long : fault ≡ TooLong → length taken ≡ 2 ^ 32
-  pub memory : fault ≡ NoMemory → length taken < 2 ^ 32
-  pub form : fault ≡ NotThisForm → ⊥
-  pub exact : fault ≡ ReadFault → StreamGoes r prefix text (decided taken) written written_new reported reported_new given given_new counts counts_new
 
 -- no more frames were counted by kind than there are
 abbrev pub AreFew : StreamCounts → Type 0

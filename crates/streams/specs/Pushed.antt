@@ -9,9 +9,10 @@ use Rattle.streams.specs.declared.target.Target.{Target}
 use Rattle.one_run.specs.Runs.{AppendsBetween, StopAtOnePlace, Texts}
 use Rattle.one_run.specs.declared.fault.BridgeFault.{BridgeFault}
 use Rattle.one_run.specs.declared.fault.BridgeFault.TheVariants.{TooLong}
-use Rattle.streams.specs.declared.counts.StreamCounts.{StreamCounts}
-use Rattle.streams.specs.Streams.{flushed_output_by, flushed_readings, readings_report, stream_output_by, stream_readings, stream_report}
-use Rattle.streams.specs.Mirrors.{AreFew, GivenState, IsStreamFault, StreamSoFar}
+use Rattle.streams.specs.declared.item_taker.ItemState.{ItemState}
+use Rattle.streams.specs.Streams.{frames_output_by, frames_report, stream_report}
+use Rattle.streams.specs.Mirrors.{IsStreamFault}
+use Rattle.streams.specs.Standing.{StandsFor}
 
 -- what contracts see of a conversion between two pieces
 pub record StreamRunState : Type 0 where
@@ -21,20 +22,23 @@ pub record StreamRunState : Type 0 where
   pub week : ℕ
   -- the bytes that no frame has used yet
   pub deframer : DeframerState
-  -- the items that were given
-  pub given : GivenState
-  -- what was counted
-  pub counts : StreamCounts
+  -- the items that were given, and what was counted
+  pub items : ItemState
   -- how many bytes were pushed
   pub taken : ℕ
   -- why it goes no further
   pub fault : Option BridgeFault
 
--- bytes may be pushed: nothing has failed
+-- bytes may be pushed: nothing has failed, and the frames `past` were processed
 pub record IsOpen (s : StreamRunState) : Type 0 where
   pub may_feed : MayFeed s.deframer
-  pub few : AreFew s.counts
-  pub room : s.counts.frames + length s.deframer.rest ≤ s.taken
+  pub past : List (List ℕ)
+  pub held : StandsFor s.week s.items past
+  pub room : length past + length s.deframer.rest ≤ s.taken
+
+-- what is written of frames
+abbrev pub text_of : StreamRunState → List (List ℕ) → List ℕ
+text_of s = frames_output_by (prefix_text s.to) (item_text s.to 0) s.week
 
 -- the state after these bytes: the frames `past` were processed, and the rest is that of the
 -- deframer, whatever bytes follow
@@ -42,34 +46,34 @@ pub record IsBehind (s : StreamRunState) (bytes : List ℕ) (start written begun
   pub past : List (List ℕ)
   pub stream : (following : List ℕ) → frames (bytes ++ following) ≡ past ++ frames (s.deframer.rest ++ following)
   pub decides : (following : List ℕ) → decided (bytes ++ following) ≡ past ++ decided (s.deframer.rest ++ following)
-  pub so_far : StreamSoFar s.week (prefix_text s.to) (item_text s.to 0) past start written begun reported s.given s.counts
+  pub held : StandsFor s.week s.items past
+  pub output : Appends start written (text_of s past)
+  pub report : Appends begun reported (frames_report s.week past)
 
 -- These bytes were pushed since the output was `start` and the report `begun`: exactly what they decide was written and reported.
 pub record IsPushed (s : StreamRunState) (bytes : List ℕ) (start written begun reported : Option (List ℕ)) : Type 0 where
-  pub output : Appends start written (flushed_output_by (prefix_text s.to) (item_text s.to 0) s.week bytes)
-  pub report : Appends begun reported (readings_report 1 (flushed_readings s.week bytes))
+  pub output : Appends start written (text_of s (decided bytes))
+  pub report : Appends begun reported (frames_report s.week (decided bytes))
   pub behind : IsBehind s bytes start written begun reported
 
 -- what bytes decide of the output and of the report
 abbrev pub decided_texts : StreamRunState → Texts
 decided_texts s = record {
-  output = flushed_output_by (prefix_text s.to) (item_text s.to 0) s.week;
-  report = λ bytes. readings_report 1 (flushed_readings s.week bytes);
+  output = λ bytes. text_of s (decided bytes);
+  report = λ bytes. frames_report s.week (decided bytes);
 }
 
 -- Something failed: no less was written and reported than what `bytes` decide, and no more than what
 -- the complete stream gives. Both stop at one place, and counts are reported last.
 pub record IsCutShort (s : StreamRunState) (bytes whole : List ℕ) (start written begun reported : Option (List ℕ)) : Type 0 where
-  pub output : AppendsBetween start written (flushed_output_by (prefix_text s.to) (item_text s.to 0) s.week bytes)
-      (stream_output_by (prefix_text s.to) (item_text s.to 0) s.week whole)
-  pub report : AppendsBetween begun reported (readings_report 1 (flushed_readings s.week bytes)) (stream_report s.week whole)
+  pub output : AppendsBetween start written (text_of s (decided bytes)) (text_of s (frames whole))
+  pub report : AppendsBetween begun reported (frames_report s.week (decided bytes)) (stream_report s.week whole)
   pub stopped : StopAtOnePlace (Some (decided_texts s)) (Some whole) start written begun reported
-  pub counts_last : AppendsPrefix begun reported (readings_report 1 (stream_readings s.week whole))
-      ⊎ Appends start written (stream_output_by (prefix_text s.to) (item_text s.to 0) s.week whole)
+  pub counts_last : AppendsPrefix begun reported (frames_report s.week (frames whole)) ⊎ Appends start written (text_of s (frames whole))
 
 -- the complete stream was written and reported
 pub record IsWhole (s : StreamRunState) (bytes : List ℕ) (start written begun reported : Option (List ℕ)) : Type 0 where
-  pub output : Appends start written (stream_output_by (prefix_text s.to) (item_text s.to 0) s.week bytes)
+  pub output : Appends start written (text_of s (frames bytes))
   pub report : Appends begun reported (stream_report s.week bytes)
 
 -- why a piece was not taken: what a run over the stream may fail by; from 2^64 bytes on `TooLong`, and only then

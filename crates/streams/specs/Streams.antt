@@ -1,5 +1,5 @@
 -- The items of a stream of RTCM frames, each at its first occurrence, and what is written and reported of the stream.
-use Rattle.std.specs.Prelude.{ℕ, ◌^◌, ◌+◌, ◌-◌, ◌||◌, Bool, true, false, if◌then◌else◌, List, [], ◌∷◌, ◌++◌, length, take, codes, map, sum, Some, Result, Ok, Err}
+use Rattle.std.specs.Prelude.{ℕ, ◌+◌, ◌||◌, Bool, true, false, if◌then◌else◌, List, [], ◌∷◌, ◌++◌, length, codes, map, sum, Result, Ok, Err}
 use Rattle.std.specs.List.{flat_map}
 use Rattle.nav_eph.specs.Items.{same_item}
 use Rattle.nav_eph.specs.declared.items.NavItem.{NavItem}
@@ -15,6 +15,7 @@ use Rattle.streams.specs.declared.counts.StreamCounts.{StreamCounts}
 use Rattle.streams.specs.Targets.{prefix_text, item_text}
 use Rattle.streams.specs.Times.{times_of}
 use Rattle.streams.specs.StreamTargets.{target_of_stream}
+use Rattle.streams.specs.Taken.{frames_meaning_by}
 
 -- the reading of a frame: its item for the reference week r, or the first error
 abbrev pub Reading : Type 0
@@ -112,47 +113,40 @@ stream_counts_text c =
 abbrev pub readings_output : List ℕ → (NavItem → List ℕ) → List Reading → List ℕ
 readings_output prefix text rs = prefix ++ flat_map text (first_places (items_of_readings rs))
 
+-- what is written of frames
+abbrev pub frames_output_by : List ℕ → (NavItem → List ℕ) → ℕ → List (List ℕ) → List ℕ
+frames_output_by prefix text r frames = readings_output prefix text (readings r frames)
+
+-- the report lines of frames
+abbrev pub frames_report : ℕ → List (List ℕ) → List ℕ
+frames_report r frames = readings_report 1 (readings r frames)
+
+-- the counts of frames
+abbrev pub frames_counts : ℕ → List (List ℕ) → StreamCounts
+frames_counts r frames = counts_of_readings (readings r frames)
+
+-- the report of all frames of a stream: a line for each rejected frame, and the counts
+abbrev pub counted_report : ℕ → List (List ℕ) → List ℕ
+counted_report r frames = frames_report r frames ++ stream_counts_text (frames_counts r frames)
+
 -- the output for a stream's bytes
 abbrev pub stream_output_by : List ℕ → (NavItem → List ℕ) → ℕ → List ℕ → List ℕ
-stream_output_by prefix text r bytes = readings_output prefix text (stream_readings r bytes)
+stream_output_by prefix text r bytes = frames_output_by prefix text r (frames bytes)
 
--- the report of a stream's bytes: a line for each rejected frame, and the counts
+-- the report of a stream's bytes
 abbrev pub stream_report : ℕ → List ℕ → List ℕ
-stream_report r bytes =
-    readings_report 1 (stream_readings r bytes) ++ stream_counts_text (stream_counts r bytes)
+stream_report r bytes = counted_report r (frames bytes)
 
 -- the readings of the decided frames of the bytes: those that no following bytes change
 abbrev pub flushed_readings : ℕ → List ℕ → List Reading
 flushed_readings r bytes = readings r (decided bytes)
 
--- the output and report of bytes that no following bytes change: the leading text, and what the decided frames give
+-- the output for bytes while more may come: the leading text, and what the decided frames give
 abbrev pub flushed_output_by : List ℕ → (NavItem → List ℕ) → ℕ → List ℕ → List ℕ
-flushed_output_by prefix text r bytes = readings_output prefix text (flushed_readings r bytes)
+flushed_output_by prefix text r bytes = frames_output_by prefix text r (decided bytes)
 
--- the least that was written of the bytes taken, whatever fails: what all but the last 16,384 bytes
--- decide (one read asks for so many); nothing if no byte was taken
-abbrev pub least_output_by : List ℕ → (NavItem → List ℕ) → ℕ → List ℕ → List ℕ
-least_output_by prefix text r [] = []
-least_output_by prefix text r (b ∷ bs) = flushed_output_by prefix text r (take (length (b ∷ bs) - 16384) (b ∷ bs))
-
--- the least that was reported of them: the lines of the frames that all but the last 16,384 bytes decide
-abbrev pub least_report : ℕ → List ℕ → List ℕ
-least_report r bytes = readings_report 1 (flushed_readings r (take (length bytes - 16384) bytes))
-
--- the meaning of a run over a stream, with a leading text and one for each item
-abbrev pub stream_meaning_by : List ℕ → (NavItem → List ℕ) → ℕ → Meaning StreamCounts
-stream_meaning_by prefix text r = record {
-  reads = true;
-  reports = true;
-  memory = true;
-  limit = 2 ^ 32;
-  counts = λ bytes. Some (stream_counts r bytes);
-  whole = record { output = stream_output_by prefix text r; report = stream_report r };
-  rejections = λ bytes. readings_report 1 (stream_readings r bytes);
-  least = record { output = least_output_by prefix text r; report = least_report r };
-  flushed = Some (record { output = flushed_output_by prefix text r; report = λ bytes. readings_report 1 (flushed_readings r bytes) });
-}
-
--- the same, by the target that a conversion names
+-- the meaning of a run over a stream, by the target that a conversion names
 abbrev pub stream_meaning : StreamTo → ℕ → Meaning StreamCounts
-stream_meaning to r = stream_meaning_by (prefix_text (target_of_stream to)) (item_text (target_of_stream to) 0) r
+stream_meaning to r =
+    let text = frames_output_by (prefix_text (target_of_stream to)) (item_text (target_of_stream to) 0) r in
+    frames_meaning_by text text (frames_report r) (counted_report r) (frames_counts r)

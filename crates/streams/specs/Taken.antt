@@ -1,11 +1,10 @@
 -- What a run makes of the frames of a stream, and a stream while they are processed.
-use Rattle.std.specs.Prelude.{◌≡◌, ◌+◌, ◌-◌, ◌^◌, ◌<◌, ◌≤◌, ℕ, Bool, true, false, List, [], ◌∷◌, ◌++◌, length, take, Option, Some}
+use Rattle.std.specs.Prelude.{◌≡◌, ◌+◌, ◌-◌, ◌^◌, ◌<◌, ◌≤◌, ◌⊎◌, ℕ, Bool, true, false, List, [], ◌∷◌, ◌++◌, length, take, Option, Some}
 use Rattle.std.specs.Io.KnownBytes.{Appends, Consumes, IsAtEnd}
 use Rattle.framing.specs.Frames.{decided, frames}
 use Rattle.one_run.specs.Runs.{AppendsBetween, Meaning}
 use Rattle.one_run.specs.declared.fault.BridgeFault.{BridgeFault}
 use Rattle.one_run.specs.declared.fault.BridgeFault.TheVariants.{ReadFault, NotThisForm, TooLong, NoMemory}
-use Rattle.streams.specs.Mirrors.{BeginsFlushed, IsNext}
 
 -- the least that was written or reported of the bytes taken, whatever fails: what belongs to the frames that all but the last
 -- 16,384 bytes decide (one read asks for so many); nothing if no byte was taken
@@ -58,6 +57,10 @@ pub record Takes {X : Type 0} (text told : List (List ℕ) → List ℕ) (holds 
   pub report : Gives holds old told given reported reported_new
   pub few : length given + length after ≤ length before
 
+-- these frames are the others, or have one frame more
+abbrev pub IsNext : List (List ℕ) → List (List ℕ) → Type 0
+IsNext done given = (given ≡ done) ⊎ ((frame : List ℕ) × (given ≡ done ++ frame ∷ []))
+
 -- Frames of these bytes were found, and the last of them is not fully processed, whatever bytes follow.
 pub record Stops {X : Type 0} (text told : List (List ℕ) → List ℕ) (holds : X → List (List ℕ) → Type 0) (more : Bool) (before : List ℕ) (written written_new reported reported_new : Option (List ℕ)) (old : X) : Type 0 where
   pub done : List (List ℕ)
@@ -66,6 +69,10 @@ pub record Stops {X : Type 0} (text told : List (List ℕ) → List ℕ) (holds 
   pub stream : (following : List ℕ) → (more ≡ false → following ≡ []) → (rest : List (List ℕ)) × (frames (before ++ following) ≡ given ++ rest)
   pub output : GivesBetween holds old text done given written written_new
   pub report : GivesBetween holds old told done given reported reported_new
+
+-- These frames begin with those that all but the last 16,384 bytes decide.
+abbrev pub BeginsFlushed : List (List ℕ) → List ℕ → Type 0
+BeginsFlushed them taken = (rest : List (List ℕ)) × (them ≡ decided (take (length taken - 16384) taken) ++ rest)
 
 -- the complete input was read, and all its frames processed
 pub record TakesAll {X : Type 0} (text told : List (List ℕ) → List ℕ) (holds : X → List (List ℕ) → Type 0) (left left_new written written_new reported reported_new : Option (List ℕ)) (old new : X) : Type 0 where

@@ -34,19 +34,17 @@
 
 mod counts;
 mod frame_run;
-mod frames;
 mod given;
 mod item_lines;
+mod item_taker;
 mod laws;
 mod line;
 mod listed;
 mod messages;
 mod outlet;
-mod pieces;
 mod push;
 mod seen;
 mod sent;
-mod stream;
 mod stream_sent;
 mod stream_target;
 mod streams;
@@ -58,6 +56,7 @@ pub use crate::counts::{StreamCounts, stream_counts_text};
 pub use crate::frame_run::{FrameCounts, run_frames};
 pub use crate::given::ItemsGiven;
 pub use crate::item_lines::{append_issue, append_satellite, item_line};
+pub use crate::item_taker::message_laws;
 pub use crate::laws::{
     what_is_written_of_a_stream_is_the_text_of_its_list, what_is_written_of_a_stream_stays,
 };

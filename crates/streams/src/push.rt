@@ -11,11 +11,10 @@ ghost use Rattle.streams.specs.Mirrors.{IsStreamFault};
 ghost use Rattle.streams.specs.Streams.{stream_counts};
 ghost use Rattle.streams.specs.StreamTargets.{target_of_stream};
 
-use crate::Target;
 use crate::counts::{StreamCounts, stream_counts_text};
-use crate::frames::{process_frames, process_piece};
-use crate::given::ItemsGiven;
+use crate::item_taker::{ItemState, ItemTaker};
 use crate::stream_target::StreamTo;
+use crate::taker::{take_frames, take_piece};
 use framing::{Deframer, decided_frames_stay};
 use nav_eph::RefWeek;
 use nav_io::{Failed, Sink};
@@ -30,11 +29,9 @@ use std::marker::Model;
 /// gives the same error.
 #[derive(Drop)]
 pub struct StreamRun {
-    to: Target,
-    r: RefWeek,
+    taker: ItemTaker,
     deframer: Deframer,
-    given: ItemsGiven,
-    counts: StreamCounts,
+    items: ItemState,
     // how many bytes were pushed
     taken: u64,
     // why it goes no further
@@ -48,21 +45,19 @@ impl Model for StreamRun {
     ghost Value = { StreamRunState };
 
     ghost view = { λ s. record {
-      to = s.to;
-      week = s.r;
+      to = s.taker.to;
+      week = s.taker.week;
       deframer = s.deframer;
-      given = s.given;
-      counts = s.counts;
+      items = s.items;
       taken = s.taken;
       fault = s.fault;
     } };
 
     ghost invariant = { λ s. s.fault ≡ None → IsOpen (record {
-      to = s.to;
-      week = s.r;
+      to = s.taker.to;
+      week = s.taker.week;
       deframer = s.deframer;
-      given = s.given;
-      counts = s.counts;
+      items = s.items;
       taken = s.taken;
       fault = s.fault;
     }) };
@@ -90,17 +85,17 @@ impl StreamRun {
         ensures pushed { IfOk result (λ run. (begun : Option (List ℕ))
             → IsPushed run [] (T.written output.old) (T.written output.new) begun begun) }
     {
-        let target = to.target();
+        let taker = ItemTaker {
+            to: to.target(),
+            week: r,
+        };
         let deframer = Deframer::new();
-        let given = ItemsGiven::new(alloc);
-        let counts = StreamCounts::new();
-        match target.begin(output) {
+        let items = ItemState::new(alloc);
+        match taker.to.begin(output) {
             Ok(()) => Ok(StreamRun {
-                to: target,
-                r,
+                taker,
                 deframer,
-                given,
-                counts,
+                items,
                 taken: 0,
                 fault: None,
             }),
@@ -155,15 +150,13 @@ impl StreamRun {
                 return Err(BridgeFault::TooLong);
             }
         };
-        match process_piece(
-            &self.to,
-            self.r,
+        match take_piece(
+            &self.taker,
+            &mut self.items,
             &mut self.deframer,
             piece,
-            &mut self.given,
             output,
             report,
-            &mut self.counts,
         ) {
             Ok(()) => {
                 self.taken = taken;
@@ -205,11 +198,9 @@ impl StreamRun {
     {
         decided_frames_stay();
         let StreamRun {
-            to,
-            r,
+            taker,
             mut deframer,
-            mut given,
-            mut counts,
+            mut items,
             fault,
             ..
         } = self;
@@ -217,17 +208,9 @@ impl StreamRun {
             return Err(fault);
         }
         deframer.finish();
-        process_frames(
-            &to,
-            r,
-            &mut deframer,
-            &mut given,
-            output,
-            report,
-            &mut counts,
-        )?;
-        match report.write(stream_counts_text(&counts).as_slice()) {
-            Ok(()) => Ok(counts),
+        take_frames(&taker, &mut items, &mut deframer, output, report)?;
+        match report.write(stream_counts_text(&items.counts).as_slice()) {
+            Ok(()) => Ok(items.counts),
             Err(Failed) => Err(BridgeFault::ReportFault),
         }
     }

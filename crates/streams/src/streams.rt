@@ -4,8 +4,9 @@ ghost use Rattle.one_run.specs.Runs.{Ran};
 ghost use Rattle.streams.specs.Streams.{stream_meaning};
 
 use crate::counts::StreamCounts;
-use crate::stream::convert_stream;
+use crate::item_taker::{ItemState, ItemTaker};
 use crate::stream_target::StreamTo;
+use crate::taker::run_taker;
 use nav_eph::RefWeek;
 use nav_io::{Sink, Source};
 use one_run::BridgeFault;
@@ -39,5 +40,10 @@ pub fn run_stream<S: Source, T: Sink, U: Sink>(
         S.left S.never_fails S.faults T.written T.faults U.written U.faults
         input.old input.new output.old output.new report.old report.new result }
 {
-    convert_stream(alloc, r, &to.target(), input, output, report)
+    let taker = ItemTaker {
+        to: to.target(),
+        week: r,
+    };
+    let mut state = ItemState::new(alloc);
+    run_taker(&taker, &mut state, input, output, report)
 }

@@ -1,6 +1,6 @@
 //! The run over a stream, whatever is done with its frames.
 
-ghost use Rattle.std.specs.Prelude.{◌≡◌, ◌+◌, ◌<◌, ◌≤◌, ◌++◌, ◌∷◌};
+ghost use Rattle.std.specs.Prelude.{◌≡◌, ◌⊎◌, ◌+◌, ◌^◌, ◌<◌, ◌≤◌, ◌++◌, ◌∷◌};
 ghost use Rattle.std.specs.Prelude.{ℕ, true, not, List, [], length, take};
 ghost use Rattle.std.specs.Prelude.{IsTrue, IsErrOf, IfOk, IfErr, OnOk, OnErr};
 ghost use Rattle.nav_io.specs.Prefix.{IsPrefix};
@@ -12,7 +12,6 @@ ghost use Rattle.streams.specs.Mirrors.{IsStreamFault};
 ghost use Rattle.streams.specs.Taken.{Gives, GivesBetween, HasRoomFor, Holds};
 ghost use Rattle.streams.specs.Taken.{Stops, Takes, TakesAll, TakesPart, frames_meaning_by};
 
-use crate::pieces::fault_at;
 use framing::{Deframer, Frame, decided_frames_stay};
 use nav_io::{Failed, MOST_TAKEN, Sink, Source, read_piece};
 use one_run::{BridgeFault, Text};
@@ -100,7 +99,7 @@ pub trait FrameTaker {
 }
 
 // Processes the decided frames: what belongs to a frame is written as soon as it is complete.
-fn take_frames<K: FrameTaker, T: Sink, U: Sink>(
+pub(crate) fn take_frames<K: FrameTaker, T: Sink, U: Sink>(
     taker: &K,
     state: &mut K::State,
     deframer: &mut Deframer,
@@ -163,7 +162,7 @@ fn take_some<K: FrameTaker, T: Sink, U: Sink>(
 }
 
 // Feeds a piece, and processes the frames that it decides.
-fn take_piece<K: FrameTaker, T: Sink, U: Sink>(
+pub(crate) fn take_piece<K: FrameTaker, T: Sink, U: Sink>(
     taker: &K,
     state: &mut K::State,
     deframer: &mut Deframer,
@@ -191,6 +190,19 @@ fn take_piece<K: FrameTaker, T: Sink, U: Sink>(
         fed += take_some(taker, state, deframer, &piece[fed..], output, report)?;
     }
     Ok(())
+}
+
+// The error of a run that ended in a piece by this fault, after so many bytes: without memory in a
+// byte too many it is `TooLong`.
+fn fault_at(taken: u64, fault: BridgeFault) -> BridgeFault
+    ensures same { (result ≡ fault) ⊎ ((result ≡ BridgeFault.TooLong)
+        × (fault ≡ BridgeFault.NoMemory) × (2 ^ 32 ≤ taken)) }
+    ensures memory { result ≡ BridgeFault.NoMemory → taken < 2 ^ 32 }
+{
+    match fault {
+        BridgeFault::NoMemory if taken > MOST_TAKEN => BridgeFault::TooLong,
+        fault => fault,
+    }
 }
 
 // Processes the frames of a stream up to its end.

@@ -1,0 +1,9 @@
+use Rattle.streams.specs.Targets.{prefix_text, item_text}
+use Rattle.streams.proofs.ItemLemmas.{output_grows, report_grows}
+use Rattle.streams.proofs.item_taker.ItemTakerFrameTaker.begins.Goals as goal
+
+pub returns-clause-grows : goal.returns-clause-grows
+returns-clause-grows c = output_grows (prefix_text c.args.self.now.to) (item_text c.args.self.now.to 0) c.args.self.now.week
+
+pub returns-clause-more : goal.returns-clause-more
+returns-clause-more c = report_grows c.args.self.now.week
