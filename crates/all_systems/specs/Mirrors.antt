@@ -5,10 +5,8 @@ use Rattle.std.specs.BTreeSet.{BTreeSet, contains}
 use Rattle.std.specs.Cmp.Lexicographic.{slice_cmp}
 use Rattle.std.specs.Ordering.{int_cmp, is_eq}
 use Rattle.arrayvec.specs.ArrayVec.{ArrayVec}
-use Rattle.nav_eph.specs.declared.items.NavItem.{NavItem}
 use Rattle.nav_rows.specs.Order.{rank}
-use Rattle.streams.specs.Mirrors.{AreKnown, any_alike, is_given}
-use Rattle.streams.specs.Streams.{items_of_readings, readings as nav_readings}
+use Rattle.streams.specs.Standing.{HasGiven}
 use Rattle.all_systems.specs.Readings.{readings}
 use Rattle.all_systems.specs.Streams.{Numbered, counts_of, items_from}
 use Rattle.all_systems.specs.declared.kinds.Kinds.{Kinds}
@@ -27,6 +25,5 @@ any_rank ((number, inr x) ∷ is) zs = is_eq (slice_cmp int_cmp (rank x) zs) || 
 -- the state after these frames: their counts, the ephemerides of GPS and Galileo that were given, and the ranks of the rows
 pub record StandsFor (ks : Kinds) (r : ℕ) (s : State) (past : List (List ℕ)) : Type 0 where
   pub counts : s.counts ≡ counts_of (readings ks r past)
-  pub given : (other : NavItem) → is_given s.given other ≡ any_alike (items_of_readings (nav_readings r past)) other
-  pub known : AreKnown r s.given
+  pub given : HasGiven r s.given past
   pub rows : (zs : List ℤ) → is_rank_in s.rows zs ≡ any_rank (items_from 1 (readings ks r past)) zs

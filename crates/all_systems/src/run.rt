@@ -23,16 +23,15 @@ use crate::read::{message_in, row_reason, satellite_in};
 use crate::state::{State, add_rank};
 use crate::text::{put_item, put_row};
 use framing::Frame;
-use nav_eph::{NavItem, RefWeek, equality_is_decided};
+use nav_eph::{NavItem, RefWeek};
 use nav_io::{Failed, Sink, Source};
 use nav_rows::{Kind, Row, rank_of, row_of_message};
 use one_run::{BridgeFault, Text, append, append_decimal, report_prefix};
-use rtcm_eph::{
-    MessageFault, item_function, message_bytes, read_item, sent_1019_is_read, sent_1046_is_read,
-};
+use rtcm_eph::{MessageFault, read_item};
 use std::alloc::Global;
 use streams::{
-    FrameTaker, StreamCounts, Target, run_taker, stream_counts_text, with_item, with_time,
+    FrameTaker, StreamCounts, Target, message_laws, run_taker, stream_counts_text, with_item,
+    with_time,
 };
 
 // What is done with the frames of a stream.
@@ -71,12 +70,7 @@ impl Systems {
             (faults_of 0 (T.faults output.new) 0) result }
         ensures kinds { IfErr result IsStreamFault }
     {
-        let _reference = self.week.value();
-        equality_is_decided();
-        item_function();
-        message_bytes();
-        sent_1019_is_read();
-        sent_1046_is_read();
+        message_laws(self.week);
         match state.given.add(item, frame.payload()) {
             Err(_) => Err(BridgeFault::NoMemory),
             Ok(false) => {
@@ -195,12 +189,7 @@ impl Systems {
         ensures report { (u : Option (List ℕ)) → Gives (StandsFor self.now.kinds self.now.week)
             state.old (decided_by self.now.kinds self.now.week) (frame.now ∷ []) u u }
     {
-        let _reference = self.week.value();
-        equality_is_decided();
-        item_function();
-        message_bytes();
-        sent_1019_is_read();
-        sent_1046_is_read();
+        message_laws(self.week);
         state.counts.frames += 1;
     }
 

@@ -81,13 +81,9 @@ module _ (run : StreamRunState) (bytes : List ℕ) (n n' m m' : ℕ) (output rep
       past = is.behind.past;
       stream = is.behind.stream;
       decides = is.behind.decides;
-      so_far = record {
-        output = ap (λ (l : List ℕ). n ∷ l) is.behind.so_far.output;
-        report = ap (λ (l : List ℕ). m ∷ l) is.behind.so_far.report;
-        counts_are = is.behind.so_far.counts_are;
-        holds = is.behind.so_far.holds;
-        known = is.behind.so_far.known;
-      };
+      held = is.behind.held;
+      output = ap (λ (l : List ℕ). n ∷ l) is.behind.output;
+      report = ap (λ (l : List ℕ). m ∷ l) is.behind.report;
     };
   }
 
@@ -100,13 +96,9 @@ module _ (run : StreamRunState) (bytes : List ℕ) (n n' m m' : ℕ) (output rep
       past = is.behind.past;
       stream = is.behind.stream;
       decides = is.behind.decides;
-      so_far = record {
-        output = ap rest is.behind.so_far.output;
-        report = ap rest is.behind.so_far.report;
-        counts_are = is.behind.so_far.counts_are;
-        holds = is.behind.so_far.holds;
-        known = is.behind.so_far.known;
-      };
+      held = is.behind.held;
+      output = ap rest is.behind.output;
+      report = ap rest is.behind.report;
     };
   }
 

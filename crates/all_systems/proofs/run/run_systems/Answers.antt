@@ -1,12 +1,11 @@
-use Rattle.streams.proofs.Surface.{none_known}
+use Rattle.streams.proofs.Surface.{none_given}
 use Rattle.all_systems.proofs.run.run_systems.Goals as goal
 
 pub run_taker-requires : goal.run_taker-requires
 run_taker-requires g c = record {
   nothing = record {
     counts = c.new-state.ensures.counts;
-    given = c.new-state.ensures.given;
-    known = none_known c.args.week _ c.new-state.ensures.kept;
+    given = none_given c.args.week _ c.new-state.ensures.given c.new-state.ensures.kept;
     rows = c.new-state.ensures.rows;
   };
 }

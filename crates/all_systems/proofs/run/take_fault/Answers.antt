@@ -2,7 +2,7 @@ use Rattle.std.proofs.Common.{ℕ, sym, ap, ◌∙◌}
 use Rattle.std.specs.Prelude.{Err, Some, codes}
 use Rattle.framing.specs.State.{payload_of}
 use Rattle.all_systems.specs.Readings.{Reading, message_in, reading_by}
-use Rattle.all_systems.proofs.Taking.{any_err}
+use Rattle.streams.proofs.Surface.{any_err}
 use Rattle.all_systems.proofs.run.take_fault.Goals as goal
 
 pub reject-requires-clause-read : goal.reject-requires-clause-read

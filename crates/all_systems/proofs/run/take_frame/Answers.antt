@@ -1,4 +1,4 @@
-use Rattle.all_systems.proofs.Taking.{any_err}
+use Rattle.streams.proofs.Surface.{any_err}
 use Rattle.all_systems.proofs.run.take_frame.Goals as goal
 
 pub returns-in-Ok-clause-unreported : goal.returns-in-Ok-clause-unreported
