@@ -63,23 +63,18 @@ fewer_places before (i ∷ is) = step (has before i) (fewer_places (i ∷ before
   step true rest = omega (arith, rest)
   step false rest = omega (arith, rest)
 
-by_kind : Reading → ℕ
-by_kind x = is_refused x + is_unused x + length (items_of_readings (x ∷ []))
-
-one_kind : (x : Reading) → by_kind x ≤ 1
-unfolding by_kind
-one_kind (Ok item) = omega arith
-one_kind (Err NoNumber) = omega arith
-one_kind (Err (OtherMessage other)) = omega arith
-one_kind (Err Short) = omega arith
-one_kind (Err BadSat) = omega arith
-one_kind (Err BadTime) = omega arith
-one_kind (Err SpareSisa) = omega arith
+one_kind : (fault : MessageFault) → is_refused (Err fault) + is_unused (Err fault) ≤ 1
+one_kind NoNumber = omega arith
+one_kind (OtherMessage other) = omega arith
+one_kind Short = omega arith
+one_kind BadSat = omega arith
+one_kind BadTime = omega arith
+one_kind SpareSisa = omega arith
 
 few_readings : (rs : List Reading) → sum (map is_refused rs) + sum (map is_unused rs) + length (items_of_readings rs) ≤ length rs
 few_readings [] = omega arith
 few_readings (Ok item ∷ rs) = omega (arith, few_readings rs, count-append is_refused (Ok item ∷ []) rs, count-append is_unused (Ok item ∷ []) rs)
-few_readings (Err fault ∷ rs) = omega (arith, few_readings rs, one_kind (Err fault), count-append is_refused (Err fault ∷ []) rs, count-append is_unused (Err fault ∷ []) rs)
+few_readings (Err fault ∷ rs) = omega (arith, few_readings rs, one_kind fault, count-append is_refused (Err fault ∷ []) rs, count-append is_unused (Err fault ∷ []) rs)
 
 as_many : (r : ℕ) (them : List (List ℕ)) → length (readings r them) ≡ length them
 as_many r [] = refl
