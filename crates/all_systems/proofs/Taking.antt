@@ -164,5 +164,5 @@ text_grows ks to r = grows_by_one (text_by ks to r) (text_one ks to r)
 
 pub told_grows : (ks : Kinds) (r : ℕ) (some more : List (List ℕ)) → IsPrefix (decided_by ks r some) (decided_by ks r (some ++ more))
 told_grows ks r = grows_by_one (decided_by ks r) (λ some frame.
-  let x = reading_in ks r (payload_of frame) in
-  (reading_report (1 + length (readings ks r some)) x, ap (readings_report 1) (one_more ks r some frame x refl) ∙ report_more 1 (readings ks r some) x))
+    let x = reading_in ks r (payload_of frame) in
+    (reading_report (1 + length (readings ks r some)) x, ap (readings_report 1) (one_more ks r some frame x refl) ∙ report_more 1 (readings ks r some) x))

@@ -136,5 +136,5 @@ output_grows prefix text r = grows_by_one (frames_output_by prefix text r) (λ s
 
 pub report_grows : (r : ℕ) → Grows (frames_report r)
 report_grows r = grows_by_one (frames_report r) (λ some frame.
-  let x = item_in r (payload_of frame) in
-  (reading_report (1 + length (readings r some)) x, ap (readings_report 1) (readings_more r some frame x refl) ∙ report_more 1 (readings r some) x))
+    let x = item_in r (payload_of frame) in
+    (reading_report (1 + length (readings r some)) x, ap (readings_report 1) (readings_more r some frame x refl) ∙ report_more 1 (readings r some) x))

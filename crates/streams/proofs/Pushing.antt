@@ -64,15 +64,15 @@ open_none s may rest none = record { may_feed = may; past = []; held = none; roo
 
 -- there is room for the frames of a piece
 pub room_for : (s : StreamRunState) (count : ℕ) → IsOpen s → s.taken + count < 2 ^ 64 → HasRoomFor (StandsFor s.week) s.items (length s.deframer.rest + count)
-room_for s count open few = (open.past, open.held, omega (arith, open.room, few))
+room_for s count far few = (far.past, far.held, omega (arith, far.room, few))
 
 pub open_more : (s : StreamRunState) (d : DeframerState) (items : ItemState) {piece : List ℕ} {w w1 u u1 : Option (List ℕ)} → IsOpen s
     → TakesPiece s items true (s.deframer.rest ++ piece) d.rest w w1 u u1 → MayFeed d → IsOpen (after_piece s d items (s.taken + length piece) None)
-open_more s d items {piece = piece} open takes may = record {
+open_more s d items {piece = piece} far takes may = record {
   may_feed = may;
-  past = open.past ++ takes.given;
-  held = takes.held open.past open.held;
-  room = omega (arith, open.room, takes.few, length-append open.past takes.given, length-append s.deframer.rest piece);
+  past = far.past ++ takes.given;
+  held = takes.held far.past far.held;
+  room = omega (arith, far.room, takes.few, length-append far.past takes.given, length-append s.deframer.rest piece);
 }
 
 -- the frames of some bytes and of those that follow, where the frames of the first are known
