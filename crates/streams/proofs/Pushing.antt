@@ -57,8 +57,8 @@ pushed_none s w w1 u rest none grew = record {
   };
 }
 
-pub open_none : (s : StreamRunState) → MayFeed s.deframer → s.deframer.rest ≡ [] → StandsFor s.week s.items [] → IsOpen s
-open_none s may rest none = record { may_feed = may; past = []; held = none; room = omega (arith, ap length rest) }
+pub open_none : (s : StreamRunState) → s.deframer.finished ≡ false → s.deframer.rest ≡ [] → StandsFor s.week s.items [] → IsOpen s
+open_none s waiting rest none = record { may_feed = (waiting, inl rest); past = []; held = none; room = omega (arith, ap length rest) }
 
 -- ---- a piece more
 
