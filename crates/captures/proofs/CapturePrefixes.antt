@@ -17,7 +17,7 @@ use Rattle.one_run.specs.declared.fault.BridgeFault.{BridgeFault}
 use Rattle.streams.specs.declared.target.Target.{Target}
 use Rattle.streams.specs.declared.target.Target.TheVariants.{Rinex, Rinex3, Rtcm, ToList, Count}
 use Rattle.streams.specs.Targets.{back_text, prefix_text}
-use Rattle.captures.specs.Captures.{Capture, accepted_line, capture_in, capture_of, capture_with, counts_in, counts_of, counts_text, least_output, least_report, output_of, periods, refusals_text, report_of_capture, flushed_output, flushed_report, flushed_text, flushed_texts, texts_of, whole_report, whole_text, without_last}
+use Rattle.captures.specs.Captures.{Capture, accepted_line, capture_in, capture_of, capture_with, counts_in, counts_of, counts_text, early_lines, least_output, least_report, output_of, periods, refusals_text, report_of_capture, flushed_output, flushed_report, flushed_text, flushed_texts, texts_of, whole_report, whole_text, without_last}
 use Rattle.captures.specs.Converts.{AcceptsHead, CapturePrefix, CountsLast, Refuses, Stop, StopSays}
 use Rattle.one_run.specs.Runs.{AppendsBetween}
 use Rattle.one_run.proofs.Surface.{nothing_stopped, nothing_told}
@@ -137,18 +137,17 @@ unfolding least_report
 least_reported week head line given last more t e few all recent =
     refusals_prefix week head line given last (lines_by true (take (length t - 4096) t)) e few (recent_prefix t (line ∷ (given ++ last)) more all recent)
 
--- nothing was reported, where no line need be
-pub none_reported : (week : Option ℕ) (reported : Option (List ℕ)) (t : List ℕ) → length (lines_by true (take (length t - 4096) t)) ≤ 1
-    → AppendsBetween reported reported (least_report week t) (report_of_capture week t)
+pub least_report_none : (week : Option ℕ) (t : List ℕ) → length (lines_by true (take (length t - 4096) t)) ≤ 1 → least_report week t ≡ []
 unfolding least_report
-none_reported week reported t few = record {
-  prefix = [];
-  within = prefix_nil (report_of_capture week t);
-  no_less =
-      let none = ap (λ (l : List Line). refusals_text (capture_in week l)) (without_short (lines_by true (take (length t - 4096) t)) few) in
-      subst (λ (l : List ℕ). IsPrefix l []) (sym none) (prefix_nil []);
-  grew = Appends-nil reported;
-}
+least_report_none week t few = ap (λ (l : List Line). refusals_text (capture_in week l)) (without_short (lines_by true (take (length t - 4096) t)) few)
+
+-- the lines that have ended before the last 4,096 bytes are among those that have ended
+pub early_prefix : (t : List ℕ) → IsPrefixOf (early_lines t) (lines_by true t)
+early_prefix t =
+    let k = length t - 4096 in
+    let prefix = lines_prefix true (take k t) (drop k t) in
+    let early = lines_by true (take k t) in
+    lines_trans (without_last early) early (lines_by true t) (without_prefix early) (prefix.0, ap (lines_by true) (sym (take-append-drop k t)) ∙ prefix.1)
 
 -- ---- the whole
 
@@ -210,134 +209,3 @@ pub last_all : (to : Target) (week : Option ℕ) (left left_new written written_
 last_all to week left left_new written written_new t consumes end h =
     last_by to week left left_new written written_new
     (λ e. inr (record { taken = t; consumes = consumes; end = end; text = subst (λ (x : Target). AppendsPrefix written written_new (output_of x week t)) e h }))
-
--- ---- prefixes of what all bytes give
-
--- after an accepted first line, of lines that these bytes have and maybe more
-pub prefixes_of : (to : Target) (week : Option ℕ) (head : Accepted) (line : Line) (lines more : List Line) (bytes : List ℕ) (written written1 written2 reported reported2 : Option (List ℕ)) → accepted_line week line ≡ Some head
-    → lines_by false bytes ≡ (line ∷ lines) ++ more → Appends written written1 (prefix_text to) → AppendsPrefix written1 written2 (texts_of to (periods (capture_by head (lines ++ more))))
-    → AppendsPrefix reported reported2 (line_report (log_of head.window lines))
-    → AppendsPrefix written written2 (output_of to week bytes) × AppendsPrefix reported reported2 (report_of_capture week bytes)
-prefixes_of to week head line lines more bytes written written1 written2 reported reported2 accepted all begun text report =
-    let c = capture_by head (lines ++ more) in
-    let capture : capture_of week bytes ≡ Some c = ap (capture_in week) all ∙ capture_lines week head line (lines ++ more) accepted in
-    let texts = texts_of to (periods c) in
-    let back = back_text to (counts_text (counts_of c)) in
-    let told = line_report (log_of head.window lines) in
-    let all_told = line_report (log_of head.window c.lines) in (
-      subst (AppendsPrefix written written2) (sym (output_is to week bytes c capture))
-          (appends_behind written written1 written2 (prefix_text to) (texts ++ back) begun (appends_longer written1 written2 texts (texts ++ back) (prefix_more texts back) text)),
-      subst (AppendsPrefix reported reported2) (sym (report_is week bytes c capture))
-          (appends_longer reported reported2 told (all_told ++ counts_text (counts_of c))
-          (prefix_trans told all_told (all_told ++ counts_text (counts_of c)) (report_prefix head.window lines more) (prefix_more all_told (counts_text (counts_of c)))) report),
-    )
-
--- without counts
-pub rejections_of : (week : Option ℕ) (head : Accepted) (line : Line) (lines more : List Line) (bytes : List ℕ) (reported reported2 : Option (List ℕ)) → accepted_line week line ≡ Some head
-    → lines_by false bytes ≡ (line ∷ lines) ++ more → AppendsPrefix reported reported2 (line_report (log_of head.window lines))
-    → AppendsPrefix reported reported2 (refusals_text (capture_of week bytes))
-rejections_of week head line lines more bytes reported reported2 accepted all report =
-    let c = capture_by head (lines ++ more) in
-    let capture : capture_of week bytes ≡ Some c = ap (capture_in week) all ∙ capture_lines week head line (lines ++ more) accepted in
-    subst (λ (o : Option Capture). AppendsPrefix reported reported2 (refusals_text o)) (sym capture)
-    (appends_longer reported reported2 (line_report (log_of head.window lines)) (line_report (log_of head.window c.lines)) (report_prefix head.window lines more) report)
-
--- nothing was reported, and a prefix of the leading text was written
-pub prefix_head : (to : Target) (week : Option ℕ) (head : Accepted) (line : Line) (left written written_new reported : Option (List ℕ)) → accepted_line week line ≡ Some head
-    → IfSome left (λ bytes. IsPrefixOf (line ∷ []) (lines_by false bytes)) → AppendsPrefix written written_new (prefix_text to) → CapturePrefix to week left written written_new reported reported
-prefix_head to week head line None written written_new reported e prefix h = tt
-prefix_head to week head line (Some bytes) written written_new reported e (more, all) h =
-    let c = capture_by head more in
-    let capture : capture_of week bytes ≡ Some c = ap (capture_in week) all ∙ capture_lines week head line more e in
-    let behind = texts_of to (periods c) ++ back_text to (counts_text (counts_of c)) in (
-      subst (AppendsPrefix written written_new) (sym (output_is to week bytes c capture)) (appends_longer written written_new (prefix_text to) (prefix_text to ++ behind) (prefix_more (prefix_text to) behind) h),
-      ([], prefix_nil (report_of_capture week bytes), Appends-nil reported),
-    )
-
--- what was taken is all that was there
-pub prefix_all : (to : Target) (week : Option ℕ) (left written written_new reported reported_new : Option (List ℕ)) (t : List ℕ) → IfSome left (λ bytes. t ≡ bytes)
-    → AppendsPrefix written written_new (output_of to week t) → AppendsPrefix reported reported_new (report_of_capture week t) → CapturePrefix to week left written written_new reported reported_new
-prefix_all to week None written written_new reported reported_new t same text report = tt
-prefix_all to week (Some bytes) written written_new reported reported_new t same text report = (
-  subst (λ (l : List ℕ). AppendsPrefix written written_new (output_of to week l)) same text,
-  subst (λ (l : List ℕ). AppendsPrefix reported reported_new (report_of_capture week l)) same report,
-)
-
-prefix_nothing : (to : Target) (week : Option ℕ) (left written reported : Option (List ℕ)) → CapturePrefix to week left written written reported reported
-prefix_nothing to week None written reported = tt
-prefix_nothing to week (Some bytes) written reported =
-    (([], prefix_nil (output_of to week bytes), Appends-nil written), ([], prefix_nil (report_of_capture week bytes), Appends-nil reported))
-
--- ---- nothing was written
-
-pub nothing_part : (to : Target) (week : Option ℕ) (left left_new written reported : Option (List ℕ)) (t : List ℕ) (fault : BridgeFault) → Consumes left left_new t
-    → length (lines_by true (take (length t - 4096) t)) ≤ 1 → StopSays to week left t written written reported reported fault → Stop to week left left_new written written reported reported fault
-nothing_part to week left left_new written reported t fault consumes few says = record {
-  taken = t;
-  consumes = consumes;
-  text = record {
-    prefix = [];
-    within = prefix_nil (output_of to week t);
-    no_less = ([], sym (append-nil (least_output to week t) ∙ least_none to week t few));
-    grew = Appends-nil written;
-  };
-  report = none_reported week reported t few;
-  ahead = (prefix_nothing to week left written reported, last_nothing to week left left_new written written (Appends-nil written));
-  stopped = nothing_stopped (Some (flushed_texts to week)) left written written reported reported refl refl;
-  counts_last = inl (nothing_told (λ bytes. refusals_text (capture_of week bytes)) left reported reported refl);
-  says = says;
-}
-
--- ---- the lines of all bytes that were there
-
--- those that were read come first
-pub known_lines : (left left_new : Option (List ℕ)) (old new : LinesState) (lines : List Line) → Reads left left_new old new lines → old.rest ≡ [] → old.ended ≡ false
-    → IfSome left (λ bytes. IsPrefixOf lines (lines_by false bytes))
-known_lines None left_new old new lines reads none begins = tt
-known_lines (Some bytes) None old new lines reads none begins = absurd reads.consumes
-known_lines (Some bytes) (Some behind) old new lines reads none begins =
-    let may : new.ended ≡ true → (false ≡ false) × (behind ≡ []) = λ ended.
-    (refl, ⊎_elim (λ (before : old.ended ≡ true). absurd (true≢false (sym before ∙ begins))) (λ (at : behind ≡ []). at) (reads.at_end ended)) in (
-      lines_by false (new.rest ++ behind),
-      ap (lines_by false) reads.consumes ∙ ap (λ (l : List ℕ). lines_by false (l ++ (reads.taken ++ behind))) (sym none) ∙ reads.stream false behind may,
-    )
-
--- those that follow them
-abbrev pub Follow : Option (List ℕ) → LinesState → List Line → Type 0
-Follow left new lines = IfSome left (λ bytes. (more : List Line) × (lines_by false bytes ≡ lines ++ more) × (new.ended ≡ true → new.rest ≡ [] → more ≡ []))
-
-pub lines_follow : (left left_new : Option (List ℕ)) (old new : LinesState) (lines : List Line) → Reads left left_new old new lines → old.rest ≡ [] → old.ended ≡ false → Follow left new lines
-lines_follow None left_new old new lines reads none begins = tt
-lines_follow (Some bytes) None old new lines reads none begins = absurd reads.consumes
-lines_follow (Some bytes) (Some behind) old new lines reads none begins =
-    let at : new.ended ≡ true → behind ≡ [] = λ ended.
-    ⊎_elim (λ (before : old.ended ≡ true). absurd (true≢false (sym before ∙ begins))) (λ (at : behind ≡ []). at) (reads.at_end ended) in (
-      lines_by false (new.rest ++ behind),
-      ap (lines_by false) reads.consumes ∙ ap (λ (l : List ℕ). lines_by false (l ++ (reads.taken ++ behind))) (sym none)
-          ∙ reads.stream false behind (λ ended. (refl, at ended)),
-      λ ended rest. ap (λ (l : List ℕ). lines_by false (l ++ behind)) rest ∙ ap (lines_by false) (at ended),
-    )
-
--- the first line is accepted
-pub accepts_first : (week : Option ℕ) (head : Accepted) (line : Line) (left : Option (List ℕ)) → accepted_line week line ≡ Some head
-    → IfSome left (λ bytes. IsPrefixOf (line ∷ []) (lines_by false bytes)) → AcceptsHead week left
-accepts_first week head line None e prefix = tt
-accepts_first week head line (Some bytes) e (more, all) =
-    subst (λ (c : Option Capture). IsSome (counts_in c)) (sym (ap (capture_in week) all ∙ capture_lines week head line more e)) refl
-
-pub refuses_first : (week : Option ℕ) (line : Line) (left : Option (List ℕ)) → accepted_line week line ≡ None
-    → IfSome left (λ bytes. IsPrefixOf (line ∷ []) (lines_by false bytes)) → Refuses week left
-refuses_first week line None e prefix = tt
-refuses_first week line (Some bytes) e (more, all) = ap counts_in (ap (capture_in week) all ∙ ap (capture_with more) e)
-
--- there is none
-pub refuses_none : (week : Option ℕ) (left left_new : Option (List ℕ)) (old new : LinesState) → Reads left left_new old new [] → old.rest ≡ [] → old.ended ≡ false → new.rest ≡ [] → new.ended ≡ true
-    → Refuses week left
-refuses_none week None left_new old new reads none begins rest ended = tt
-refuses_none week (Some bytes) None old new reads none begins rest ended = absurd reads.consumes
-refuses_none week (Some bytes) (Some behind) old new reads none begins rest ended =
-    let end : behind ≡ [] = ⊎_elim (λ (before : old.ended ≡ true). absurd (true≢false (sym before ∙ begins))) (λ (at : behind ≡ []). at) (reads.at_end ended) in
-    let all : lines_by false bytes ≡ [] =
-    ap (lines_by false) reads.consumes ∙ ap (λ (l : List ℕ). lines_by false (l ++ (reads.taken ++ behind))) (sym none)
-    ∙ reads.stream false behind (λ now. (refl, end)) ∙ ap (λ (l : List ℕ). lines_by false (l ++ behind)) rest ∙ ap (lines_by false) end in
-    ap (λ (l : List Line). counts_in (capture_in week l)) all

@@ -27,13 +27,18 @@ use Rattle.one_run.specs.declared.fault.BridgeFault.{BridgeFault}
 use Rattle.one_run.specs.declared.fault.BridgeFault.TheVariants.{ReadFault, WriteFault, ReportFault, TooLong, NoMemory, NotThisForm}
 use Rattle.streams.specs.declared.target.Target.{Target}
 use Rattle.captures.specs.declared.accept.Accepted.{Accepted}
+use Rattle.captures.specs.declared.counts.CaptureCounts.{CaptureCounts}
+use Rattle.captures.specs.declared.counts.EventCounts.{EventCounts}
+use Rattle.captures.specs.declared.counts.VerdictCounts.{VerdictCounts}
 use Rattle.captures.specs.declared.receiving.CaptureState.{CaptureState}
-use Rattle.captures.specs.Captures.{texts_of}
+use Rattle.captures.specs.Captures.{counts_of, texts_of}
+use Rattle.captures.specs.Reports.{count_in, is_late, is_malformed, is_refused_event, is_unused}
 use Rattle.captures.specs.Conversions.{ConvertsAll, ConversionBroke, ConversionSays}
 use Rattle.captures.specs.Converts.{closed_texts, no_tally, period_texts}
 use Rattle.captures.specs.Hearings.{Finished, IsNew, IsStepFault, Stands, StepBroke}
 use Rattle.captures.specs.Notes.{GivesItem, KeepsHalves, line_report, tallied, total}
-use Rattle.captures.specs.Flushed.{IsWriting, said_of}
+use Rattle.captures.specs.Flushed.{IsWriting, said_of, with_counts}
+use Rattle.captures.proofs.CapturePrefixes.{capture_by}
 use Rattle.one_run.proofs.Surface.{between_whole}
 use Rattle.captures.proofs.Prefixes.{LogLaws, written_between, written_closed}
 
@@ -222,11 +227,29 @@ broke_step laws to head past left left1 left2 old middle state h new start writt
       says = step_says to head (past ++ b.given) (gives.line ∷ []) state new start written_new told reported_new before now fault gives.gives.low broke.cause;
     }
 
+abbrev counts_by : ℕ → ℕ → ℕ → ℕ → ℕ → VerdictCounts → CaptureCounts
+counts_by lines a b c d said = with_counts lines (record { malformed = a; late = b; refused = c; unused = d }) said
+
+same_counts : (lines a b c d m e f g h : ℕ) (said s : VerdictCounts) → lines ≡ m → a ≡ e → b ≡ f → c ≡ g → d ≡ h → said ≡ s → counts_by lines a b c d said ≡ counts_by m e f g h s
+same_counts lines a b c d m e f g h said s p q r t u v = rw (p, q, r, t, u, v) refl
+
+zero_more : (n : ℕ) → 0 + n ≡ n
+zero_more n = omega arith
+
+counts_are : (head : Accepted) (given : List Line) (lines : ℕ) (tally : EventCounts) (said : VerdictCounts) → lines ≡ length given + 1 → tally ≡ tallied no_tally (log_of head.window given)
+    → said ≡ said_of (periods_of head.week head.window (parts_of head.window given)) → with_counts lines tally said ≡ counts_of (capture_by head given)
+counts_are head given lines tally said number counts verdicts =
+    let log = log_of head.window given in
+    ap (λ (t : EventCounts). with_counts lines t said) counts
+    ∙ same_counts lines (0 + count_in is_malformed log) (0 + count_in is_late log) (0 + count_in is_refused_event log) (0 + count_in is_unused log) (length given + 1)
+    (count_in is_malformed log) (count_in is_late log) (count_in is_refused_event log) (count_in is_unused log) said
+    (said_of (periods_of head.week head.window (parts_of head.window given))) number (zero_more _) (zero_more _) (zero_more _) (zero_more _) verdicts
+
 -- all was taken and written
-pub all_written : (to : Target) (head : Accepted) (past : List Line) (left left1 left2 : Option (List ℕ)) (old middle state : LinesState) (h new : CaptureState) (start written written_new told reported : Option (List ℕ))
+pub all_written : (to : Target) (head : Accepted) (past : List Line) (left left1 left2 : Option (List ℕ)) (old middle state : LinesState) (h new : CaptureState) (start written written_new told reported : Option (List ℕ)) (counts : CaptureCounts)
     (b : Between to head past left left1 old middle h start written told reported) → GivesEnd left1 left2 middle state → Finished to head (past ++ b.given) h new start written_new
-    → ConvertsAll to head past left left2 old state start written_new told reported new.receiver.tally new.said
-all_written to head past left left1 left2 old middle state h new start written written_new told reported b ends_now done =
+    → counts ≡ with_counts state.number new.receiver.tally new.said → ConvertsAll to head past left left2 old state start written_new told reported counts
+all_written to head past left left1 left2 old middle state h new start written written_new told reported counts b ends_now done counted =
     let none = sym (append-nil b.given) in
     let nil : past ++ b.given ≡ past ++ (b.given ++ []) = ap (λ (l : List Line). past ++ l) none in
     record {
@@ -235,11 +258,12 @@ all_written to head past left left1 left2 old middle state h new start written w
       rest = ends_now.rest;
       ended = ends_now.ended;
       low = ends_now.low;
-      number = omega (arith, ends_now.number, b.number, ap length none);
       text = subst (λ (l : List Line). Appends start written_new (period_texts to head l)) nil done.text;
       report = subst (λ (l : List Line). Appends told reported (line_report (log_of head.window l))) nil b.stands.report;
-      counts = done.tally ∙ b.stands.counted.counts ∙ ap (λ (l : List Line). tallied no_tally (log_of head.window l)) nil;
-      verdicts = done.verdicts ∙ ap (λ (l : List Line). said_of (periods_of head.week head.window (parts_of head.window l))) nil;
+      counts_are = counted ∙ counts_are head (past ++ (b.given ++ [])) state.number new.receiver.tally new.said
+          (omega (arith, ends_now.number, b.number, b.first, ap length nil, length-append past b.given))
+          (done.tally ∙ b.stands.counted.counts ∙ ap (λ (l : List Line). tallied no_tally (log_of head.window l)) nil)
+          (done.verdicts ∙ ap (λ (l : List Line). said_of (periods_of head.week head.window (parts_of head.window l))) nil);
     }
 
 -- all was taken, and not all was written
@@ -276,18 +300,6 @@ broke_finish to head past left left1 left2 old middle state h new start written 
       stops = inr (refl, ends_now.ended, ends_now.rest);
       says = finish_says to head (past ++ b.given) [] state new start written_new told reported before now fault ends_now.low cause;
     }
-
--- the last answer, by what finishing answers
-pub converted_end : {T : Type 0} (to : Target) (head : Accepted) (past : List Line) (left left1 left2 : Option (List ℕ)) (old middle state : LinesState) (h new : CaptureState) (start written written_new told reported : Option (List ℕ)) (before now : ℕ) (result : Result T BridgeFault)
-    (b : Between to head past left left1 old middle h start written told reported) → GivesEnd left1 left2 middle state
-    → MatchResult result (λ x. Finished to head (past ++ b.given) h new start written_new × (now ≡ before))
-    (λ fault. AppendsBetween start written_new (closed_texts to head (past ++ b.given)) (period_texts to head (past ++ b.given)) × IsWriting {T = Unit {0}} before now (Err fault))
-    → MatchResult result (λ x. ConvertsAll to head past left left2 old state start written_new told reported new.receiver.tally new.said)
-    (λ fault. ConversionBroke to head past left left2 old state new start written_new told reported fault)
-converted_end to head past left left1 left2 old middle state h new start written written_new told reported before now (Ok x) b ends_now done =
-    all_written to head past left left1 left2 old middle state h new start written written_new told reported b ends_now done.0
-converted_end to head past left left1 left2 old middle state h new start written written_new told reported before now (Err fault) b ends_now done =
-    broke_finish to head past left left1 left2 old middle state h new start written written_new told reported before now fault b ends_now done.0 done.1
 
 -- ---- causes
 

@@ -16,11 +16,11 @@ use Rattle.streams.specs.declared.target.Target.{Target}
 use Rattle.streams.specs.Targets.{prefix_text}
 use Rattle.captures.specs.declared.accept.Accepted.{Accepted}
 use Rattle.captures.specs.declared.receiving.CaptureState.{CaptureState}
-use Rattle.captures.specs.Captures.{accepted_line, capture_in, capture_with, flushed_output, flushed_report, flushed_text, flushed_texts, refusals_text}
+use Rattle.captures.specs.Captures.{accepted_line, capture_in, capture_with, early_lines, flushed_output, flushed_report, flushed_text, flushed_texts, least_output, least_report, refusals_text}
 use Rattle.captures.specs.Conversions.{ConversionBroke}
 use Rattle.captures.specs.Converts.{closed_texts}
 use Rattle.captures.specs.Notes.{line_report}
-use Rattle.captures.proofs.CapturePrefixes.{capture_lines, first_or, flushed_is, flushed_report_is, report_prefix}
+use Rattle.captures.proofs.CapturePrefixes.{capture_lines, early_prefix, first_or, flushed_is, flushed_report_is, report_prefix}
 use Rattle.captures.proofs.Prefixes.{LogLaws, appends_longer, prefix_behind, prefix_more, prefix_nil}
 use Rattle.captures.proofs.Writing.{texts_prefix}
 
@@ -51,6 +51,15 @@ text_begins laws to week all some (rest, is) =
 told_begins : (week : Option ℕ) (all some : List Line) → BeginsWith all some → IsPrefix (refusals_text (capture_in week some)) (refusals_text (capture_in week all))
 told_begins week all some (rest, is) =
     subst (λ (l : List Line). IsPrefix (refusals_text (capture_in week some)) (refusals_text (capture_in week l))) (sym is) (told_within week some rest)
+
+-- the least of some bytes is no more than what their ended lines give
+pub least_flushed : (laws : LogLaws) (to : Target) (week : Option ℕ) (bytes : List ℕ) → IsPrefix (least_output to week bytes) (flushed_output to week bytes)
+unfolding least_output flushed_output
+least_flushed laws to week bytes = text_begins laws to week (lines_by true bytes) (early_lines bytes) (early_prefix bytes)
+
+pub least_told : (week : Option ℕ) (bytes : List ℕ) → IsPrefix (least_report week bytes) (flushed_report week bytes)
+unfolding least_report flushed_report
+least_told week bytes = told_begins week (lines_by true bytes) (early_lines bytes) (early_prefix bytes)
 
 -- ---- two beginnings of the lines
 

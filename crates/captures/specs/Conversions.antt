@@ -3,20 +3,18 @@ use Rattle.std.specs.Prelude.{◌≡◌, ◌⊎◌, ℕ, ◌+◌, ◌-◌, ◌^�
 use Rattle.std.specs.Io.KnownBytes.{Appends}
 use Rattle.nav_io.specs.Lines.{Line, ends, lines_by}
 use Rattle.nav_io.specs.LinesState.{LinesState, Reads}
-use Rattle.periods.specs.PeriodsOf.{periods_of}
-use Rattle.capture_log.specs.Log.{log_of, parts_of}
+use Rattle.capture_log.specs.Log.{log_of}
 use Rattle.one_run.specs.Runs.{AppendsBetween}
 use Rattle.one_run.specs.declared.fault.BridgeFault.{BridgeFault}
 use Rattle.one_run.specs.declared.fault.BridgeFault.TheVariants.{ReadFault, WriteFault, ReportFault, TooLong, NoMemory, NotThisForm}
 use Rattle.streams.specs.declared.target.Target.{Target}
 use Rattle.captures.specs.declared.accept.Accepted.{Accepted}
-use Rattle.captures.specs.declared.counts.EventCounts.{EventCounts}
-use Rattle.captures.specs.declared.counts.VerdictCounts.{VerdictCounts}
+use Rattle.captures.specs.declared.counts.CaptureCounts.{CaptureCounts}
 use Rattle.captures.specs.declared.receiving.CaptureState.{CaptureState}
-use Rattle.captures.specs.Converts.{closed_texts, no_tally, period_texts}
-use Rattle.captures.specs.Flushed.{said_of}
+use Rattle.captures.specs.Captures.{counts_of}
+use Rattle.captures.specs.Converts.{closed_texts, period_texts}
 use Rattle.captures.specs.Hearings.{Stands}
-use Rattle.captures.specs.Notes.{line_report, tallied}
+use Rattle.captures.specs.Notes.{line_report}
 
 -- the state is that after some lines, and this is the number of the last one
 pub record HoldsPast (to : Target) (number : ℕ) (h : CaptureState) (written reported : Option (List ℕ)) : Type 0 where
@@ -29,17 +27,15 @@ pub record HoldsPast (to : Target) (number : ℕ) (h : CaptureState) (written re
   pub stands : Stands to head past h start written told reported
 
 -- All further lines were read and processed, all periods were written, and all events were reported and counted.
-pub record ConvertsAll (to : Target) (head : Accepted) (past : List Line) (left left_new : Option (List ℕ)) (old new : LinesState) (start written told reported : Option (List ℕ)) (tally : EventCounts) (said : VerdictCounts) : Type 0 where
+pub record ConvertsAll (to : Target) (head : Accepted) (past : List Line) (left left_new : Option (List ℕ)) (old new : LinesState) (start written told reported : Option (List ℕ)) (counts : CaptureCounts) : Type 0 where
   pub given : List Line
   pub reads : Reads left left_new old new given
   pub rest : new.rest ≡ []
   pub ended : new.ended ≡ true
   pub low : new.taken < 2 ^ 32
-  pub number : new.number ≡ old.number + length given
   pub text : Appends start written (period_texts to head (past ++ given))
   pub report : Appends told reported (line_report (log_of head.window (past ++ given)))
-  pub counts : tally ≡ tallied no_tally (log_of head.window (past ++ given))
-  pub verdicts : said ≡ said_of (periods_of head.week head.window (parts_of head.window (past ++ given)))
+  pub counts_are : counts ≡ counts_of (record { window = head.window; week = head.week; lines = past ++ given })
 
 -- the state is that after these lines, and no further line has ended in the bytes read
 pub record Waits (to : Target) (head : Accepted) (lines : List Line) (state : LinesState) (h : CaptureState) (start written told reported : Option (List ℕ)) : Type 0 where
@@ -81,8 +77,8 @@ pub record ConversionBroke (to : Target) (head : Accepted) (past : List Line) (l
   pub says : ConversionSays to head (past ++ given) last new h start written told reported fault
 
 -- the further lines were processed, and the periods that were left were written
-abbrev pub Converts : {T : Type 0} → Target → CaptureState → CaptureState → Option (List ℕ) → Option (List ℕ) → LinesState → LinesState → Option (List ℕ) → Option (List ℕ) → Option (List ℕ) → Option (List ℕ) → Result T BridgeFault → Type 0
+abbrev pub Converts : Target → CaptureState → CaptureState → Option (List ℕ) → Option (List ℕ) → LinesState → LinesState → Option (List ℕ) → Option (List ℕ) → Option (List ℕ) → Option (List ℕ) → Result CaptureCounts BridgeFault → Type 0
 Converts to h new left left_new lines lines_new written written_new reported reported_new result =
     (head : Accepted) (past : List Line) (start told : Option (List ℕ)) → lines.number ≡ 1 + length past → Stands to head past h start written told reported
-    → MatchResult result (λ x. ConvertsAll to head past left left_new lines lines_new start written_new told reported_new new.receiver.tally new.said)
+    → MatchResult result (λ counts. ConvertsAll to head past left left_new lines lines_new start written_new told reported_new counts)
     (λ fault. ConversionBroke to head past left left_new lines lines_new new start written_new told reported_new fault)

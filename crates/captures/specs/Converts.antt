@@ -60,10 +60,6 @@ abbrev pub CapturePrefix : Target → Option ℕ → Option (List ℕ) → Optio
 CapturePrefix to week left written written_new reported reported_new =
     IfSome left (λ bytes. AppendsPrefix written written_new (output_of to week bytes) × AppendsPrefix reported reported_new (report_of_capture week bytes))
 
--- no counts were reported: what was is a prefix of the rejections of the complete input
-abbrev pub RejectionsPrefix : Option ℕ → Option (List ℕ) → Option (List ℕ) → Option (List ℕ) → Type 0
-RejectionsPrefix week left reported reported_new = IfSome left (λ bytes. AppendsPrefix reported reported_new (refusals_text (capture_of week bytes)))
-
 -- counts are written only after the input was read to its end
 abbrev pub CountsLast : Target → Option ℕ → Option (List ℕ) → Option (List ℕ) → Option (List ℕ) → Option (List ℕ) → Type 0
 CountsLast Count week left left_new written written_new = WritesLast (output_of Count week) left left_new written written_new
@@ -73,33 +69,3 @@ CountsLast to week left left_new written written_new = Unit {0}
 abbrev pub CaptureAhead : Target → Option ℕ → Option (List ℕ) → Option (List ℕ) → Option (List ℕ) → Option (List ℕ) → Option (List ℕ) → Option (List ℕ) → Type 0
 CaptureAhead to week left left_new written written_new reported reported_new =
     CapturePrefix to week left written written_new reported reported_new × CountsLast to week left left_new written written_new
-
--- the first line of the complete input is accepted
-abbrev pub AcceptsHead : Option ℕ → Option (List ℕ) → Type 0
-AcceptsHead week left = IfSome left (λ bytes. IsSome (counts_in (capture_of week bytes)))
-
--- the first line of the complete input is rejected
-abbrev pub Refuses : Option ℕ → Option (List ℕ) → Type 0
-Refuses week left = IfSome left (λ bytes. counts_in (capture_of week bytes) ≡ None)
-
--- what an error states besides, of a run that took these bytes
-abbrev pub StopSays : Target → Option ℕ → Option (List ℕ) → List ℕ → Option (List ℕ) → Option (List ℕ) → Option (List ℕ) → Option (List ℕ) → BridgeFault → Type 0
-StopSays to week left taken written written_new reported reported_new ReadFault =
-    Appends written written_new (flushed_output to week taken) × Appends reported reported_new (flushed_report week taken)
-StopSays to week left taken written written_new reported reported_new TooLong = length taken ≡ 2 ^ 32
-StopSays to week left taken written written_new reported reported_new NotThisForm = (counts_in (capture_of week taken) ≡ None) × Refuses week left
-StopSays to week left taken written written_new reported reported_new WriteFault = AcceptsHead week left
-StopSays to week left taken written written_new reported reported_new ReportFault = AcceptsHead week left
-StopSays to week left taken written written_new reported reported_new NoMemory = AcceptsHead week left × (length taken < 2 ^ 32)
-
--- The run broke off: a prefix was written and reported of what the bytes taken give, no less than the least. Both stop at one
--- place, and counts are reported last.
-pub record Stop (to : Target) (week : Option ℕ) (left left_new written written_new reported reported_new : Option (List ℕ)) (fault : BridgeFault) : Type 0 where
-  pub taken : List ℕ
-  pub consumes : Consumes left left_new taken
-  pub text : AppendsBetween written written_new (least_output to week taken) (output_of to week taken)
-  pub report : AppendsBetween reported reported_new (least_report week taken) (report_of_capture week taken)
-  pub ahead : CaptureAhead to week left left_new written written_new reported reported_new
-  pub stopped : StopAtOnePlace (Some (flushed_texts to week)) left written written_new reported reported_new
-  pub counts_last : RejectionsPrefix week left reported reported_new ⊎ ((fault ≡ ReportFault) × IsAtEnd left_new × Appends written written_new (output_of to week taken))
-  pub says : StopSays to week left taken written written_new reported reported_new fault

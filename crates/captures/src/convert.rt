@@ -12,7 +12,7 @@ ghost use Rattle.captures.specs.Converts.{GivesHead, GivesNoHead};
 ghost use Rattle.captures.specs.Conversions.{Converts, HoldsPast};
 
 use crate::accept::{Accepted, accept};
-use crate::counts::{CaptureCounts, capture_counts_text};
+use crate::counts::{CaptureCounts, capture_counts_text, counts_with};
 use crate::next::next_item;
 use crate::receiving::CaptureState;
 use capture_lines::LineItem;
@@ -63,8 +63,8 @@ pub(crate) fn first_line<S: Source>(
     }
 }
 
-// Processes the further lines; at the end of the input writes the periods that are left. After a
-// failed read it goes on where it stopped.
+// Processes the further lines; at the end of the input writes the periods that are left, and gives
+// the counts. After a failed read it goes on where it stopped.
 pub(crate) fn convert<S: Source, T: Sink, U: Sink>(
     receiving: &mut CaptureState,
     lines: &mut Lines,
@@ -72,7 +72,7 @@ pub(crate) fn convert<S: Source, T: Sink, U: Sink>(
     input: &mut S,
     output: &mut T,
     report: &mut U,
-) -> Result<(), BridgeFault>
+) -> Result<CaptureCounts, BridgeFault>
     requires held { length lines.old.rest ≤ 4096 }
     requires low { lines.old.taken < 2 ^ 32 }
     requires past { HoldsPast to.now lines.old.number receiving.old
@@ -95,7 +95,13 @@ pub(crate) fn convert<S: Source, T: Sink, U: Sink>(
     'lines: loop {
         match next_item(lines, input, &mut item) {
             Ok(true) => {}
-            Ok(false) => return receiving.finish(to, output),
+            Ok(false) => match receiving.finish(to, output) {
+                Ok(()) => {
+                    let received = &receiving.receiver.tally;
+                    return Ok(counts_with(lines.number(), received, &receiving.said));
+                }
+                Err(fault) => return Err(fault),
+            },
             Err(fault) => return Err(fault_of(fault)),
         }
         match receiving.step(lines.number(), &item, to, output, report) {
