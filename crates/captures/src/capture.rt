@@ -5,13 +5,11 @@ ghost use Rattle.one_run.specs.Runs.{Ran};
 ghost use Rattle.captures.specs.Captures.{capture_meaning, target_of};
 ghost use Rattle.captures.specs.Converts.{CaptureAhead};
 
-use crate::convert::{convert, end_run, first_line};
-use crate::counts::{CaptureCounts, counts_with};
-use crate::receiving::CaptureState;
+use crate::counts::CaptureCounts;
+use crate::follow::CaptureFollow;
 use crate::target::CaptureTo;
-use capture_log::{parts_of_lines_are_values, what_is_closed_stays};
 use nav_eph::RefWeek;
-use nav_io::{Failed, Lines, Sink, Source};
+use nav_io::{Sink, Source};
 use one_run::BridgeFault;
 use std::alloc::Global;
 
@@ -51,26 +49,9 @@ pub fn run_capture<S: Source, T: Sink, U: Sink>(
         (S.left input.old) (S.left input.new) (T.written output.old) (T.written output.new)
         (U.written report.old) (U.written report.new)) }
 {
-    what_is_closed_stays();
-    parts_of_lines_are_values();
-    let target = to.target();
-    let mut lines = Lines::new();
-    let head = match first_line(&mut lines, week, input) {
-        Ok(head) => head,
-        Err(fault) => return Err(fault),
-    };
-    match target.begin(output) {
-        Ok(()) => {}
-        Err(Failed) => return Err(BridgeFault::WriteFault),
-    }
-    let mut receiving = CaptureState::new(alloc, head.week, head.window);
-    match convert(&mut receiving, &mut lines, &target, input, output, report) {
-        Ok(()) => {}
-        Err(fault) => return Err(fault),
-    }
-    let counts = counts_with(lines.number(), &receiving.receiver.tally, &receiving.said);
-    match end_run(&target, &counts, output, report) {
-        Ok(()) => Ok(counts),
+    let mut follow = CaptureFollow::new(alloc, week, to);
+    match follow.advance(input, output, report) {
+        Ok(counts) => follow.end(counts, output, report),
         Err(fault) => Err(fault),
     }
 }

@@ -1,13 +1,15 @@
 //! A conversion of a capture that goes on over one source after another.
 
-ghost use Rattle.std.specs.Prelude.{◌≡◌, ◌⊎◌, None, IsTrue, IsErrOf, IfErr};
+ghost use Rattle.std.specs.Prelude.{◌≡◌, ◌⊎◌, ℕ, List, [], Option, IsTrue, IsErrOf, IfErr};
 ghost use Rattle.one_run.specs.Causes.{HasItsCause, faults_of};
+ghost use Rattle.captures.specs.Captures.{target_of};
 ghost use Rattle.captures.specs.Following.{Ends, Follows};
-ghost use Rattle.captures.specs.Pushed.{IsReady};
+ghost use Rattle.captures.specs.Pushed.{IsBehind, IsReady, IsWaiting};
 
 use crate::convert::{convert, end_run, first_line};
 use crate::counts::CaptureCounts;
 use crate::receiving::CaptureState;
+use crate::target::CaptureTo;
 use capture_log::{parts_of_lines_are_values, what_is_closed_stays};
 use nav_eph::RefWeek;
 use nav_io::{Failed, Lines, Sink, Source};
@@ -28,10 +30,14 @@ pub(crate) struct CaptureFollow {
 
 impl CaptureFollow {
     // Nothing was read.
-    pub(crate) fn new(alloc: Global, week: Option<RefWeek>, to: Target) -> CaptureFollow
-        ensures of { (result.to ≡ to) × (result.week ≡ week) × (result.receiving ≡ None) }
-        ensures fresh { IsFresh result.lines }
+    pub(crate) fn new(alloc: Global, week: Option<RefWeek>, to: &CaptureTo) -> CaptureFollow
+        ensures of { (result.to ≡ target_of to.now) × (result.week ≡ week) }
+        ensures fresh { result.lines.rest ≡ [] }
+        ensures waits { IsWaiting result.lines }
+        ensures behind { (start begun : Option (List ℕ)) → IsBehind result.to result.week
+            result.lines result.receiving [] start start begun begun }
     {
+        let to = to.target();
         let lines = Lines::new();
         CaptureFollow {
             alloc,

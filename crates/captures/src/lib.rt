@@ -31,6 +31,7 @@ mod convert;
 mod count;
 mod counts;
 mod flush;
+mod follow;
 mod laws;
 mod next;
 mod push;

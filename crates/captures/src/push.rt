@@ -5,20 +5,16 @@ ghost use Rattle.std.specs.Prelude.{[], ◌++◌, length, take, Option, None};
 ghost use Rattle.std.specs.Prelude.{Some, Err, IsTrue, IsErrOf, IfErr, IfOk, IfSome, OnErr, OnOk};
 ghost use Rattle.one_run.specs.Causes.{HasItsCause, faults_of};
 ghost use Rattle.captures.specs.Captures.{target_of};
-ghost use Rattle.captures.specs.Following.{Follows};
 ghost use Rattle.captures.specs.Pushed.{IsCutShort, IsPushed, IsReady, IsWhole};
 
-use crate::convert::{convert, end_run, first_line};
-use crate::counts::{CaptureCounts, counts_with};
-use crate::receiving::CaptureState;
+use crate::counts::CaptureCounts;
+use crate::follow::CaptureFollow;
 use crate::target::CaptureTo;
-use capture_log::{parts_of_lines_are_values, what_is_closed_stays};
 use nav_eph::RefWeek;
-use nav_io::{Failed, Lines, Sink, Source};
+use nav_io::{Failed, Sink, Source};
 use one_run::BridgeFault;
 use std::alloc::Global;
 use std::marker::Model;
-use streams::Target;
 
 // A piece of an input of which more may come: a read behind its end fails.
 #[derive(Drop)]
@@ -90,12 +86,7 @@ impl Source for End {
 /// each line what it closes. After an error each further call gives the same error.
 #[derive(Drop)]
 pub struct CaptureRun {
-    alloc: Global,
-    to: Target,
-    week: Option<RefWeek>,
-    lines: Lines,
-    // none before the first line
-    receiving: Option<CaptureState>,
+    follow: CaptureFollow,
     // why it goes no further
     fault: Option<BridgeFault>,
 }
@@ -107,60 +98,15 @@ impl Model for CaptureRun {
     ghost Value = { CaptureRunState };
 
     ghost view = { λ s. record {
-      to = s.to;
-      week = s.week;
-      lines = s.lines;
-      receiving = s.receiving;
+      to = s.follow.to;
+      week = s.follow.week;
+      lines = s.follow.lines;
+      receiving = s.follow.receiving;
       fault = s.fault;
     } };
 
-    ghost invariant = { λ s. s.fault ≡ None → IsReady s.to s.week s.lines s.receiving };
-}
-
-// Reads and processes lines until the input ends or a read fails; the first line is that before any
-// other.
-fn follow<S: Source, T: Sink, U: Sink>(
-    alloc: Global,
-    week: Option<RefWeek>,
-    to: &Target,
-    receiving: &mut Option<CaptureState>,
-    lines: &mut Lines,
-    input: &mut S,
-    output: &mut T,
-    report: &mut U,
-) -> Result<(), BridgeFault>
-    requires ready { IsReady to.now week lines.old receiving.old }
-    ensures follows { Follows to.now week (S.left input.old) (S.left input.new)
-        lines.old lines.new receiving.old receiving.new (T.written output.old)
-            (T.written output.new)
-        (U.written report.old) (U.written report.new) result }
-    ensures cause { HasItsCause
-        (faults_of (S.faults input.old) (T.faults output.old) (U.faults report.old))
-        (faults_of (S.faults input.new) (T.faults output.new) (U.faults report.new)) result }
-    ensures still { IsErrOf result BridgeFault.ReadFault
-        → (T.faults output.new ≡ T.faults output.old)
-        × (U.faults report.new ≡ U.faults report.old) }
-    ensures never { IsTrue (S.never_fails input.old) → IsErrOf result BridgeFault.ReadFault → ⊥ }
-    ensures form { IsErrOf result BridgeFault.NotThisForm
-        → (output.new ≡ output.old) × (report.new ≡ report.old) }
-{
-    what_is_closed_stays();
-    parts_of_lines_are_values();
-    if let Some(receiving) = receiving {
-        return convert(receiving, lines, to, input, output, report);
-    }
-    let head = match first_line(lines, week, input) {
-        Ok(head) => head,
-        Err(fault) => return Err(fault),
-    };
-    match to.begin(output) {
-        Ok(()) => {}
-        Err(Failed) => return Err(BridgeFault::WriteFault),
-    }
-    let mut first = CaptureState::new(alloc, head.week, head.window);
-    let result = convert(&mut first, lines, to, input, output, report);
-    *receiving = Some(first);
-    result
+    ghost invariant = { λ s. s.fault ≡ None
+        → IsReady s.follow.to s.follow.week s.follow.lines s.follow.receiving };
 }
 
 impl CaptureRun {
@@ -172,14 +118,9 @@ impl CaptureRun {
         ensures pushed { (start begun : Option (List ℕ))
             → IsPushed result [] start start begun begun }
     {
-        let target = to.target();
-        let lines = Lines::new();
+        let follow = CaptureFollow::new(alloc, week, to);
         CaptureRun {
-            alloc,
-            to: target,
-            week,
-            lines,
-            receiving: None,
+            follow,
             fault: None,
         }
     }
@@ -230,18 +171,9 @@ impl CaptureRun {
             rest: piece,
             failed: false,
         };
-        match follow(
-            self.alloc,
-            self.week,
-            &self.to,
-            &mut self.receiving,
-            &mut self.lines,
-            &mut input,
-            output,
-            report,
-        ) {
+        match self.follow.advance(&mut input, output, report) {
             // A piece has no end.
-            Ok(()) => unreachable!(),
+            Ok(_) => unreachable!(),
             Err(fault) => match fault {
                 BridgeFault::ReadFault => Ok(()),
                 _ => {
@@ -280,38 +212,12 @@ impl CaptureRun {
             → (output.new ≡ output.old) × (report.new ≡ report.old) }
         ensures read { self.fault ≡ None → IsErrOf result BridgeFault.ReadFault → ⊥ }
     {
-        let CaptureRun {
-            alloc,
-            to,
-            week,
-            mut lines,
-            mut receiving,
-            fault,
-        } = self;
+        let CaptureRun { mut follow, fault } = self;
         if let Some(fault) = fault {
             return Err(fault);
         }
-        what_is_closed_stays();
-        parts_of_lines_are_values();
-        match follow(
-            alloc,
-            week,
-            &to,
-            &mut receiving,
-            &mut lines,
-            &mut End,
-            output,
-            report,
-        ) {
-            Ok(()) => {}
-            Err(fault) => return Err(fault),
-        }
-        let Some(receiving) = receiving else {
-            unreachable!();
-        };
-        let counts = counts_with(lines.number(), &receiving.receiver.tally, &receiving.said);
-        match end_run(&to, &counts, output, report) {
-            Ok(()) => Ok(counts),
+        match follow.advance(&mut End, output, report) {
+            Ok(counts) => follow.end(counts, output, report),
             Err(fault) => Err(fault),
         }
     }
