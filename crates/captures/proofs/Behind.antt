@@ -181,6 +181,13 @@ ready_behind to week lines receiving bytes start written begun reported waits b 
 pub behind_ready : (to : Target) (week : Option ℕ) (lines : LinesState) (receiving : Option CaptureState) (w u : Option (List ℕ)) (r : IsReady to week lines receiving) → IsBehind to week lines receiving r.bytes None w None u
 behind_ready to week lines receiving w u r = unknown to week lines receiving r.bytes None None None None w u r.behind
 
+-- of a conversion whose target and week stayed
+pub behind_as : (to now : Target) (week named : Option ℕ) (lines : LinesState) (receiving : Option CaptureState) (bytes : List ℕ) (start written begun reported : Option (List ℕ)) → now ≡ to → named ≡ week
+    → IsBehind to week lines receiving bytes start written begun reported → IsBehind now named lines receiving bytes start written begun reported
+behind_as to now week named lines receiving bytes start written begun reported same for b =
+    subst (λ (n : Option ℕ). IsBehind now n lines receiving bytes start written begun reported) (sym for)
+    (subst (λ (t : Target). IsBehind t week lines receiving bytes start written begun reported) (sym same) b)
+
 -- ---- going on behind the first line
 
 pub first_number : (to : Target) (week : Option ℕ) (lines : LinesState) (h : CaptureState) (bytes : List ℕ) (start written begun reported : Option (List ℕ)) (b : IsBehind to week lines (Some h) bytes start written begun reported)

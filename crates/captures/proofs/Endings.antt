@@ -1,6 +1,6 @@
 -- How a run ends once all lines were processed: the text after the periods and the counts were written, or one of them broke off.
 use Rattle.std.proofs.Common.{◌≡◌, ℕ, true, false, List, [], ◌∷◌, ◌++◌, ◌∙◌, refl, sym, ap, subst, inl, inr, ⊎_elim, append_assoc, append-nil}
-use Rattle.std.specs.Prelude.{Option, Some, IsSome, ◌⊎◌}
+use Rattle.std.specs.Prelude.{MatchResult, Result, Option, Some, IsSome, ◌⊎◌}
 use Rattle.std.specs.Io.KnownBytes.{Appends}
 use Rattle.std.proofs.KnownBytes.{Appends-trans}
 use Rattle.nav_io.specs.Prefix.{AppendsPrefix, IsPrefix}
@@ -18,7 +18,7 @@ use Rattle.captures.specs.declared.accept.Accepted.{Accepted}
 use Rattle.captures.specs.declared.counts.CaptureCounts.{CaptureCounts}
 use Rattle.captures.specs.Captures.{Capture, accepted_line, capture_in, capture_of, counts_in, counts_of, counts_text, flushed_output, flushed_report, flushed_text, periods, refusals_text, texts_of}
 use Rattle.captures.specs.Converts.{closed_texts, period_texts}
-use Rattle.captures.specs.Following.{IsProcessed}
+use Rattle.captures.specs.Following.{Ends, IsProcessed}
 use Rattle.captures.specs.Notes.{line_report}
 use Rattle.captures.specs.Pushed.{CutSays, IsCutShort, IsWhole}
 use Rattle.captures.proofs.CapturePrefixes.{capture_by, capture_lines, flushed_is, flushed_report_is, output_is, report_is, report_prefix}
@@ -150,3 +150,11 @@ all_cut laws to week bytes start written written_new begun reported reported_new
           kind;
       says = written_says week bytes fault kind some;
     }
+
+-- of a conversion whose target stayed
+pub ended_of : (to now : Target) (week : Option ℕ) (bytes : List ℕ) (start written written_new begun reported reported_new : Option (List ℕ)) (counts : CaptureCounts) (result : Result CaptureCounts BridgeFault) → now ≡ to
+    → Ends now counts written written_new reported reported_new result → IsProcessed to week bytes start written begun reported counts
+    → MatchResult result (λ whole. IsWhole to week bytes start written_new begun reported_new whole) (λ fault. IsCutShort to week bytes bytes start written_new begun reported_new fault)
+ended_of to now week bytes start written written_new begun reported reported_new counts result same ends all =
+    subst (λ (t : Target). MatchResult result (λ whole. IsWhole t week bytes start written_new begun reported_new whole) (λ fault. IsCutShort t week bytes bytes start written_new begun reported_new fault)) same
+    (ends week bytes start begun (subst (λ (t : Target). IsProcessed t week bytes start written begun reported counts) (sym same) all))

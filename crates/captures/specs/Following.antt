@@ -91,8 +91,8 @@ Follows to week left left_new lines lines_new receiving receiving_new written wr
     (λ fault. FollowStops to week left left_new bytes lines.rest lines_new receiving_new start written_new begun reported_new fault)
 
 -- the text after the periods was written, and the counts reported
-abbrev pub Ends : Target → Option ℕ → CaptureCounts → Option (List ℕ) → Option (List ℕ) → Option (List ℕ) → Option (List ℕ) → Result CaptureCounts BridgeFault → Type 0
-Ends to week counts written written_new reported reported_new result =
-    (bytes : List ℕ) (start begun : Option (List ℕ)) → IsProcessed to week bytes start written begun reported counts
+abbrev pub Ends : Target → CaptureCounts → Option (List ℕ) → Option (List ℕ) → Option (List ℕ) → Option (List ℕ) → Result CaptureCounts BridgeFault → Type 0
+Ends to counts written written_new reported reported_new result =
+    (week : Option ℕ) (bytes : List ℕ) (start begun : Option (List ℕ)) → IsProcessed to week bytes start written begun reported counts
     → MatchResult result (λ whole. IsWhole to week bytes start written_new begun reported_new whole)
     (λ fault. IsCutShort to week bytes bytes start written_new begun reported_new fault)

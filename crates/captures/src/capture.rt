@@ -8,6 +8,7 @@ ghost use Rattle.captures.specs.Converts.{CaptureAhead};
 use crate::counts::CaptureCounts;
 use crate::follow::CaptureFollow;
 use crate::target::CaptureTo;
+use capture_log::{parts_of_lines_are_values, what_is_closed_stays};
 use nav_eph::RefWeek;
 use nav_io::{Sink, Source};
 use one_run::BridgeFault;
@@ -50,8 +51,14 @@ pub fn run_capture<S: Source, T: Sink, U: Sink>(
         (U.written report.old) (U.written report.new)) }
 {
     let mut follow = CaptureFollow::new(alloc, week, to);
-    match follow.advance(input, output, report) {
-        Ok(counts) => follow.end(counts, output, report),
+    let counts = match follow.advance(input, output, report) {
+        Ok(counts) => counts,
+        Err(fault) => return Err(fault),
+    };
+    what_is_closed_stays();
+    parts_of_lines_are_values();
+    match follow.end(counts, output, report) {
+        Ok(counts) => Ok(counts),
         Err(fault) => Err(fault),
     }
 }

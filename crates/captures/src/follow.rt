@@ -100,8 +100,8 @@ impl CaptureFollow {
         output: &mut T,
         report: &mut U,
     ) -> Result<CaptureCounts, BridgeFault>
-        ensures ends { Ends self.now.to self.now.week counts (T.written output.old)
-            (T.written output.new) (U.written report.old) (U.written report.new) result }
+        ensures ends { Ends self.now.to counts (T.written output.old) (T.written output.new)
+            (U.written report.old) (U.written report.new) result }
         ensures kind { IfErr result (λ fault.
             (fault ≡ BridgeFault.WriteFault) ⊎ (fault ≡ BridgeFault.ReportFault)) }
         ensures cause { HasItsCause
@@ -109,6 +109,7 @@ impl CaptureFollow {
             (faults_of 0 (T.faults output.new) (U.faults report.new)) result }
     {
         what_is_closed_stays();
+        parts_of_lines_are_values();
         match end_run(&self.to, &counts, output, report) {
             Ok(()) => Ok(counts),
             Err(fault) => Err(fault),

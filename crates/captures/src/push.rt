@@ -216,8 +216,12 @@ impl CaptureRun {
         if let Some(fault) = fault {
             return Err(fault);
         }
-        match follow.advance(&mut End, output, report) {
-            Ok(counts) => follow.end(counts, output, report),
+        let counts = match follow.advance(&mut End, output, report) {
+            Ok(counts) => counts,
+            Err(fault) => return Err(fault),
+        };
+        match follow.end(counts, output, report) {
+            Ok(counts) => Ok(counts),
             Err(fault) => Err(fault),
         }
     }
