@@ -184,8 +184,8 @@ behind_ready to week lines receiving w u r = unknown to week lines receiving r.b
 -- of a conversion whose target and week stayed
 pub behind_as : (to now : Target) (week named : Option ℕ) (lines : LinesState) (receiving : Option CaptureState) (bytes : List ℕ) (start written begun reported : Option (List ℕ)) → now ≡ to → named ≡ week
     → IsBehind to week lines receiving bytes start written begun reported → IsBehind now named lines receiving bytes start written begun reported
-behind_as to now week named lines receiving bytes start written begun reported same for b =
-    subst (λ (n : Option ℕ). IsBehind now n lines receiving bytes start written begun reported) (sym for)
+behind_as to now week named lines receiving bytes start written begun reported same weeks b =
+    subst (λ (n : Option ℕ). IsBehind now n lines receiving bytes start written begun reported) (sym weeks)
     (subst (λ (t : Target). IsBehind t week lines receiving bytes start written begun reported) (sym same) b)
 
 -- ---- going on behind the first line

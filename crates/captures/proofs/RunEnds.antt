@@ -91,16 +91,16 @@ pub run_stopped : {S T U : Type 0} (to : CaptureTo) (target : Target) (week name
     → held ≡ [] → FollowStops target named b.left a.left [] held lines receiving b.written a.written b.reported a.reported fault
     → HasItsCause {T = Unit {0}} (faults_at b) (faults_at a) (Err fault) → (fault ≡ ReadFault → IsTrue b.never_fails → ⊥)
     → (fault ≡ NotThisForm → (a.output ≡ b.output) × (a.report ≡ b.report)) → IsBroken (capture_meaning to week) b a fault
-run_stopped to target week named b a held lines receiving fault same for fresh stop cause never form =
-    subst (λ (w : Option ℕ). IsBroken (capture_meaning to w) b a fault) for
+run_stopped to target week named b a held lines receiving fault same weeks fresh stop cause never form =
+    subst (λ (w : Option ℕ). IsBroken (capture_meaning to w) b a fault) weeks
     (subst (λ (t : Target). IsBroken (target_meaning t named) b a fault) same (broken_by target named b a held lines receiving fault fresh stop cause never form))
 
 pub stopped_ahead : (to : CaptureTo) (target : Target) (week named : Option ℕ) (left left_new : Option (List ℕ)) (held : List ℕ) (lines : LinesState) (receiving : Option CaptureState) (written written_new reported reported_new : Option (List ℕ)) (fault : BridgeFault) → target ≡ target_of to → named ≡ week
     → held ≡ [] → FollowStops target named left left_new [] held lines receiving written written_new reported reported_new fault
     → CaptureAhead (target_of to) week left left_new written written_new reported reported_new
-stopped_ahead to target week named left left_new held lines receiving written written_new reported reported_new fault same for fresh stop =
+stopped_ahead to target week named left left_new held lines receiving written written_new reported reported_new fault same weeks fresh stop =
     let part = stop.first refl fresh in
-    subst (λ (w : Option ℕ). CaptureAhead (target_of to) w left left_new written written_new reported reported_new) for
+    subst (λ (w : Option ℕ). CaptureAhead (target_of to) w left left_new written written_new reported reported_new) weeks
     (subst (λ (t : Target). CaptureAhead t named left left_new written written_new reported reported_new) same (
       of_all left left_new lines stop.taken _ stop.consumes stop.end
           (λ following last. (prefix_of written written_new _ _ (part following last).output, prefix_of reported reported_new _ _ (part following last).report)),
@@ -112,8 +112,8 @@ stopped_ahead to target week named left left_new held lines receiving written wr
 pub run_done : {S T U : Type 0} (to : CaptureTo) (target : Target) (week named : Option ℕ) (b a : World S T U) (written reported : Option (List ℕ)) (counts whole : CaptureCounts) → target ≡ target_of to → named ≡ week
     → (all : FollowsAll target named b.left a.left [] b.written written b.reported reported counts) → IsWhole target named all.taken b.written a.written b.reported a.reported whole
     → faults_at a ≡ faults_at b → IsDone (capture_meaning to week) b a whole
-run_done to target week named b a written reported counts whole same for all w quiet =
-    subst (λ (n : Option ℕ). IsDone (capture_meaning to n) b a whole) for
+run_done to target week named b a written reported counts whole same weeks all w quiet =
+    subst (λ (n : Option ℕ). IsDone (capture_meaning to n) b a whole) weeks
     (subst (λ (t : Target). IsDone (target_meaning t named) b a whole) same (record {
       taken = all.taken;
       consumes = all.consumes;
@@ -151,10 +151,10 @@ cut_accepts to week bytes start written begun reported NoMemory kind cut = cut.s
 pub run_cut : {S T U : Type 0} (laws : LogLaws) (to : CaptureTo) (target : Target) (week named : Option ℕ) (b a : World S T U) (written reported : Option (List ℕ)) (counts : CaptureCounts) (fault : BridgeFault) → target ≡ target_of to → named ≡ week
     → (all : FollowsAll target named b.left a.left [] b.written written b.reported reported counts) → IsCutShort target named all.taken all.taken b.written a.written b.reported a.reported fault
     → (fault ≡ WriteFault) ⊎ (fault ≡ ReportFault) → HasItsCause {T = Unit {0}} (faults_at b) (faults_at a) (Err fault) → IsBroken (capture_meaning to week) b a fault
-run_cut laws to target week named b a written reported counts fault same for all cut kind cause =
+run_cut laws to target week named b a written reported counts fault same weeks all cut kind cause =
     let t = all.taken in
     let whole = λ (P : List ℕ → Type 0) (p : P t). taken_all b.left a.left t P all.consumes all.end p in
-    subst (λ (n : Option ℕ). IsBroken (capture_meaning to n) b a fault) for
+    subst (λ (n : Option ℕ). IsBroken (capture_meaning to n) b a fault) weeks
     (subst (λ (x : Target). IsBroken (target_meaning x named) b a fault) same (record {
       taken = t;
       consumes = all.consumes;
@@ -177,9 +177,9 @@ run_cut laws to target week named b a written reported counts fault same for all
 pub cut_ahead : (to : CaptureTo) (target : Target) (week named : Option ℕ) (left left_new : Option (List ℕ)) (start written written_new begun reported reported_new : Option (List ℕ)) (counts : CaptureCounts) (fault : BridgeFault) → target ≡ target_of to → named ≡ week
     → (all : FollowsAll target named left left_new [] start written begun reported counts) → IsCutShort target named all.taken all.taken start written_new begun reported_new fault
     → CaptureAhead (target_of to) week left left_new start written_new begun reported_new
-cut_ahead to target week named left left_new start written written_new begun reported reported_new counts fault same for all cut =
+cut_ahead to target week named left left_new start written written_new begun reported reported_new counts fault same weeks all cut =
     let text = prefix_of start written_new _ _ cut.output in
-    subst (λ (n : Option ℕ). CaptureAhead (target_of to) n left left_new start written_new begun reported_new) for
+    subst (λ (n : Option ℕ). CaptureAhead (target_of to) n left left_new start written_new begun reported_new) weeks
     (subst (λ (x : Target). CaptureAhead x named left left_new start written_new begun reported_new) same (
       taken_all left left_new all.taken (λ bytes. AppendsPrefix start written_new (output_of target named bytes) × AppendsPrefix begun reported_new (report_of_capture named bytes)) all.consumes all.end
           (text, prefix_of begun reported_new _ _ cut.report),
