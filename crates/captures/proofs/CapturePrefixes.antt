@@ -1,28 +1,23 @@
 -- The capture that the bytes taken are, and the least that is written of it.
-use Rattle.std.proofs.Common.{◌≡◌, ℕ, ◌+◌, ◌-◌, ◌≤◌, true, false, List, [], ◌∷◌, ◌++◌, length, take, drop, refl, sym, ap, subst, ◌∙◌, arith, inl, inr, ⊎_elim, append_assoc, append-nil, length-append}
-use Rattle.std.specs.Prelude.{Option, None, Some, IfSome, IsSome}
-use Rattle.std.proofs.lemmas.Bool.{true≢false}
+use Rattle.std.proofs.Common.{◌≡◌, ℕ, ◌+◌, ◌-◌, ◌≤◌, true, false, List, [], ◌∷◌, ◌++◌, length, take, drop, refl, sym, ap, subst, ◌∙◌, arith, inl, inr, append_assoc, length-append}
+use Rattle.std.specs.Prelude.{Option, Some}
 use Rattle.std.proofs.lemmas.List.{take-append-drop}
 use Rattle.std.specs.Io.KnownBytes.{Appends, Consumes, IsAtEnd}
-use Rattle.std.proofs.KnownBytes.{Appends-nil, Appends-trans}
+use Rattle.std.proofs.KnownBytes.{Appends-trans}
 use Rattle.nav_io.specs.Prefix.{AppendsPrefix, IsPrefix}
 use Rattle.nav_io.specs.Lines.{Line, lines_by}
-use Rattle.nav_io.specs.LinesState.{LinesState, Reads}
 use Rattle.nav_io.proofs.Surface.{IsPrefixOf, prefix_within, lines_prefix}
 use Rattle.periods.specs.PeriodsOf.{closed_of}
 use Rattle.periods.specs.declared.closed.Closed.{Closed}
 use Rattle.capture_log.specs.Log.{line_items_of, log_from, log_of, watermark_after, parts_of}
 use Rattle.captures.specs.declared.accept.Accepted.{Accepted}
-use Rattle.one_run.specs.declared.fault.BridgeFault.{BridgeFault}
 use Rattle.streams.specs.declared.target.Target.{Target}
 use Rattle.streams.specs.declared.target.Target.TheVariants.{Rinex, Rinex3, Rtcm, ToList, Count}
 use Rattle.streams.specs.Targets.{back_text, prefix_text}
-use Rattle.captures.specs.Captures.{Capture, accepted_line, capture_in, capture_of, capture_with, counts_in, counts_of, counts_text, early_lines, least_output, least_report, output_of, periods, refusals_text, report_of_capture, flushed_output, flushed_report, flushed_text, flushed_texts, texts_of, whole_report, whole_text, without_last}
-use Rattle.captures.specs.Converts.{AcceptsHead, CapturePrefix, CountsLast, Refuses, Stop, StopSays}
-use Rattle.one_run.specs.Runs.{AppendsBetween}
-use Rattle.one_run.proofs.Surface.{nothing_stopped, nothing_told}
+use Rattle.captures.specs.Captures.{Capture, accepted_line, capture_in, capture_of, capture_with, counts_of, counts_text, early_lines, least_output, least_report, output_of, periods, refusals_text, report_of_capture, flushed_output, flushed_report, flushed_text, texts_of, whole_report, whole_text, without_last}
+use Rattle.captures.specs.Converts.{CountsLast}
 use Rattle.captures.specs.Notes.{line_report}
-use Rattle.captures.proofs.Prefixes.{LogLaws, appends_behind, appends_longer, prefix_behind, prefix_more, prefix_nil, prefix_trans}
+use Rattle.captures.proofs.Prefixes.{LogLaws, prefix_behind, prefix_nil}
 use Rattle.captures.proofs.Logs.{known_of, log_more, report_append}
 use Rattle.captures.proofs.Writing.{texts_prefix}
 

@@ -1,10 +1,9 @@
 -- How a run over a capture ends, as its meaning states.
-use Rattle.std.proofs.Common.{◌≡◌, ◌++◌, ◌^◌, ℕ, true, List, [], length, inl, inr, refl, sym, ap, subst, ◌∙◌, ⊎_elim, append-nil}
+use Rattle.std.proofs.Common.{◌≡◌, ◌++◌, ℕ, true, List, [], inl, inr, refl, sym, ap, subst, ◌∙◌, ⊎_elim, append-nil}
 use Rattle.std.specs.Prelude.{Option, None, Some, IfSome, IsSome, IsTrue, Err, ◌⊎◌}
 use Rattle.std.proofs.lemmas.Bool.{true≢false}
 use Rattle.std.specs.Io.KnownBytes.{Appends, Consumes, IsAtEnd}
-use Rattle.nav_io.specs.Causes.{Rose}
-use Rattle.nav_io.specs.Prefix.{AppendsPrefix, IsPrefix}
+use Rattle.nav_io.specs.Prefix.{AppendsPrefix}
 use Rattle.nav_io.specs.LinesState.{LinesState}
 use Rattle.one_run.specs.Causes.{Faults, HasItsCause, faults_of}
 use Rattle.one_run.specs.Runs.{Accepts, AppendsBetween, IsBroken, IsDone, Leaves, Says, StopAtOnePlace, World}
@@ -17,7 +16,7 @@ use Rattle.captures.specs.declared.receiving.CaptureState.{CaptureState}
 use Rattle.captures.specs.declared.target.CaptureTo.{CaptureTo}
 use Rattle.captures.specs.Captures.{Capture, capture_meaning, capture_of, counts_in, flushed_output, flushed_report, flushed_texts, least_output, least_report, output_of, refusals_text, report_of_capture, target_meaning, target_of}
 use Rattle.captures.specs.Converts.{CaptureAhead}
-use Rattle.captures.specs.Following.{FollowSays, FollowStops, FollowsAll, IsAccepted, IsPart}
+use Rattle.captures.specs.Following.{FollowStops, FollowsAll}
 use Rattle.captures.specs.Pushed.{IsCutShort, IsWhole}
 use Rattle.captures.proofs.Behind.{flushed_by}
 use Rattle.captures.proofs.CapturePrefixes.{last_all}

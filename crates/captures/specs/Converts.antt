@@ -1,6 +1,5 @@
 -- A capture while its lines after the first are read. Private functions cite these.
-use Rattle.std.specs.Prelude.{◌≡◌, ℕ, ◌+◌, ◌*◌, ◌^◌, ◌<◌, ◌≤◌, ◌⊎◌, List, length, Option, Some, None, IsSome, IfSome}
-use Rattle.std.specs.Io.KnownBytes.{Appends, Consumes, IsAtEnd}
+use Rattle.std.specs.Prelude.{◌≡◌, ℕ, ◌+◌, ◌*◌, ◌≤◌, ◌⊎◌, List, length, Option, Some, None, IfSome}
 use Rattle.nav_io.specs.Prefix.{AppendsPrefix}
 use Rattle.nav_io.specs.Lines.{Line}
 use Rattle.nav_io.specs.LinesState.{LinesState, GivesLine, GivesEnd, BreaksRead, BreaksLong}
@@ -12,11 +11,10 @@ use Rattle.streams.specs.declared.target.Target.{Target}
 use Rattle.streams.specs.declared.target.Target.TheVariants.{Count}
 use Rattle.captures.specs.declared.counts.EventCounts.{EventCounts}
 use Rattle.one_run.specs.declared.fault.BridgeFault.{BridgeFault}
-use Rattle.one_run.specs.declared.fault.BridgeFault.TheVariants.{ReadFault, WriteFault, ReportFault, TooLong, NoMemory, NotThisForm}
-use Rattle.captures.specs.Captures.{accepted_line, capture_of, counts_in, least_output, least_report, output_of, refusals_text, report_of_capture, flushed_output, flushed_report, flushed_texts, texts_of}
+use Rattle.one_run.specs.declared.fault.BridgeFault.TheVariants.{ReadFault, TooLong, NotThisForm}
+use Rattle.captures.specs.Captures.{accepted_line, output_of, report_of_capture, texts_of}
 use Rattle.captures.specs.declared.accept.Accepted.{Accepted}
 use Rattle.captures.specs.Notes.{KeepsHalves, tallied, total}
-use Rattle.one_run.specs.Runs.{AppendsBetween, StopAtOnePlace}
 use Rattle.captures.specs.Runs.{WritesLast}
 
 -- nothing was counted

@@ -1,6 +1,6 @@
 -- What becomes of a capture that continues from its state between two reads. Private functions
 -- cite these.
-use Rattle.std.specs.Prelude.{◌≡◌, ◌⊎◌, ◌-◌, ◌<◌, ◌^◌, ℕ, true, false, Bool, List, [], ◌∷◌, ◌++◌, length, Option, IsSome, None, Some, Result, MatchResult}
+use Rattle.std.specs.Prelude.{◌≡◌, ◌-◌, ◌<◌, ◌^◌, ℕ, true, false, Bool, List, [], ◌∷◌, ◌++◌, length, Option, IsSome, None, Some, Result, MatchResult}
 use Rattle.std.specs.Io.KnownBytes.{Appends, Consumes, IsAtEnd}
 use Rattle.nav_io.specs.Prefix.{AppendsPrefix}
 use Rattle.nav_io.specs.Lines.{Line, lines_by}

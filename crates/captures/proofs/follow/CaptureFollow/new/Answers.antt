@@ -1,4 +1,3 @@
-use Rattle.std.proofs.Common.{[]}
 use Rattle.captures.proofs.Behind.{IsFresh, behind_none, waits_none}
 use Rattle.captures.proofs.follow.CaptureFollow.new.Goals as goal
 
