@@ -97,8 +97,9 @@ pub(crate) fn convert<S: Source, T: Sink, U: Sink>(
             Ok(true) => {}
             Ok(false) => match receiving.finish(to, output) {
                 Ok(()) => {
+                    let read = lines.number();
                     let received = &receiving.receiver.tally;
-                    return Ok(counts_with(lines.number(), received, &receiving.said));
+                    return Ok(counts_with(read, received, &receiving.said));
                 }
                 Err(fault) => return Err(fault),
             },
