@@ -242,4 +242,3 @@ module _ (to : Target) (week : Option ℕ) (left left1 left_new : Option (List �
       (λ fault. FollowStops to week left left_new bytes held new (Some h_new) start written_new begun reported_new fault)
   went laws (Ok counts) p = went_all counts p
   went laws (Err fault) p = went_stops laws fault p
-

@@ -197,12 +197,14 @@ module _ (to : Target) (week : Option ℕ) (left left1 : Option (List ℕ)) (lin
       (λ empty fresh.
       let t = bytes ++ h.reads.taken in
       let none : lines_by true t ≡ [] = ap (lines_by true) (at_start bytes lines.rest h.reads.taken empty fresh) ∙ ended_lines left left1 lines middle [] h.reads h.more h.none in
-      omega (arith, recent_ended t [] none))
-      (record { more = h.more; none = h.none }, record {
-        given = [];
-        read = read_more left left1 lines middle bytes [] [] read_none_yet h.reads (omega (arith, h.short)) h.low (omega (arith, h.number)) (omega (arith, h.number, b.read.few));
-        heard = (refl, b.heard.1, b.heard.2);
-      })
+      omega (arith, recent_ended t [] none)) (
+        record { more = h.more; none = h.none },
+        record {
+          given = [];
+          read = read_more left left1 lines middle bytes [] [] read_none_yet h.reads (omega (arith, h.short)) h.low (omega (arith, h.number)) (omega (arith, h.number, b.read.few));
+          heard = (refl, b.heard.1, b.heard.2);
+        },
+      )
   head_says TooLong h =
       stops_early [] TooLong h.reads
       (λ empty fresh.

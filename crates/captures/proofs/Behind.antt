@@ -19,7 +19,6 @@ use Rattle.captures.specs.Notes.{line_report}
 use Rattle.captures.specs.Pushed.{CaptureRunState, HasRead, IsBehind, IsPushed, IsReady, IsWaiting, unread}
 use Rattle.captures.proofs.CapturePrefixes.{capture_by, capture_lines, flushed_is, flushed_report_is}
 
-
 -- ---- what a reader of lines has read
 
 -- the same, where nothing is known of the source

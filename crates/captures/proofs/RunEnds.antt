@@ -50,17 +50,17 @@ module _ {S T U : Type 0} (to : Target) (week : Option ℕ) (b a : World S T U) 
   stop_says ReadFault stop cause never form =
       let so_far = flushed_by to week lines receiving stop.taken b.written a.written b.reported a.reported stop.says.0 stop.says.1 in
       (refl, cause.0, never refl, (so_far.0, so_far.1))
-  stop_says WriteFault stop cause never form = (cause.0, of_all b.left a.left lines stop.taken _ stop.consumes stop.end (λ following last. counted _ (stop.says following last)))
-  stop_says ReportFault stop cause never form = (refl, cause.0, of_all b.left a.left lines stop.taken _ stop.consumes stop.end (λ following last. counted _ (stop.says following last)))
+  stop_says WriteFault stop cause never form = (cause.0, of_all b.left a.left lines stop.taken (λ bytes. IsSome (counts_in (capture_of week bytes))) stop.consumes stop.end (λ following last. counted _ (stop.says following last)))
+  stop_says ReportFault stop cause never form = (refl, cause.0, of_all b.left a.left lines stop.taken (λ bytes. IsSome (counts_in (capture_of week bytes))) stop.consumes stop.end (λ following last. counted _ (stop.says following last)))
   stop_says NotThisForm stop cause never form = (
     ap (λ (l : List ℕ). counts_in (capture_of week l)) (sym (append-nil stop.taken)) ∙ ap counts_in (stop.says [] (λ ended. refl)),
-    of_all b.left a.left lines stop.taken _ stop.consumes stop.end (λ following last. ap counts_in (stop.says following last)),
+    of_all b.left a.left lines stop.taken (λ bytes. counts_in (capture_of week bytes) ≡ None) stop.consumes stop.end (λ following last. ap counts_in (stop.says following last)),
     (form refl).0,
     (form refl).1,
   )
   stop_says TooLong stop cause never form = stop.says
   stop_says NoMemory stop cause never form =
-      (refl, of_all b.left a.left lines stop.taken _ stop.consumes stop.end (λ following last. counted _ (stop.says.0 following last)), stop.says.1)
+      (refl, of_all b.left a.left lines stop.taken (λ bytes. IsSome (counts_in (capture_of week bytes))) stop.consumes stop.end (λ following last. counted _ (stop.says.0 following last)), stop.says.1)
 
   broken_by : (fault : BridgeFault) → held ≡ [] → FollowStops to week b.left a.left [] held lines receiving b.written a.written b.reported a.reported fault
       → HasItsCause {T = Unit {0}} (faults_at b) (faults_at a) (Err fault) → (fault ≡ ReadFault → IsTrue b.never_fails → ⊥)
@@ -74,7 +74,7 @@ module _ {S T U : Type 0} (to : Target) (week : Option ℕ) (b a : World S T U) 
         consumes = stop.consumes;
         text = subst (λ (l : List ℕ). AppendsBetween b.written a.written (least_output to week stop.taken) (output_of to week l)) nil now.output;
         told = subst (λ (l : List ℕ). AppendsBetween b.reported a.reported (least_report week stop.taken) (report_of_capture week l)) nil now.report;
-        ahead = of_all b.left a.left lines stop.taken _ stop.consumes stop.end
+        ahead = of_all b.left a.left lines stop.taken (λ bytes. AppendsPrefix b.written a.written (output_of to week bytes) × AppendsPrefix b.reported a.reported (report_of_capture week bytes)) stop.consumes stop.end
             (λ following last. (prefix_of b.written a.written _ _ (part following last).output, prefix_of b.reported a.reported _ _ (part following last).report));
         stopped = of_all b.left a.left lines stop.taken (λ bytes. StopAtOnePlace (Some (flushed_texts to week)) (Some bytes) b.written a.written b.reported a.reported) stop.consumes stop.end
             (λ following last. (part following last).stopped);
@@ -101,7 +101,7 @@ stopped_ahead to target week named left left_new held lines receiving written wr
     let part = stop.first refl fresh in
     subst (λ (w : Option ℕ). CaptureAhead (target_of to) w left left_new written written_new reported reported_new) weeks
     (subst (λ (t : Target). CaptureAhead t named left left_new written written_new reported reported_new) same (
-      of_all left left_new lines stop.taken _ stop.consumes stop.end
+      of_all left left_new lines stop.taken (λ bytes. AppendsPrefix written written_new (output_of target named bytes) × AppendsPrefix reported reported_new (report_of_capture named bytes)) stop.consumes stop.end
           (λ following last. (prefix_of written written_new _ _ (part following last).output, prefix_of reported reported_new _ _ (part following last).report)),
       stop.counts_last,
     ))
@@ -152,7 +152,6 @@ pub run_cut : {S T U : Type 0} (laws : LogLaws) (to : CaptureTo) (target : Targe
     → (fault ≡ WriteFault) ⊎ (fault ≡ ReportFault) → HasItsCause {T = Unit {0}} (faults_at b) (faults_at a) (Err fault) → IsBroken (capture_meaning to week) b a fault
 run_cut laws to target week named b a written reported counts fault same weeks all cut kind cause =
     let t = all.taken in
-    let whole = λ (P : List ℕ → Type 0) (p : P t). taken_all b.left a.left t P all.consumes all.end p in
     subst (λ (n : Option ℕ). IsBroken (capture_meaning to n) b a fault) weeks
     (subst (λ (x : Target). IsBroken (target_meaning x named) b a fault) same (record {
       taken = t;
@@ -161,15 +160,15 @@ run_cut laws to target week named b a written reported counts fault same weeks a
           (least_flushed laws target named t) (prefix_same (output_of target named t)) cut.output;
       told = between_within b.reported a.reported (least_report named t) (flushed_report named t) (report_of_capture named t) (report_of_capture named t)
           (least_told named t) (prefix_same (report_of_capture named t)) cut.report;
-      ahead = whole (λ bytes. AppendsPrefix b.written a.written (output_of target named bytes) × AppendsPrefix b.reported a.reported (report_of_capture named bytes))
+      ahead = taken_all b.left a.left t (λ bytes. AppendsPrefix b.written a.written (output_of target named bytes) × AppendsPrefix b.reported a.reported (report_of_capture named bytes)) all.consumes all.end
           (prefix_of b.written a.written _ _ cut.output, prefix_of b.reported a.reported _ _ cut.report);
-      stopped = whole (λ bytes. StopAtOnePlace (Some (flushed_texts target named)) (Some bytes) b.written a.written b.reported a.reported) cut.stopped;
+      stopped = taken_all b.left a.left t (λ bytes. StopAtOnePlace (Some (flushed_texts target named)) (Some bytes) b.written a.written b.reported a.reported) all.consumes all.end cut.stopped;
       counts_last = ⊎_elim
-          (λ (r : AppendsPrefix b.reported a.reported (refusals_text (capture_of named t))). inl (whole (λ bytes. AppendsPrefix b.reported a.reported (refusals_text (capture_of named bytes))) r))
+          (λ (r : AppendsPrefix b.reported a.reported (refusals_text (capture_of named t))). inl (taken_all b.left a.left t (λ bytes. AppendsPrefix b.reported a.reported (refusals_text (capture_of named bytes))) all.consumes all.end r))
           (λ (e : (fault ≡ ReportFault) × Appends b.written a.written (output_of target named t)). inr (e.0, all.end, e.1)) cut.counts_last;
       cause = cause;
       leaves = leaves_nothing target named b a;
-      says = end_says target named b a t fault kind cause (whole (λ bytes. IsSome (counts_in (capture_of named bytes)))
+      says = end_says target named b a t fault kind cause (taken_all b.left a.left t (λ bytes. IsSome (counts_in (capture_of named bytes))) all.consumes all.end
           (counted (capture_of named t) (cut_accepts target named t b.written a.written b.reported a.reported fault kind cut)));
     }))
 
