@@ -31,7 +31,7 @@ pub(crate) struct CaptureFollow {
 impl CaptureFollow {
     // Nothing was read.
     pub(crate) fn new(alloc: Global, week: Option<RefWeek>, to: &CaptureTo) -> CaptureFollow
-        ensures of { (result.to ≡ target_of to.now) × (result.week ≡ week) }
+        ensures made { (result.to ≡ target_of to.now) × (result.week ≡ week) }
         ensures fresh { result.lines.rest ≡ [] }
         ensures waits { IsWaiting result.lines }
         ensures behind { (start begun : Option (List ℕ)) → IsBehind result.to result.week

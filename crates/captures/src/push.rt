@@ -2,10 +2,10 @@
 
 ghost use Rattle.std.specs.Prelude.{◌≡◌, ◌<◌, ◌≤◌, ℕ, List};
 ghost use Rattle.std.specs.Prelude.{[], ◌++◌, length, take, Option, None};
-ghost use Rattle.std.specs.Prelude.{Some, Err, IsTrue, IsErrOf, IfErr, IfOk, IfSome, OnErr, OnOk};
+ghost use Rattle.std.specs.Prelude.{Some, Err, IsErrOf, IfErr, IfOk, IfSome, OnOk};
 ghost use Rattle.one_run.specs.Causes.{HasItsCause, faults_of};
 ghost use Rattle.captures.specs.Captures.{target_of};
-ghost use Rattle.captures.specs.Pushed.{IsCutShort, IsPushed, IsReady, IsWhole};
+ghost use Rattle.captures.specs.Pushed.{IsCutShort, IsPushed, IsWhole};
 
 use crate::counts::CaptureCounts;
 use crate::follow::CaptureFollow;
