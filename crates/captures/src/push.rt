@@ -11,7 +11,7 @@ use crate::counts::CaptureCounts;
 use crate::follow::CaptureFollow;
 use crate::target::CaptureTo;
 use nav_eph::RefWeek;
-use nav_io::{Failed, Sink, Source};
+use nav_io::{Failed, Lent, Sink, Source, give};
 use one_run::BridgeFault;
 use std::alloc::Global;
 use std::marker::Model;
@@ -44,38 +44,6 @@ impl<'a> Source for Piece<'a> {
         let count = give(self.rest, into);
         self.rest = &self.rest[count..];
         Ok(count)
-    }
-}
-
-// Copies the prefix that there is room for.
-fn give(rest: &[u8], into: &mut [u8]) -> usize
-    requires { 0 < length rest.now }
-    ensures rest { result ≤ length rest.now }
-    ensures fits { result ≤ length into.new }
-    ensures bytes { take result into.new ≡ take result rest.now }
-    ensures some { 0 < length into.new → 0 < result }
-{
-    let count = rest.len().min(into.len());
-    into[..count].copy_from_slice(&rest[..count]);
-    count
-}
-
-// The end of an input.
-#[derive(Drop)]
-struct End;
-
-impl Source for End {
-    ghost use Rattle.std.specs.Prelude.{Some, true, []};
-
-    ghost left = { λ _. Some [] };
-
-    ghost faults = { λ _. 0 };
-
-    ghost never_fails = { λ _. true };
-
-    /// Gives nothing.
-    fn read(&mut self, _into: &mut [u8]) -> Result<usize, Failed> {
-        Ok(0)
     }
 }
 
@@ -216,7 +184,7 @@ impl CaptureRun {
         if let Some(fault) = fault {
             return Err(fault);
         }
-        let counts = match follow.advance(&mut End, output, report) {
+        let counts = match follow.advance(&mut Lent { left: &[] }, output, report) {
             Ok(counts) => counts,
             Err(fault) => return Err(fault),
         };

@@ -34,6 +34,7 @@ ghost use Rattle.nav_io.specs.Prefix.{AppendsPrefix};
 
 mod edge;
 mod laws;
+mod lent;
 mod lines;
 mod memory;
 mod pieces;
@@ -44,6 +45,7 @@ pub use crate::laws::{
     lines_given_are_those_of_the_bytes, pieces_are_those_between_the_ends, the_end_stays,
     too_many_bytes_stay_too_many, written_lines_are_given,
 };
+pub use crate::lent::{Lent, give};
 pub use crate::lines::{LineFault, LineKind, Lines, first_end, length_without_cr};
 pub use crate::memory::{MemSink, MemSource};
 pub use crate::pieces::{MOST_TAKEN, read_piece};

@@ -5,9 +5,9 @@ ghost use Rattle.one_run.specs.Ends.{number_of};
 ghost use Rattle.navbridge_c.specs.Conversions.{Converts, made_of};
 ghost use Rattle.navbridge_c.specs.Mirrors.{HasEndedInMemory, in_memory, in_room};
 
-use crate::memory::Lent;
 use bridge_engine::run_job;
 use c_calls::{GrowingSink, push};
+use nav_io::Lent;
 use one_run::Status;
 use raw_values::put;
 use std::alloc::Global;

@@ -17,7 +17,6 @@
 
 mod convert;
 mod deframer;
-mod memory;
 mod pages;
 mod push;
 

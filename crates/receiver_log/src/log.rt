@@ -24,7 +24,7 @@ use crate::state::{Log, LogCounts, LogState, MessageCounts};
 use crate::{LogMessage, LogReason};
 use arrayvec::ArrayVec;
 use framing::MessageDeframer;
-use nav_io::{Failed, Source};
+use nav_io::{Failed, Source, give};
 use one_run::{BridgeFault, read_piece};
 
 // The most bytes of one read.
@@ -250,8 +250,7 @@ impl<J: Receiver> Log<J> {
         ensures rest { waiting_of self.new ≡ drop result (waiting_of self.old) }
         ensures view { view_of self.new ≡ view_of self.old }
     {
-        let count = (self.lines.len() - self.given).min(into.len());
-        into[..count].copy_from_slice(&self.waiting()[..count]);
+        let count = give(self.waiting(), into);
         self.given += count;
         count
     }

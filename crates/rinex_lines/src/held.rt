@@ -7,7 +7,7 @@ ghost use Rattle.nav_io.specs.Lines.{ends};
 use crate::columns::{Line, append, padded};
 use crate::lines::{after, is_cut, line_at};
 use crate::place::Place;
-use nav_io::{Failed, Source, first_end, length_without_cr, read_piece};
+use nav_io::{Failed, Source, first_end, give, length_without_cr, read_piece};
 use std::marker::Model;
 
 /// The number of bytes at which a file is too long.
@@ -328,9 +328,7 @@ impl Held {
         ensures ended { self.new.ended ≡ self.old.ended }
         ensures taken { self.new.taken ≡ self.old.taken }
     {
-        let waiting = &self.out.as_slice()[self.given..];
-        let count = waiting.len().min(into.len());
-        into[..count].copy_from_slice(&waiting[..count]);
+        let count = give(&self.out.as_slice()[self.given..], into);
         self.given += count;
         count
     }

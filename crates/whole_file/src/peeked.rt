@@ -6,7 +6,7 @@ ghost use Rattle.std.specs.Prelude.{IsTrue, IsOk, IfOk, IfErr, OnOk, MatchResult
 ghost use Rattle.std.specs.Io.KnownBytes.{Consumes, IsAtEnd, Keeps};
 ghost use Rattle.nav_io.specs.Causes.{HasCause, Rose};
 
-use nav_io::{Failed, Source};
+use nav_io::{Failed, Source, give};
 use std::alloc::{AllocError, Global};
 
 /// Why a source could not be peeked at.
@@ -160,16 +160,4 @@ fn read_part<S: Source>(source: &mut S, piece: &mut [u8], most: usize) -> Result
 {
     let len = most.min(piece.len());
     source.read(&mut piece[..len])
-}
-
-// Copies the first of the bytes left in the prefix.
-fn give(kept: &[u8], into: &mut [u8]) -> usize
-    ensures kept { result ≤ length kept.now }
-    ensures fits { result ≤ length into.new }
-    ensures bytes { take result into.new ≡ take result kept.now }
-    ensures end { result ≡ 0 → 0 < length into.new → kept.now ≡ [] }
-{
-    let count = into.len().min(kept.len());
-    into[..count].copy_from_slice(&kept[..count]);
-    count
 }

@@ -1,6 +1,6 @@
 use Rattle.std.proofs.Common.{refl, sym, ap, ◌∙◌}
 use Rattle.c_calls.specs.declared.kept.GrowingSink.{GrowingSink}
-use Rattle.navbridge_c.specs.declared.memory.Lent.{Lent}
+use Rattle.nav_io.specs.declared.lent.Lent.{Lent}
 use Rattle.navbridge_c.specs.Mirrors.{in_memory}
 use Rattle.navbridge_c.proofs.Endings.{ended_in_memory, no_job_made}
 use Rattle.navbridge_c.proofs.convert.run_words.Goals as goal

@@ -2,12 +2,13 @@
 
 ghost use Rattle.std.specs.Prelude.{◌≡◌, ◌<◌, ◌≤◌, [], length, take};
 
-use nav_io::{Failed, Source};
+use crate::{Failed, Source};
 
-// Bytes that are lent. It never fails.
+/// Bytes that are lent, as a source. It never fails.
 #[derive(Drop)]
-pub(crate) struct Lent<'a> {
-    pub(crate) left: &'a [u8],
+pub struct Lent<'a> {
+    /// The bytes that are left.
+    pub left: &'a [u8],
 }
 
 impl<'a> Source for Lent<'a> {
@@ -27,8 +28,8 @@ impl<'a> Source for Lent<'a> {
     }
 }
 
-// Copies the prefix that there is room for.
-fn give(left: &[u8], into: &mut [u8]) -> usize
+/// Copies the first of some bytes, as many as fit, and gives how many.
+pub fn give(left: &[u8], into: &mut [u8]) -> usize
     ensures left { result ≤ length left.now }
     ensures fits { result ≤ length into.new }
     ensures bytes { take result into.new ≡ take result left.now }
