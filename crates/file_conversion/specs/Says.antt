@@ -12,13 +12,14 @@ use Rattle.whole_file.specs.declared.faults.FileFault.TheVariants.{AlreadyThere,
 use Rattle.file_conversion.specs.declared.stops.Stop.{Stop}
 use Rattle.file_conversion.specs.declared.stops.Stop.TheVariants as stops
 use Rattle.file_conversion.specs.declared.says.Refusal.{Refusal}
-use Rattle.file_conversion.specs.declared.says.Refusal.TheVariants.{NoSuchConversion, Unready, Foreign, Date, Week, Leap, NoName, NoFiles, SeveralFiles, AmongFiles, Site, NoLongName, NoTimes, NotOpened, Closed, EmptyName, ReadFault, OutputThere, NoFile, MadeBefore, PartThere, SameFile, SameReport, WriteFault, NotAccepted, OtherFrom, NoMemory, ReportFault, TooLong, Word, NotUtf8}
+use Rattle.file_conversion.specs.declared.says.Refusal.TheVariants.{NoSuchConversion, Unready, Packed, Foreign, Date, Week, Leap, NoName, NoFiles, SeveralFiles, AmongFiles, Site, NoLongName, NoFolder, NoTimes, NotOpened, Closed, EmptyName, ReadFault, OutputThere, NoFile, MadeBefore, PartThere, SameFile, SameReport, WriteFault, NotAccepted, OtherFrom, NoMemory, ReportFault, TooLong, Word, NotUtf8}
 
 -- 2 for what was asked, 3 for the input, 4 for the output, 5 for a header, 6 for memory, 7 for the report, 8 for an input that
 -- is too long, 9 for a command-line word
 abbrev pub status_of : Refusal → ℕ
 status_of (NoSuchConversion kind) = 2
 status_of (Unready what command target) = 2
+status_of (Packed what command) = 2
 status_of (Foreign what) = 2
 status_of (Date text) = 2
 status_of (Week text) = 2
@@ -29,6 +30,7 @@ status_of (SeveralFiles name) = 2
 status_of AmongFiles = 2
 status_of (Site text) = 2
 status_of NoLongName = 2
+status_of (NoFolder name) = 2
 status_of NoTimes = 5
 status_of (NotOpened fault) = 3
 status_of Closed = 3
@@ -38,7 +40,7 @@ status_of (OutputThere name) = 4
 status_of (NoFile name) = 4
 status_of (MadeBefore name) = 4
 status_of (PartThere part) = 4
-status_of (SameFile name) = 4
+status_of (SameFile name) = 2
 status_of (SameReport name) = 4
 status_of (WriteFault name fault) = 4
 status_of (NotAccepted kind) = 5

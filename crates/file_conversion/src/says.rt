@@ -20,6 +20,8 @@ pub enum Refusal<'a> {
     NoSuchConversion(Kind),
     /// The file is such, and to be made ready by this command for a conversion to the target.
     Unready(&'static str, &'static str, Target),
+    /// The file is packed so, and unpacked by this command.
+    Packed(&'static str, &'static str),
     /// The file is of this other format, which has no orbits to convert.
     Foreign(&'static str),
     /// The value of `--date` is not a date.
@@ -40,6 +42,8 @@ pub enum Refusal<'a> {
     Site(&'a str),
     /// What is made is no navigation file of a file, which a long name could have.
     NoLongName,
+    /// The directory for a long name is none.
+    NoFolder(&'a str),
     /// The data has no time for a long name.
     NoTimes,
     /// The input was not opened.
@@ -88,6 +92,7 @@ impl Refusal<'_> {
         match self {
             Refusal::NoSuchConversion(_)
             | Refusal::Unready(_, _, _)
+            | Refusal::Packed(_, _)
             | Refusal::Foreign(_)
             | Refusal::Date(_)
             | Refusal::Week(_)
@@ -97,7 +102,9 @@ impl Refusal<'_> {
             | Refusal::SeveralFiles(_)
             | Refusal::AmongFiles
             | Refusal::Site(_)
-            | Refusal::NoLongName => 2,
+            | Refusal::NoLongName
+            | Refusal::NoFolder(_)
+            | Refusal::SameFile(_) => 2,
             Refusal::NotOpened(_)
             | Refusal::Closed
             | Refusal::EmptyName
@@ -106,7 +113,6 @@ impl Refusal<'_> {
             | Refusal::NoFile(_)
             | Refusal::MadeBefore(_)
             | Refusal::PartThere(_)
-            | Refusal::SameFile(_)
             | Refusal::SameReport(_)
             | Refusal::WriteFault(_, _) => 4,
             Refusal::NotAccepted(_) | Refusal::OtherFrom(_) | Refusal::NoTimes => 5,
@@ -198,7 +204,7 @@ impl Refusal<'_> {
     fn sentence(&self) -> &'static str {
         match self {
             Refusal::NoSuchConversion(_) => "it is {}; ",
-            Refusal::Unready(_, _, _) => "it is {}: ",
+            Refusal::Unready(_, _, _) | Refusal::Packed(_, _) => "it is {}: ",
             Refusal::Foreign(_) => "it is {}; it has no orbits to convert",
             Refusal::Date(_) => "--date {}: write it as \"20240101 000000 UTC\"",
             Refusal::Week(_) => "--week {}: 1024 to 8191, in digits alone",
@@ -214,6 +220,8 @@ impl Refusal<'_> {
             Refusal::NoLongName => {
                 "--long-name needs a navigation file as output, next to its input or in an existing directory"
             }
+            Refusal::NoFolder(_) =>
+                "{} is not an existing directory, as --long-name needs it with -o",
             Refusal::NoTimes => "it has no ephemeris, whose time a long name needs",
             Refusal::NotOpened(_) | Refusal::NotAccepted(_) => "",
             Refusal::Closed => "standard input is closed",
@@ -246,6 +254,7 @@ impl Refusal<'_> {
             | Refusal::Leap(text)
             | Refusal::SeveralFiles(text)
             | Refusal::Site(text)
+            | Refusal::NoFolder(text)
             | Refusal::OutputThere(text)
             | Refusal::NoFile(text)
             | Refusal::MadeBefore(text)
@@ -255,6 +264,7 @@ impl Refusal<'_> {
             | Refusal::WriteFault(text, _)
             | Refusal::Word(text)
             | Refusal::Unready(text, _, _)
+            | Refusal::Packed(text, _)
             | Refusal::Foreign(text) => text,
             _ => "",
         }
@@ -278,7 +288,7 @@ impl Refusal<'_> {
             | Refusal::ReadFault(_, fault)
             | Refusal::WriteFault(_, fault) => fault_text(fault),
             Refusal::NotAccepted(kind) => header_text(kind),
-            Refusal::Unready(_, command, _) => command,
+            Refusal::Unready(_, command, _) | Refusal::Packed(_, command) => command,
             _ => "",
         }
     }
@@ -289,6 +299,7 @@ impl Refusal<'_> {
             Refusal::WriteFault(_, FileFault::NotFound) => "",
             Refusal::WriteFault(name, _) if *name == STANDARD_OUTPUT => "",
             Refusal::WriteFault(_, _) => "; it is unchanged",
+            Refusal::Packed(_, _) => " > NEW, and name NEW in its place",
             _ => "",
         }
     }

@@ -7,9 +7,10 @@ use crate::forms::FormatList;
 use crate::letters::Letter;
 use crate::outputs::{Output, output_of};
 use crate::rejections::Rejections;
-use crate::reports::{is_headed, report_of};
+use crate::reports::report_of;
 use crate::staged::{Before, staged_of};
 use crate::taken::Known;
+use crate::tally::is_headed;
 use crate::telling::{tell_file, tell_program};
 use crate::values::{Wanted, wanted_of};
 use crate::words::is_broken;
@@ -48,6 +49,7 @@ fn do_wanted(rt: &HostRuntime, asked: &Asked, wanted: Wanted) -> u8 {
                 is_check: asked.has("check"),
                 is_json: asked.has("json"),
                 is_quiet: asked.has("quiet"),
+                is_joined: !joined(asked).is_empty(),
                 count: Cell::new(0),
             };
             let letter = Cell::new(0);
@@ -86,6 +88,7 @@ fn convert_asked<'x, 'a>(
     let settings = Settings {
         rt,
         wanted,
+        joined: joined(asked),
         staged: &[],
         before: Before::new(),
         output: output_of(rt, asked),
@@ -102,6 +105,14 @@ fn convert_asked<'x, 'a>(
     match asked.files() {
         None => 0,
         Some(files) => convert_staged(&settings, files),
+    }
+}
+
+// The files, where they make one output.
+fn joined<'x>(asked: &'x Asked) -> &'x [&'x str] {
+    match asked.files() {
+        Some(files) if are_joined(asked.to(), files) => files,
+        _ => &[],
     }
 }
 
@@ -144,7 +155,7 @@ fn convert_files<'a>(settings: &Settings<'a>, files: &'a [&'a str]) -> u8 {
     let mut status = 0;
     for file in files {
         settings.rejections.count.set(0);
-        let ended = if files.len() == 1 || is_headed(settings, file) {
+        let ended = if files.len() == 1 || is_headed(settings.report, file) {
             convert_file(settings, file, &mut known)
         } else {
             tell_file(settings, file, &Refusal::ReportFault)

@@ -3,7 +3,7 @@
 use crate::dry::show_files;
 use crate::forms::file_kind;
 use crate::headers::{headed, read_ahead};
-use crate::inputs::{Inputs, Staged};
+use crate::inputs::{Inputs, Staged, starts_of};
 use crate::letters::Letter;
 use crate::long_names::convert_named;
 use crate::outputs::{Output, name_of, owned, placed};
@@ -12,8 +12,8 @@ use crate::place::Goal;
 use crate::rejections::Rejections;
 use crate::staged::Before;
 use crate::steps::{Goes, made_by};
-use crate::taken::{Known, is_closed, is_read_once, is_same_file, taken};
-use crate::telling::tell_file;
+use crate::taken::{Known, is_closed, is_read_once, is_same_file, is_stream, taken};
+use crate::telling::{tell_file, tell_program};
 use crate::values::Wanted;
 use crate::words::is_broken;
 use file_conversion::{Refusal, STANDARD_OUTPUT, Target, ending_of, is_converted};
@@ -29,6 +29,8 @@ pub(crate) struct Settings<'a> {
     pub rt: &'a HostRuntime,
     /// What is asked of each file.
     pub wanted: Wanted,
+    /// The files, where they make one output.
+    pub joined: &'a [&'a str],
     /// The bytes that replace files which were converted before.
     pub staged: &'a [Staged],
     /// What was rejected and skipped of those.
@@ -67,6 +69,7 @@ pub(crate) fn convert_file<'a>(
     let inputs = Inputs {
         names: from_ref(file),
         staged: settings.staged,
+        starts: &[],
     };
     convert(settings, file, inputs, known)
 }
@@ -106,9 +109,13 @@ pub(crate) fn convert_joined<'a>(
             return status;
         }
     }
+    let Ok(starts) = starts_of(settings.rt.alloc(), files.len()) else {
+        return tell_program(settings.rt, &Refusal::NoMemory);
+    };
     let inputs = Inputs {
         names: files,
         staged: settings.staged,
+        starts: starts.as_slice(),
     };
     match files.first() {
         None => 0,
@@ -145,6 +152,7 @@ fn convert<'a>(
             let inputs = Inputs {
                 names: inputs.names,
                 staged: &ahead,
+                starts: &[],
             };
             convert_headed(settings, first, inputs, known)
         }
@@ -170,7 +178,7 @@ fn convert_headed<'a>(
     }
     match settings.output {
         Output::Standard => convert_unnamed(settings, first, inputs),
-        Output::Beside if first == "-" => convert_unnamed(settings, first, inputs),
+        Output::Beside if is_stream(first) => convert_unnamed(settings, first, inputs),
         _ => match named(settings, first) {
             Ok(name) => put_free(settings, first, inputs, name.as_str(), known),
             Err(refusal) => tell_file(settings, first, &refusal),

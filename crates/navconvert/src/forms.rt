@@ -107,6 +107,7 @@ pub(crate) fn file_kind(
     let inputs = Inputs {
         names: from_ref(&file),
         staged: &[],
+        starts: &[],
     };
     input_kind(settings, named, opened(settings.rt, inputs))
 }

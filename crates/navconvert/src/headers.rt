@@ -94,7 +94,12 @@ fn leap_of_file(settings: &Settings, file: &str, staged: &[Staged]) -> Option<u8
 
 // The leap seconds of the first header of inputs.
 fn leap_in<'a>(rt: &'a HostRuntime, names: &'a [&'a str], staged: &'a [Staged]) -> Option<u8> {
-    match opened(rt, Inputs { names, staged }) {
+    let inputs = Inputs {
+        names,
+        staged,
+        starts: &[],
+    };
+    match opened(rt, inputs) {
         Ok(input) => leap_of_header(input),
         Err(_) => None,
     }

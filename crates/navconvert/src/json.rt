@@ -25,6 +25,30 @@ impl fmt::Display for Quoted<'_> {
     }
 }
 
+/// The name of a file, and those of the files that make one output with it, if there are any, as
+/// members of an object.
+#[derive(Clone, Copy)]
+pub(crate) struct Names<'a> {
+    /// The file.
+    pub file: &'a str,
+    /// The files that make one output.
+    pub joined: &'a [&'a str],
+}
+
+impl fmt::Display for Names<'_> {
+    fn fmt<W: fmt::Write>(&self, f: &mut fmt::Formatter<W>) -> fmt::Result {
+        f.write_str("\"file\":")?;
+        Quoted(self.file).fmt(f)?;
+        let mut mark = ",\"files\":[";
+        for name in self.joined {
+            f.write_str(mark)?;
+            Quoted(name).fmt(f)?;
+            mark = ",";
+        }
+        f.write_str(if self.joined.is_empty() { "" } else { "]" })
+    }
+}
+
 // Writes a character.
 fn write_letter<W: fmt::Write>(f: &mut fmt::Formatter<W>, letter: char) -> fmt::Result {
     match letter {

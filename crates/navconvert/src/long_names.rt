@@ -10,7 +10,7 @@ use crate::outputs::{Output, placed};
 use crate::parts::part_name;
 use crate::place::Goal;
 use crate::steps::{Goes, made_by};
-use crate::taken::{Known, is_read_once, taken};
+use crate::taken::{Known, is_read_once, is_stream, taken};
 use crate::telling::tell_file;
 use bridge_engine::Times;
 use file_conversion::{Done, Refusal, Target, long_name};
@@ -45,8 +45,11 @@ pub(crate) fn convert_named<'a>(
 }
 
 // The name of the part, where the output is a navigation file in a folder: it stands there.
-fn part_for(settings: &Settings, first: &str, site: &str) -> Result<String, Refusal<'static>> {
+fn part_for<'a>(settings: &Settings<'a>, first: &str, site: &str) -> Result<String, Refusal<'a>> {
     let alloc = settings.rt.alloc();
+    if let Output::File(name) = settings.output {
+        return Err(Refusal::NoFolder(name));
+    }
     if !is_named(settings, first) {
         return Err(Refusal::NoLongName);
     }
@@ -54,7 +57,7 @@ fn part_for(settings: &Settings, first: &str, site: &str) -> Result<String, Refu
         return Err(Refusal::AmongFiles);
     }
     let own = match Path::new(first).file_name() {
-        Some(own) if first != "-" => own,
+        Some(own) if !is_stream(first) => own,
         _ => site,
     };
     match placed(alloc, settings.output, first, own) {
@@ -69,7 +72,7 @@ fn part_for(settings: &Settings, first: &str, site: &str) -> Result<String, Refu
 // Whether an output gets a long name: it is a navigation file, beside its input or in a folder.
 fn is_named(settings: &Settings, first: &str) -> bool {
     let is_placed = match settings.output {
-        Output::Beside => first != "-",
+        Output::Beside => !is_stream(first),
         Output::Folder(_) => true,
         Output::File(_) | Output::Standard => false,
     };

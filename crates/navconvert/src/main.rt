@@ -10,6 +10,7 @@
 mod choices;
 mod clock;
 mod command;
+mod counts;
 mod diff;
 mod dry;
 mod files;

@@ -10,7 +10,7 @@ use crate::made::Made;
 use crate::parts::begun;
 use crate::systems::Skips;
 use crate::watch::{Watch, Watched};
-use file_conversion::Refusal;
+use file_conversion::{Refusal, Target};
 use nav_io::{Failed, Sink, WriteSink};
 use std::fs::File;
 use std::io::Stdout;
@@ -107,6 +107,7 @@ pub(crate) struct Place<'a> {
     named: Option<Kind>,
     inputs: Inputs<'a>,
     goal: Goal,
+    target: Target,
     watch: Watch,
     made: Made,
     // the system of what is made, where its name has it
@@ -125,8 +126,9 @@ impl<'a> Place<'a> {
             named: settings.wanted.form,
             inputs,
             goal,
+            target: settings.wanted.target,
             watch: Watch::new(settings.wanted.form),
-            made: Made::new(),
+            made: Made::new(settings.wanted.target),
             letter: match settings.site {
                 None => None,
                 Some(_) => Some(settings.letter),
@@ -222,7 +224,7 @@ impl<'a> Folder for Place<'a> {
         match self.outlet(part) {
             Ok(outlet) => Ok(Draft {
                 outlet,
-                made: Made::new(),
+                made: Made::new(self.target),
                 letters: self.letters(),
             }),
             Err(fault) => Err(self.folder.failed(fault)),

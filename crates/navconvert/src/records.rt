@@ -17,6 +17,8 @@ pub(crate) struct Records {
     line: ArrayVec<u8, ROOM>,
     number: u64,
     in_header: bool,
+    // whether the first header has ended
+    is_behind: bool,
     // the lines of a record so far
     place: u64,
     is_galileo: bool,
@@ -36,6 +38,7 @@ impl Records {
             line: ArrayVec::new(),
             number: 0,
             in_header: true,
+            is_behind: false,
             place: 0,
             is_galileo: false,
             skips: Skips::new(),
@@ -44,17 +47,31 @@ impl Records {
         }
     }
 
-    /// Sees a piece of the file.
-    pub(crate) fn see(&mut self, piece: &[u8]) {
-        let mut rest = piece;
+    /// Sees a piece of the file. Where a later header of RINEX 3 has a line that would begin a
+    /// record, the line becomes one that begins none.
+    pub(crate) fn see(&mut self, piece: &mut [u8]) {
+        let mut from = 0usize;
         for _ in 0..piece.len() {
+            self.blank(piece, from);
+            let rest = piece.get(from..).unwrap_or(&[]);
             let Some(end) = memchr(b'\n', rest) else {
                 break;
             };
-            self.see_end(&rest[..end]);
-            rest = rest.get(end.saturating_add(1)..).unwrap_or(&[]);
+            self.see_end(rest.get(..end).unwrap_or(&[]));
+            from = from.saturating_add(end).saturating_add(1);
         }
-        self.keep(rest);
+        self.keep(piece.get(from..).unwrap_or(&[]));
+    }
+
+    // Has a line begin with a blank, if it begins at this place, in a later header of RINEX 3.
+    fn blank(&self, piece: &mut [u8], from: usize) {
+        if self.in_header && self.is_behind && self.version == b'3' && self.line.is_empty() {
+            if let Some(first) = piece.get_mut(from) {
+                if *first != b'\n' && *first != b'\r' {
+                    *first = b' ';
+                }
+            }
+        }
     }
 
     // Keeps the beginning of a line.
@@ -85,6 +102,7 @@ impl Records {
             self.see_version(line);
         } else if self.in_header {
             self.in_header = !is_labelled(line, b"END OF HEADER");
+            self.is_behind = self.is_behind || !self.in_header;
             self.see_header(line);
         } else if self.version == b'4' {
             self.see_line4(line);
@@ -200,8 +218,8 @@ pub(crate) fn version_of(line: &[u8]) -> u8 {
     b' '
 }
 
-// Whether a line begins as a record of RINEX 3: `R05 2024 `.
-fn begins_record3(line: &[u8]) -> bool {
+/// Whether a line begins as a record of RINEX 3: `R05 2024 `.
+pub(crate) fn begins_record3(line: &[u8]) -> bool {
     match line {
         [letter, _, ones, b' ', a, b, c, d, b' ', ..] => {
             letter.is_ascii_uppercase()

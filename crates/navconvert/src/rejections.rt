@@ -16,34 +16,80 @@ pub(crate) struct Rejections<'a> {
     pub is_json: bool,
     /// Whether they are not printed.
     pub is_quiet: bool,
+    /// Whether several files make one output.
+    pub is_joined: bool,
     /// How many there are.
     pub count: Cell<u64>,
 }
 
-impl Rejections<'_> {
-    /// Prints a rejection in this file, if it is checked and the line of its report is one.
-    pub(crate) fn see(&self, file: &str, line: &[u8]) {
-        let Some((unit, number, reason)) = rejection_of(line) else {
-            return;
+/// A rejection, as a line of a report has it.
+#[derive(Clone, Copy)]
+pub(crate) struct Rejection<'x> {
+    /// What is counted.
+    pub unit: &'x str,
+    /// Its number.
+    pub number: u64,
+    /// The reason.
+    pub reason: &'x str,
+}
+
+impl<'x> Rejection<'x> {
+    /// That of a line such as `line 48 parity 3`; none of counts, one a line.
+    pub(crate) fn new(line: &'x [u8]) -> Option<Rejection<'x>> {
+        let Ok(text) = from_utf8(line.trim_ascii_end()) else {
+            return None;
         };
+        let (unit, rest) = text.split_once(' ')?;
+        let (number, reason) = rest.split_once(' ')?;
+        match number.parse::<u64>() {
+            Ok(number) => Some(Rejection {
+                unit,
+                number,
+                reason,
+            }),
+            Err(_) => None,
+        }
+    }
+}
+
+impl Rejections<'_> {
+    /// Prints a rejection in this file, if it is checked.
+    pub(crate) fn see(&self, file: &str, rejection: Rejection) {
         if !self.is_check {
             return;
         }
+        let Rejection {
+            unit,
+            number,
+            reason,
+        } = rejection;
         let before = self.count.get();
         self.count.set(before.saturating_add(1));
         if self.is_json {
-            let mark = if before == 0 {
-                "{\"rejections\":["
-            } else {
-                ","
-            };
-            let _ = print!(self.rt;
-                "{mark}{{\"unit\":\"{unit}\",\"number\":{number},\"reason\":\"{reason}\"}}"
-            );
+            self.see_object(before == 0, file, rejection);
         } else if !self.is_quiet {
             let file = Shown(file);
             let _ = println!(self.rt; "{file}: {unit} {number}: {reason}");
         }
+    }
+
+    // Prints it as an object of JSON, the first one or one behind others, with the file if there
+    // are several.
+    fn see_object(&self, is_first: bool, file: &str, rejection: Rejection) {
+        let Rejection {
+            unit,
+            number,
+            reason,
+        } = rejection;
+        let mark = if is_first { "{\"rejections\":[" } else { "," };
+        let _ = print!(self.rt; "{mark}{{");
+        if self.is_joined {
+            let file = Quoted(file);
+            let _ = print!(self.rt; "\"file\":{file},");
+        }
+        let _ = print!(self.rt;
+            "\"unit\":\"{unit}\",\"number\":{number},\"reason\":\"{reason}\"}}"
+        );
     }
 
     /// The exit status of a file that was read to its end.
@@ -59,17 +105,4 @@ impl Rejections<'_> {
             (true, _) => "],",
         }
     }
-}
-
-// The unit, its number and the reason, as of `line 48 parity 3`; none of counts, one a line.
-fn rejection_of(line: &[u8]) -> Option<(&str, &str, &str)> {
-    let Ok(text) = from_utf8(line.trim_ascii_end()) else {
-        return None;
-    };
-    let (unit, rest) = text.split_once(' ')?;
-    let (number, reason) = rest.split_once(' ')?;
-    if number.contains('\n') {
-        return None;
-    }
-    Some((unit, number, reason))
 }

@@ -1,10 +1,9 @@
 //! Where reports go.
 
 use crate::command::Asked;
-use crate::files::{Settings, are_joined};
+use crate::files::are_joined;
 use crate::outputs::{Output, name_of, output_of, placed};
-use crate::taken::{input_path, is_same_file, is_standard_output};
-use crate::tally::is_put;
+use crate::taken::{input_path, is_same_file, is_standard_output, is_stream};
 use file_conversion::{Refusal, Target, ending_of};
 use std::fs::File;
 use std::io;
@@ -56,7 +55,7 @@ fn naming<'x, 'a>(target: Target, files: &'x [&'a str]) -> &'x [&'a str] {
 fn is_output(rt: &HostRuntime, asked: &Asked, output: Output, file: &str, name: &str) -> bool {
     match output {
         Output::Standard => is_standard_output(rt, name),
-        Output::Beside if file == "-" => is_standard_output(rt, name),
+        Output::Beside if is_stream(file) => is_standard_output(rt, name),
         Output::File(output) => is_same_file(rt, output, name),
         Output::Beside | Output::Folder(_) => {
             asked.value("long-name").is_none() && is_placed(rt, asked, output, file, name)
@@ -103,11 +102,4 @@ fn created(rt: &HostRuntime, name: &str, overwrites: bool) -> io::Result<File> {
     } else {
         File::create_new(rt, name)
     }
-}
-
-/// Writes the name of a file before what is reported of it; whether that was done.
-pub(crate) fn is_headed(settings: &Settings, file: &str) -> bool {
-    is_put(settings.report, b"file ")
-        && is_put(settings.report, file.as_bytes())
-        && is_put(settings.report, b"\n")
 }

@@ -1,17 +1,17 @@
 //! Files of RINEX 3 and 2 that are merged: they are converted to RINEX 4 first, in memory, as
 //! `navconvert` converts each alone.
 
+use crate::counts::counted;
 use crate::files::Settings;
 use crate::forms::file_kind;
 use crate::inputs::{Inputs, Staged};
 use crate::meter::Meter;
 use crate::parts::part_name;
 use crate::place::{Goal, Place, Seen};
-use crate::reports::is_headed;
 use crate::steps::converted;
-use crate::summary::counted;
 use crate::systems::Skips;
 use crate::taken::is_read_once;
+use crate::tally::is_headed;
 use crate::telling::tell_file;
 use crate::values::Wanted;
 use file_conversion::{Done, Outcome, Refusal, Target, refusal_of};
@@ -104,7 +104,7 @@ fn converted_bytes<'a>(
     kind: Kind,
     before: &mut Before,
 ) -> Result<Vec<u8>, u8> {
-    if !is_headed(settings, file) {
+    if !is_headed(settings.report, file) {
         return Err(tell_file(settings, file, &Refusal::ReportFault));
     }
     let alloc = settings.rt.alloc();
@@ -131,11 +131,12 @@ fn convert_by<'a>(
     let inputs = Inputs {
         names: from_ref(file),
         staged: &[],
+        starts: &[],
     };
     let mut place = Place::new(first, inputs, Goal::Memory);
     let mut name = name;
     let meter = Meter::off(first.rt);
-    let outcome = converted(first, &mut place, meter, file, part, &mut name);
+    let outcome = converted(first, &mut place, meter, inputs, part, &mut name);
     let Outcome {
         done,
         report: _,

@@ -7,7 +7,7 @@ use crate::notes::Notes;
 use crate::outputs::size_of;
 use crate::place::{Goal, Place};
 use crate::tally::{ReportFile, Reported};
-use crate::telling::{Saying, tell_file};
+use crate::telling::{Saying, of_file, tell_file};
 use file_conversion::{Done, Made, Observers, Outcome, Refusal, Stop, convert_one, finish};
 use whole_file::Namer;
 
@@ -36,10 +36,11 @@ pub(crate) fn made_by<'x, 'a, A: Namer<Option<Done>>>(
 ) -> (u8, Option<String>) {
     let mut place = Place::new(settings, inputs, goes.goal);
     let meter = meter_of(settings, first, inputs.names, goes.goal);
-    let outcome = converted(settings, &mut place, meter, first, goes.part, names);
+    let outcome = converted(settings, &mut place, meter, inputs, goes.part, names);
     let is_stopped = matches!(outcome.done, Err(Stop::Run(_, _, _, _, _) | Stop::Look(_)));
     if let (true, Some(refusal)) = (is_stopped, place.other()) {
-        return (tell_file(settings, first, &refusal), None);
+        let (file, refusal) = of_file(inputs, first, &refusal);
+        return (tell_file(settings, file, &refusal), None);
     }
     if let Err(Stop::Unnamed) = outcome.done {
         return (Refusal::NoTimes.status(), None);
@@ -47,6 +48,7 @@ pub(crate) fn made_by<'x, 'a, A: Namer<Option<Done>>>(
     let mut teller = Saying {
         settings,
         file: first,
+        inputs,
         name: goes.shown,
         seen: place.seen(outcome.kind, is_of_all(&outcome.done)),
         faults: 0,
@@ -58,20 +60,21 @@ pub(crate) fn made_by<'x, 'a, A: Namer<Option<Done>>>(
     }
 }
 
-/// Converts files, the first of which has this name, with what is reported of them if that is
-/// asked.
+/// Converts files, with what is reported of them if that is asked.
 pub(crate) fn converted<'a, A: Namer<Option<Done>>>(
     settings: &Settings<'a>,
     place: &mut Place<'a>,
     progress: Meter<'a>,
-    first: &'a str,
+    inputs: Inputs<'a>,
     part: &str,
     names: &mut A,
 ) -> Outcome<ReportFile<'a>> {
+    let first = inputs.name(0).unwrap_or("");
     let to = Reported {
         report: settings.report,
         rejections: settings.rejections,
         file: first,
+        inputs,
     };
     let observers = Observers {
         report: ReportFile::new(to),

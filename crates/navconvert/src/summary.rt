@@ -1,116 +1,16 @@
 //! What became of a file: as a line, or as the members of an object of JSON.
 
+use crate::counts::{JobCounts, KINDS};
 use crate::dry::week_in;
 use crate::files::Settings;
 use crate::forms::format_word;
 use crate::json::Quoted;
 use crate::place::Seen;
 use crate::systems::{COUNT, SYSTEMS, Skips};
-use bridge_engine::{CaptureCounts, Done as JobDone, Times};
-use file_conversion::{Done, Shown, Target, task_for};
+use file_conversion::{Shown, Target, task_for};
 use receiver_log::LogCounts;
 use std::fmt;
 use whole_file::Kind;
-
-/// What a conversion has counted.
-#[derive(Clone, Copy)]
-pub(crate) struct JobCounts {
-    /// The ephemerides and ionosphere records that were made; none, if they are not counted.
-    pub items: Option<u64>,
-    /// What was rejected, and what else is amiss, in the order of [`AMISS`].
-    pub amiss: [u64; KINDS],
-    /// The records or messages that were skipped.
-    pub skipped: u64,
-    /// Those of `items` and `carried` for which the output format has no record or message; none,
-    /// if they are not counted.
-    pub unwritten: Option<u64>,
-    /// The records of other kinds whose lines are written; none, if they are not counted.
-    pub carried: Option<u64>,
-    /// The GPS week of their last epoch, if it is known.
-    pub last_week: Option<u32>,
-}
-
-/// What is counted of what a conversion has done. Of a capture the messages that are not used are
-/// not told apart.
-pub(crate) fn counted(done: &Option<Done>) -> JobCounts {
-    match done {
-        None => counts_of(None, [0; KINDS], 0),
-        Some(Done::Job(done)) => counted_by(done),
-        Some(Done::Stream(c)) => JobCounts {
-            last_week: week_of(c.times),
-            ..counts_of(Some(c.items), rejected(c.refused), c.unused)
-        },
-        Some(Done::File(c)) => JobCounts {
-            unwritten: Some(c.unwritten),
-            carried: Some(c.carried),
-            ..counts_of(Some(c.items), rejected(c.refused), c.passed)
-        },
-        Some(Done::Merged(c)) => {
-            let again = c.items.saturating_sub(c.kept);
-            let amiss = [c.refused, 0, 0, 0, 0, 0, again, 0];
-            JobCounts {
-                unwritten: Some(c.unwritten),
-                carried: Some(c.carried),
-                ..counts_of(Some(c.kept), amiss, c.passed)
-            }
-        }
-    }
-}
-
-// The week of the last of the epochs.
-fn week_of(times: Option<Times>) -> Option<u32> {
-    match times {
-        None => None,
-        Some(times) => Some(times.last.week()),
-    }
-}
-
-// The same of a conversion of navbridge.
-fn counted_by(done: &JobDone) -> JobCounts {
-    match done {
-        JobDone::Frames(_) | JobDone::Generated(_) => counts_of(None, [0; KINDS], 0),
-        JobDone::Capture(c) => counts_of(Some(c.whole), of_capture(c), 0),
-        JobDone::Stream(c) => counts_of(Some(c.items), rejected(c.refused), c.unused),
-        JobDone::File(c) | JobDone::Sent(c) | JobDone::Covered(c) => {
-            counts_of(Some(c.items), rejected(c.refused), c.passed)
-        }
-        JobDone::Merged(c) => {
-            let again = c.items.saturating_sub(c.kept);
-            counts_of(Some(c.kept), [c.refused, 0, 0, 0, 0, 0, again, 0], c.passed)
-        }
-    }
-}
-
-// Counts of a conversion whose output has whatever was made.
-fn counts_of(items: Option<u64>, amiss: [u64; KINDS], skipped: u64) -> JobCounts {
-    JobCounts {
-        items,
-        amiss,
-        skipped,
-        unwritten: None,
-        carried: None,
-        last_week: None,
-    }
-}
-
-// Nothing is amiss but that so many were rejected.
-fn rejected(count: u64) -> [u64; KINDS] {
-    [count, 0, 0, 0, 0, 0, 0, 0]
-}
-
-// What is amiss in a capture.
-fn of_capture(c: &CaptureCounts) -> [u64; KINDS] {
-    [
-        c.refused,
-        c.malformed,
-        c.late,
-        c.partial,
-        c.contradicted,
-        c.nohealth,
-        c.again,
-        0,
-    ]
-}
 
 /// What became of a file: of what its output is made, what was rejected and skipped of it, and the
 /// week of the clock if it was read by that.
@@ -167,11 +67,48 @@ impl Summary<'_, '_> {
     // What was made: ephemerides and ionosphere records, where they are told apart.
     fn parts(&self) -> Option<(u64, u64)> {
         match (self.settings.wanted.target, self.counted.items) {
-            (Target::Rinex | Target::Merged, Some(_)) => {
-                Some((self.seen.made.ephemerides, self.seen.made.ionospheres))
-            }
+            (Target::Rinex | Target::Merged | Target::Rinex3 | Target::Merged3, Some(_)) => Some((
+                self.seen.made.ephemerides,
+                self.seen.made.ionospheres,
+            )),
             _ => None,
         }
+    }
+
+    // The records of other kinds of the input.
+    fn carried(&self) -> u64 {
+        self.counted.carried.unwrap_or(0)
+    }
+
+    // How many ephemerides and ionosphere records the output has; none, if they are not counted.
+    fn made(&self) -> Option<u64> {
+        let items = self.counted.items?;
+        match self.parts() {
+            Some((ephemerides, ionospheres)) => Some(ephemerides.saturating_add(ionospheres)),
+            None => {
+                let all = items.saturating_add(self.carried());
+                Some(all.saturating_sub(self.counted.unwritten.unwrap_or(0)))
+            }
+        }
+    }
+
+    // How many records of the input the output format does not have; none, if they are not counted.
+    fn unwritten(&self) -> Option<u64> {
+        match (self.settings.wanted.target, self.counted.items) {
+            (Target::Rinex3 | Target::Merged3, Some(items)) => {
+                let all = items.saturating_add(self.carried());
+                Some(all.saturating_sub(self.seen.made.ephemerides))
+            }
+            _ => self.counted.unwritten,
+        }
+    }
+
+    // Whether the output was to have records, and has none.
+    fn is_bare(&self) -> bool {
+        !self.settings.rejections.is_check
+            && !matches!(self.settings.wanted.target, Target::Count)
+            && self.made() == Some(0)
+            && self.seen.made.others == 0
     }
 
     // What was rejected, and what else is amiss, of the inputs that were converted before too.
@@ -179,6 +116,10 @@ impl Summary<'_, '_> {
         let counted = self.counted.amiss.get(place).copied().unwrap_or(0);
         match (place, &self.log) {
             (0, _) => counted.saturating_add(self.settings.before.rejected),
+            (AGAIN, _) if matches!(self.settings.wanted.target, Target::Merged) => {
+                let again = self.carried().saturating_sub(self.seen.made.others);
+                counted.saturating_add(again)
+            }
             (MESSAGES, Some(counts)) => counts.capture.refused,
             _ => counted,
         }
@@ -224,27 +165,22 @@ impl Summary<'_, '_> {
 
     // Writes what was made.
     fn write_made<W: fmt::Write>(&self, f: &mut fmt::Formatter<W>) -> fmt::Result {
-        match (self.parts(), self.counted.items, &self.log) {
+        match (self.parts(), self.made(), &self.log) {
+            _ if self.is_bare() => f.write_str(": nothing converted")?,
             (Some((ephemerides, ionospheres)), _, _) => {
                 write_count(f, ": ", ephemerides, ("ephemeris", "ephemerides"))?;
                 write_some(f, true, ionospheres, ("ionosphere record", ""))?;
-                let carried = self.counted.carried.unwrap_or(0);
-                write_some(f, true, carried, ("other record", ""))?;
-                Ok(())
+                write_some(f, true, self.seen.made.others, ("other record", ""))?;
             }
-            (None, Some(items), _) => {
-                write_count(f, ": made of ", items, ITEMS)?;
-                match self.counted.unwritten {
-                    None | Some(0) => Ok(()),
-                    Some(count) => write!(f, ", {count} not in the output format"),
-                }
-            }
-            (None, None, None) => f.write_str(": written"),
+            (None, Some(made), _) => write_count(f, ": made of ", made, ITEMS)?,
+            (None, None, None) => f.write_str(": written")?,
             (None, None, Some(counts)) => {
                 write_count(f, ": ", counts.capture.subframes, ("subframe", "subframes"))?;
-                write_count(f, ", ", counts.capture.pages, ("page", "pages"))
+                write_count(f, ", ", counts.capture.pages, ("page", "pages"))?;
             }
         }
+        write_some(f, false, self.unwritten().unwrap_or(0), UNWRITTEN)?;
+        Ok(())
     }
 
     // Writes each count of what is amiss that is not 0; whether there is one.
@@ -301,11 +237,15 @@ impl Summary<'_, '_> {
             None => (None, None),
             Some((ephemerides, ionospheres)) => (Some(ephemerides), Some(ionospheres)),
         };
-        write_member(f, ",", "made", self.counted.items)?;
+        write_member(f, ",", "made", self.made())?;
         write_member(f, ",", "ephemerides", ephemerides)?;
         write_member(f, ",", "ionospheres", ionospheres)?;
-        write_member(f, ",", "unwritten", self.counted.unwritten)?;
-        write_member(f, ",", "carried", self.counted.carried)?;
+        let others = match self.counted.carried {
+            None => None,
+            Some(_) => Some(self.seen.made.others),
+        };
+        write_member(f, ",", "unwritten", self.unwritten())?;
+        write_member(f, ",", "carried", others)?;
         for place in 0..KINDS {
             write_member(f, ",", AMISS[place].0, Some(self.amiss(place)))?;
         }
@@ -334,8 +274,11 @@ const ITEMS: (&str, &str) = (
 // What is said of header lines that are not converted.
 const HEADER_LINES: (&str, &str) = ("header line", " of ionosphere and time not converted");
 
+// What is said of records that the output format does not have.
+const UNWRITTEN: (&str, &str) = ("record", " not in the output format");
+
 // What is amiss: its key, its unit, and what is said of so many; the first is of the format's unit.
-const KINDS: usize = 8;
+const AGAIN: usize = 6;
 
 const MESSAGES: usize = 7;
 

@@ -89,6 +89,15 @@ pub(crate) fn input_path(name: &str) -> &str {
     if name == "-" { "/dev/stdin" } else { name }
 }
 
+/// Whether an input of this name is standard input or another descriptor, next to which no output
+/// stands.
+pub(crate) fn is_stream(name: &str) -> bool {
+    name == "-"
+        || name == "/dev/stdin"
+        || name.starts_with("/dev/fd/")
+        || name.starts_with("/proc/self/fd/")
+}
+
 /// Whether standard input is closed: the root directory has its place then.
 pub(crate) fn is_closed(rt: &HostRuntime) -> bool {
     match identity_of(rt, input_path("-")) {

@@ -3,13 +3,16 @@
 ghost use Rattle.std.specs.Prelude.{◌≡◌};
 ghost use Rattle.file_conversion.specs.Says.{status_of};
 
+use crate::counts::counted;
 use crate::files::Settings;
-use crate::json::Quoted;
+use crate::inputs::Inputs;
+use crate::json::{Names, Quoted};
 use crate::outputs::Output;
 use crate::place::Seen;
-use crate::summary::{Summary, counted};
+use crate::summary::Summary;
+use crate::taken::is_stream;
 use crate::tally::{ReportFile, is_put};
-use file_conversion::{Outcome, Refusal, Shown, Teller};
+use file_conversion::{Outcome, Refusal, Shown, Target, Teller};
 use nav_io::Failed;
 use receiver_log::counts_text;
 use std::alloc::AllocError;
@@ -52,13 +55,9 @@ pub(crate) fn tell_file(settings: &Settings, file: &str, refusal: &Refusal) -> u
 fn form_refusal(settings: &Settings, file: &str, kind: Kind) -> Refusal<'static> {
     let target = settings.wanted.target;
     match kind {
-        Kind::Gzip => Refusal::Unready("packed by gzip; unpack it", "gzip -dc FILE", target),
-        Kind::Compress => Refusal::Unready(
-            "packed by compress; unpack it",
-            "gzip -dc FILE",
-            target,
-        ),
-        Kind::Zip => Refusal::Unready("an archive of zip; unpack it", "unzip -p FILE", target),
+        Kind::Gzip => packed_refusal("packed by gzip; unpack it", "gzip -dc FILE", target),
+        Kind::Compress => packed_refusal("packed by compress; unpack it", "gzip -dc FILE", target),
+        Kind::Zip => packed_refusal("an archive of zip; unpack it", "unzip -p FILE", target),
         Kind::Rinex3 if target.takes_several() => {
             let what = "a navigation file of RINEX 3 and read only once; convert it first";
             Refusal::Unready(what, "navconvert -o - - < FILE", target)
@@ -72,15 +71,25 @@ fn form_refusal(settings: &Settings, file: &str, kind: Kind) -> Refusal<'static>
     }
 }
 
+// Why a packed file is not converted: among several, or where it may be of RINEX 3, it has to be
+// unpacked to a file.
+fn packed_refusal(what: &'static str, command: &'static str, target: Target) -> Refusal<'static> {
+    if target.takes_several() {
+        Refusal::Packed(what, command)
+    } else {
+        Refusal::Unready(what, command, target)
+    }
+}
+
 // Why a file of no form that is converted is not: it is of another that is known.
 fn unknown_refusal(settings: &Settings, file: &str) -> Option<Refusal<'static>> {
     let target = settings.wanted.target;
     match first_bytes(settings.rt, file) {
         [b'B', b'Z', b'h', ..] => {
-            Some(Refusal::Unready("packed by bzip2; unpack it", "bzip2 -dc FILE", target))
+            Some(packed_refusal("packed by bzip2; unpack it", "bzip2 -dc FILE", target))
         }
         [0xfd, b'7', b'z', b'X', b'Z', 0] => {
-            Some(Refusal::Unready("packed by xz; unpack it", "xz -dc FILE", target))
+            Some(packed_refusal("packed by xz; unpack it", "xz -dc FILE", target))
         }
         [b'#', b'a' | b'b' | b'c' | b'd', b'P' | b'V', ..] => {
             Some(Refusal::Foreign("a file of SP3, of precise orbits"))
@@ -100,13 +109,36 @@ fn first_bytes(rt: &HostRuntime, file: &str) -> [u8; 6] {
     first
 }
 
+/// What is refused of files, the first of which has this name, as said of the one of them that has
+/// the line or the byte that it names.
+pub(crate) fn of_file<'x, 'a: 'x>(
+    inputs: Inputs<'a>,
+    first: &'x str,
+    refusal: &Refusal<'x>,
+) -> (&'x str, Refusal<'x>) {
+    let (place, refusal) = match *refusal {
+        Refusal::OtherFrom(line) => {
+            let (place, number) = inputs.line_in(0, line);
+            (place, Refusal::OtherFrom(number))
+        }
+        Refusal::ReadFault(count, fault) => {
+            let (place, number) = inputs.bytes_in(count);
+            (place, Refusal::ReadFault(number, fault))
+        }
+        refusal => return (first, refusal),
+    };
+    (inputs.name(place).unwrap_or(first), refusal)
+}
+
 /// Who reports what became of a file, under its name and that of its output.
 #[derive(Drop)]
 pub(crate) struct Saying<'x, 'a> {
     /// What is asked for all files.
     pub settings: &'x Settings<'a>,
-    /// The file.
+    /// The file, of several the first.
     pub file: &'x str,
+    /// The files that were read.
+    pub inputs: Inputs<'a>,
     /// What is reported of its output, if that is not its name.
     pub name: Option<&'x str>,
     /// What was seen of both.
@@ -125,7 +157,8 @@ impl<'a> Teller<ReportFile<'a>> for Saying<'_, 'a> {
         if let Refusal::WriteFault(_, FileFault::ReaderGone) = refusal {
             return;
         }
-        let _ = tell_file(self.settings, self.file, refusal);
+        let (file, refusal) = of_file(self.inputs, self.file, refusal);
+        let _ = tell_file(self.settings, file, &refusal);
     }
 
     fn done(&mut self, outcome: &Outcome<ReportFile<'a>>) -> Result<(), Failed> {
@@ -201,16 +234,19 @@ impl fmt::Display for Failure<'_> {
 // made.
 fn print_object<D: fmt::Display>(settings: &Settings, file: &str, status: u8, members: &D) {
     let head = settings.rejections.head();
-    let name = Quoted(file);
+    let name = Names {
+        file,
+        joined: settings.joined,
+    };
     let is_taken = match settings.output {
         Output::Standard => true,
-        Output::Beside => file == "-",
+        Output::Beside => is_stream(file),
         Output::File(_) | Output::Folder(_) => false,
     };
     let _ = if is_taken && !settings.rejections.is_check {
-        eprintln!(settings.rt; "{head}\"file\":{name},\"status\":{status}{members}}}")
+        eprintln!(settings.rt; "{head}{name},\"status\":{status}{members}}}")
     } else {
-        println!(settings.rt; "{head}\"file\":{name},\"status\":{status}{members}}}")
+        println!(settings.rt; "{head}{name},\"status\":{status}{members}}}")
     };
 }
 

@@ -43,8 +43,8 @@ impl Watch {
         }
     }
 
-    // Sees a piece of the input.
-    fn see(&mut self, piece: &[u8]) {
+    // Sees a piece of the input, in which lines of a later header become ones that begin no record.
+    fn see(&mut self, piece: &mut [u8]) {
         if self.is_told {
             self.see_more(piece);
             return;
@@ -53,7 +53,7 @@ impl Watch {
             self.messages.look(self.named, piece);
         }
         let mut taken = 0usize;
-        for byte in piece {
+        for byte in piece.iter() {
             if self.first.try_push(*byte).is_err() {
                 break;
             }
@@ -61,21 +61,23 @@ impl Watch {
         }
         if self.first.is_full() {
             self.tell();
-            self.see_more(piece.get(taken..).unwrap_or(&[]));
+            if let Some(behind) = piece.get_mut(taken..) {
+                self.see_more(behind);
+            }
         }
     }
 
     // Tells by the first bytes what is looked at, and sees them.
     fn tell(&mut self) {
         self.is_told = true;
-        let first = mem::replace(&mut self.first, ArrayVec::new());
+        let mut first = mem::replace(&mut self.first, ArrayVec::new());
         self.is_capture = first.as_slice().starts_with(b"NAVCAP ");
         self.records = records_of(first.as_slice());
-        self.see_more(first.as_slice());
+        self.see_more(first.as_mut_slice());
     }
 
     // Sees a piece behind the first bytes.
-    fn see_more(&mut self, piece: &[u8]) {
+    fn see_more(&mut self, piece: &mut [u8]) {
         if self.is_capture {
             return;
         }
@@ -187,7 +189,9 @@ impl Source for Watched<'_> {
     fn read(&mut self, into: &mut [u8]) -> Result<usize, Failed> {
         match self.input.read(into) {
             Ok(count) => {
-                self.watch.see(into.get(..count).unwrap_or(&[]));
+                if let Some(piece) = into.get_mut(..count) {
+                    self.watch.see(piece);
+                }
                 if self.watch.other().is_some() {
                     self.faults = self.faults.saturating_add(1);
                     return Err(Failed);
