@@ -35,7 +35,7 @@ and the rest is merged. Links to directories are followed; each directory is rea
 
   -o FILE          the merged file; FILE.files has a row for each input, and FILE.parts what a later run need not do again
   --cover FILE     the times for which each satellite of GPS and Galileo has an ephemeris (one of -o and --cover, or both)
-  -j N             batches at work at once (as many as there are processors)
+  -j, --jobs N     batches at work at once (as many as there are processors)
   --date TEXT      the header's date, as "20240101 000000 UTC" (now)
   --leap N         the header's leap seconds (18)
   --name PATTERN   of directories, only files whose name fits, as '*MN.rnx*'; may be given more than once
@@ -734,12 +734,15 @@ def table(rows, first):
             sums[key].update(row[key])
     records = sum(row["records"] for row in rows)
     line(0, "records", records)
-    line(1, "read", records - sum(sum(sums[key].values()) for key in COUNTED[1:]))
+    read = records - sum(sum(sums[key].values()) for key in COUNTED[1:])
+    line(1, "read", read)
     for system in sorted(sums["read"], key=lambda it: (SYSTEMS + it).index(it)):
         line(2, system, sums["read"][system])
     for key, what in (("carried", "carried"), ("refused", "rejected"), ("passed", "skipped")):
         line(1, what, sum(sums[key].values()))
         block(2, sums[key])
+    if first.get("kept") is not None:
+        line(0, "repeated", read + sum(sums["carried"].values()) - first["kept"])
     for what in ("kept", "ranges"):
         if first.get(what) is not None:
             line(0, what, first[what])
@@ -1080,7 +1083,7 @@ def options(words):
     parser.add_argument("names", nargs="*")
     parser.add_argument("-o", dest="out")
     parser.add_argument("--cover")
-    parser.add_argument("-j", dest="jobs", type=int, default=len(os.sched_getaffinity(0)))
+    parser.add_argument("-j", "--jobs", dest="jobs", type=int, default=len(os.sched_getaffinity(0)))
     parser.add_argument("--date")
     parser.add_argument("--leap", default="18")
     parser.add_argument("--name", action="append", default=[])

@@ -27,7 +27,7 @@ packed by gzip or compress or plain, detected by their content.
   --to DAY         the last day (that of the last ephemeris)
   --title TEXT     a title (the names given)
   --cache DIR      keeps what was merged there, so that the next run reads only files that are new or changed
-  -j N             processes at once (as many as there are processors)
+  -j, --jobs N     processes at once (as many as there are processors)
   --name PATTERN   of directories, only files with such names, as '*MN.rnx*'; may be given more than once
   -0               names on standard input end with a zero byte, not with a line
   --date TEXT      the date that the pages show, as "20240101 000000 UTC" (now)
@@ -50,7 +50,7 @@ def options(arguments):
     parser.add_argument("--to", dest="last")
     parser.add_argument("--title")
     parser.add_argument("--cache")
-    parser.add_argument("-j", dest="jobs", type=int, default=len(os.sched_getaffinity(0)))
+    parser.add_argument("-j", "--jobs", dest="jobs", type=int, default=len(os.sched_getaffinity(0)))
     parser.add_argument("--name", action="append", default=[])
     parser.add_argument("-0", dest="zero", action="store_true")
     parser.add_argument("--date")

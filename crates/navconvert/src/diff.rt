@@ -109,6 +109,7 @@ fn looked<'a>(
     let names = Inputs {
         names: from_ref(name),
         staged: &[],
+        starts: &[],
     };
     let mut input = match opened(rt, names) {
         Ok(input) => Peeked::new(rt.alloc(), input),
