@@ -157,7 +157,7 @@ run "a report of several files" 0 "kept.list" -t list --overwrite --report r.sev
 { echo "file station.navcap"; cat "$examples/station.report"; echo "file kept.navcap"; cat "$examples/station.report"; } > r.expected
 is_same "a report of several files" r.several r.expected
 rm kept.list station.list
-run "a report that is the input" 4 "kept.navcap is an input; name the output with -o" -t list --overwrite --report kept.navcap kept.navcap
+run "a report that is the input" 2 "kept.navcap is an input; name the output with -o" -t list --overwrite --report kept.navcap kept.navcap
 is_same "a report that is the input" kept.navcap station.navcap
 run "a report that is the output" 4 "both.rnx is the report" --report both.rnx -o both.rnx station.navcap
 is_gone "a report that is the output" both.rnx
@@ -300,7 +300,7 @@ for from in 4 3; do
     is_same "$it" every.rnx "every$to.rnx"
   done
   it="all systems from RINEX $from"
-  run "$it to RTCM" 0 "made of 23 ephemerides and ionosphere records, 1 not in the output format; nothing rejected, nothing skipped" -t rtcm -o - "every$from.rnx"
+  run "$it to RTCM" 0 "made of 22 ephemerides and ionosphere records; 1 record not in the output format; nothing rejected, nothing skipped" -t rtcm -o - "every$from.rnx"
   is_same "$it to RTCM" out all.rtcm3
   run "$it to a list" 0 "made of 23 ephemerides" -t list -o - "every$from.rnx"
   is_same "$it to a list" <(cut -d' ' -f2- out) <(cut -d' ' -f2- "$examples/expected/systems.list"; echo "EPH S33 SBAS 2295 179968")
@@ -308,7 +308,7 @@ for from in 4 3; do
   is_same "$it to counts" out <(printf '%s\n' "records 23" "refused 0" "passed 0" "carried 0" "items 23" "unwritten 0")
 done
 run "all systems of a file as an object" 0 - --json -t rtcm -o json.rtcm3 every4.rnx
-has "all systems of a file as an object" out format,made,unwritten,rejected,skipped '[["rinex", 23, 1, 0, 0]]'
+has "all systems of a file as an object" out format,made,unwritten,rejected,skipped '[["rinex", 22, 1, 0, 0]]'
 sed 's/^\(R.. 2024 01 02 01 45 0\)0/\11/' every4.rnx > amiss.rnx
 run "an ephemeris of a file that is rejected" 1 "records rejected" --check amiss.rnx
 grep -q "^amiss.rnx: line [0-9]*: step$" out || differs "an ephemeris of a file that is rejected" "$(cat out)"
@@ -467,6 +467,57 @@ run "RINEX 3 behind RINEX 4, without its header" 5 "line $((lines + 1)) begins a
 run "RINEX 4 behind RINEX 3" 5 "line $(($(wc -l < version3.nav) + 1)) begins another RINEX version or type" -t list -o joined.list three_four.rnx
 is_gone "joined files of two versions" joined.list
 
+# ---- the files of a merge, by their names and lines
+head -c -1 one.rnx > open.rnx
+awk '/^>/ && ++n == 2 { exit } { print }' rtklib_style.nav | head -n -2 > ends.rnx
+for it in one rtklib_style "one rtklib_style" "rtklib_style one" "open rtklib_style" "rtklib_style open one" "one version3 rtklib_style"; do
+  files=()
+  : > expected
+  for name in $it; do
+    for file in "$name".rnx "$name.nav"; do
+      [ ! -e "$file" ] || [ "${files[*]: -1}" = "$name.rnx" ] || files+=("$file")
+    done
+    "$navconvert" --check -q -t merged "${files[-1]}" >> expected 2> said
+  done
+  sort expected > sorted
+  "$navconvert" --check -q -t merged "${files[@]}" > out 2> said
+  sort out > found
+  tried=$((tried + 1))
+  is_same "rejections of the merge of $it" found sorted
+done
+run "the report of a merge" 0 "r.merged: " "${date[@]}" -t merged --report m.report -o r.merged one.rnx rtklib_style.nav
+run "the report of a file of it" 0 "r.alone: " "${date[@]}" -t merged --report a.report -o r.alone rtklib_style.nav
+sed -n '1,/^files /p' m.report > found
+{ [ ! -s out ] || cat out; echo "file rtklib_style.nav"; grep '^line' a.report; echo "files 2"; } > expected
+is_same "the report of a merge" found expected
+run "records of another version in a merge" 5 "headless.rnx: line $((lines + 1)) begins another RINEX version or type" -t merged -o n.rnx two.rnx headless.rnx
+run "the objects of a merge" 1 - --check --json -t merged one.rnx rtklib_style.nav
+has "the objects of a merge" out file,files '[["one.rnx", ["one.rnx", "rtklib_style.nav"]]]'
+tried=$((tried + 1))
+grep -qF '{"rejections":[{"file":"rtklib_style.nav","unit":"line",' out || differs "the objects of a merge" "$(cat out)"
+run "the object of a merge that fails" 5 - --json -t merged -o n.rnx two.rnx headless.rnx
+has "the object of a merge that fails" out file,files,error "[[\"headless.rnx\", [\"two.rnx\", \"headless.rnx\"], \"line $((lines + 1)) begins another RINEX version or type; split it there\"]]"
+cp unread.nav unread2.nav
+run "other records, repeated" 0 "u.merged: 2 ephemerides, 3 other records; 2 records rejected, 5 repeated" "${date[@]}" -t merged -o u.merged unread.nav unread2.nav
+run "other records, as an object" 0 - --json "${date[@]}" -t merged -o u.json unread.nav unread2.nav
+has "other records, as an object" out made,carried,unwritten,again '[[2, 3, 0, 5]]'
+run "a merge to RINEX 3" 0 "u.merged3: 2 ephemerides; 6 records not in the output format; 2 records rejected, 2 repeated" "${date[@]}" -t merged3 -o u.merged3 unread.nav unread2.nav
+run "a merge to RINEX 3, as an object" 0 - --json "${date[@]}" -t merged3 -o u3.json unread.nav unread2.nav
+has "a merge to RINEX 3, as an object" out made,carried,unwritten,again '[[2, 0, 6, 2]]'
+run "ionosphere records to RINEX 3" 0 "i.nav: 2 ephemerides; 2 records not in the output format" "${date[@]}" -t rinex3 -o i.nav station.rnx
+{ sed '/END OF HEADER/i GPSA   1.1176E-08  0.0000E+00 -5.9605E-08  0.0000E+00       IONOSPHERIC CORR' version3.nav; cat version3.nav; } > header3.nav
+{ cat version3.nav; sed '/END OF HEADER/i GPSA   1.1176E-08  0.0000E+00 -5.9605E-08  0.0000E+00       IONOSPHERIC CORR\nREUT  1.0E-08 0.0E-14      0    0                             TIME SYSTEM CORR' version3.nav; } > later3.nav
+run "joined files of RINEX 3" 0 "later3.rnx: 8 ephemerides; nothing rejected, nothing skipped; 2 header lines" "${date[@]}" -o later3.rnx later3.nav
+run "joined files of RINEX 3 that are merged" 0 "later3.merged: 4 ephemerides; 4 repeated; 2 header lines" "${date[@]}" -t merged -o later3.merged later3.nav
+run "joined files of RINEX 3 that are merged, with another" 0 "later4.merged: 4 ephemerides; 3 records rejected, 7 repeated; 2 header lines" "${date[@]}" -t merged -o later4.merged one.rnx later3.nav
+gzip -c one.rnx > one.rnx.gz
+run "a packed file in a merge" 2 "one.rnx.gz: it is packed by gzip; unpack it: gzip -dc FILE > NEW, and name NEW in its place" -t merged -o n.rnx two.rnx one.rnx.gz
+input=one.rnx run "standard input by its path" 0 "/dev/stdin: " "${date[@]}" -t merged /dev/stdin
+is_same "standard input by its path" out <("$navconvert" "${date[@]}" -t merged -o - one.rnx 2> said)
+is_gone "standard input by its path" /dev/stdin.merged.rnx
+run "a file with no complete record" 0 "bare.rnx: nothing converted; 1 record rejected" "${date[@]}" -o bare.rnx ends.rnx
+run "a long name in a directory that is not there" 2 "nowhere is not an existing directory" --long-name STAT00CCC -o nowhere station.navcap
+
 # ---- names, numbers
 name=$(printf 'x%.0s' {1..251})
 run "a name of 255 bytes" 0 "${name:0:250}" -t list -o "${name}.abc" station.navcap
@@ -498,7 +549,8 @@ run "an output that is replaced keeps its mode" 0 "mode.list" --overwrite -t lis
 [ "$(stat -c %a mode.list)" = 640 ] || differs "an output that is replaced keeps its mode" "$(stat -c %a mode.list)"
 for it in list rinex merged; do
   [ $it = rinex ] && words='' || words="-t $it "
-  run "packed by gzip, to $it" 2 "gzip -dc FILE | navconvert ${words}-o OUT -" -t $it -o g.out <(gzip -c station.navcap)
+  [ $it = merged ] && text="gzip -dc FILE > NEW, and name NEW in its place" || text="gzip -dc FILE | navconvert ${words}-o OUT -"
+  run "packed by gzip, to $it" 2 "$text" -t $it -o g.out <(gzip -c station.navcap)
 done
 printf 'BZh91AY&SY' > packed.bz2
 run "packed by bzip2" 2 "bzip2 -dc FILE | navconvert -t list -o OUT -" -t list packed.bz2
@@ -558,20 +610,20 @@ rm part.rnx
 mkdir part.rnx.navconvert.part
 run "a folder in the place of a part" 4 "part.rnx.navconvert.part exists" -o part.rnx station.navcap
 rmdir part.rnx.navconvert.part
-run "the input as output" 4 "station.navcap is an input; name the output with -o" --overwrite -o station.navcap station.navcap
+run "the input as output" 2 "station.navcap is an input; name the output with -o" --overwrite -o station.navcap station.navcap
 is_same "the input as output" station.navcap "$examples/station.navcap"
 ln station.navcap twin.navcap
-run "the input as output, by a link" 4 "is an input; name the output with -o" --overwrite -o twin.navcap station.navcap
+run "the input as output, by a link" 2 "is an input; name the output with -o" --overwrite -o twin.navcap station.navcap
 cp station.navcap fed
-input=fed run "standard input as output" 4 "fed is an input; name the output with -o" --overwrite -t list -o fed -
+input=fed run "standard input as output" 2 "fed is an input; name the output with -o" --overwrite -t list -o fed -
 is_same "standard input as output" fed station.navcap
-input=fed run "a report that is standard input" 4 "fed is an input; name the output with -o" --overwrite -t list -o - --report fed -
+input=fed run "a report that is standard input" 2 "fed is an input; name the output with -o" --overwrite -t list -o - --report fed -
 is_same "a report that is standard input" fed station.navcap
 cp station.navcap later.navcap
 cp version3.nav later.rnx
-run "another input as output" 4 "later.rnx is an input; name the output with -o" --overwrite later.navcap later.rnx
+run "another input as output" 2 "later.rnx is an input; name the output with -o" --overwrite later.navcap later.rnx
 is_same "another input as output" later.rnx version3.nav
-run "the command where an input is the output" 4 "later.rnx is an input; name the output with -o" -n --overwrite -o later.rnx later.rnx
+run "the command where an input is the output" 2 "later.rnx is an input; name the output with -o" -n --overwrite -o later.rnx later.rnx
 for it in none.d/none kept.navcap; do
   ln -sf "$it" link
   run "an output that is a link" 4 "link is not a regular file" -o link station.navcap
