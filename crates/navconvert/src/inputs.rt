@@ -157,7 +157,9 @@ impl Files<'_> {
         }
         let mut lines = 0u64;
         for byte in piece {
-            lines = lines.wrapping_add(u64::from(*byte == b'\n'));
+            if *byte == b'\n' {
+                lines = lines.wrapping_add(1);
+            }
         }
         self.read = Start {
             bytes: self.read.bytes.saturating_add(piece.len() as u64),
