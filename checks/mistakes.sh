@@ -42,6 +42,7 @@ all() {
   echo "some text" > notes.txt
   printf '\357\273\277' | cat - orbits.rnx > marked.rnx
   gzip -c station.navcap > station.navcap.gz
+  gzip -c orbits.rnx > orbits.rnx.gz
   printf '     3.05           OBSERVATION DATA    M: MIXED            RINEX VERSION / TYPE\n' > observed.rnx
   printf '1.0                 COMPACT RINEX FORMAT                    CRINEX VERS   / TYPE\n' > packed.crx
   # shellcheck disable=SC2016
@@ -80,6 +81,7 @@ all() {
   try "a text with a mark in front" marked.rnx
   try "packed by gzip" station.navcap.gz
   try "packed by gzip, to a list" -t list station.navcap.gz
+  try "packed by gzip, among files that are merged" -t merged -o r.rnx orbits.rnx orbits.rnx.gz
   try "packed by compress" old.Z
   try "packed by bzip2" packed.bz2
   try "packed by xz" packed.xz
@@ -99,6 +101,7 @@ all() {
   try "a capture of a stream" -t capture ephemerides.rtcm3
   try "frames of RINEX" -t frames orbits.rnx
   try "RINEX 4 and 3 in one file" -t list joined.rnx
+  try "RINEX 4 and 3 in one file of a merge" -t merged -o r.rnx orbits.rnx joined.rnx
   try "the cover of a capture" -t cover station.navcap
   try "a capture of a capture" -t capture station.navcap
   try "a date as it is written elsewhere" --date 2024-01-01 station.navcap
@@ -121,6 +124,7 @@ all() {
   try "a report as output" --report r.rnx -o r.rnx station.navcap
   try "a report as output beside its input" --report ./station.rnx station.navcap
   try "a site of four letters" --long-name BRDC station.navcap
+  try "a long name in a folder that is not there" --long-name BRDC00XXX -o nowhere station.navcap
   try "a long name of a list" -t list --long-name BRDC00XXX station.navcap
 }
 

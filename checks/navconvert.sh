@@ -245,8 +245,9 @@ if page != found:
     print("differ:", sorted(page ^ found))
 END
 "$navconvert" --check --json station.navcap log.ubx none.navcap > checked.json 2> said
+"$navconvert" --check --json -t merged one.rnx two.rnx > merged.json 2> said
 tried=$((tried + 1))
-python3 keys.py "$top/docs/navconvert.1" checked.json out > said 2>&1
+python3 keys.py "$top/docs/navconvert.1" checked.json merged.json out > said 2>&1
 [ ! -s said ] || differs "keys of objects" "not those of the man page"
 run "an object beside an output" 0 '"format":"capture","output":null,' --json -t list -o - station.navcap
 is_same "an object beside an output" out "$examples/station.list"
@@ -486,15 +487,19 @@ for it in one rtklib_style "one rtklib_style" "rtklib_style one" "open rtklib_st
   is_same "rejections of the merge of $it" found sorted
 done
 run "the report of a merge" 0 "r.merged: " "${date[@]}" -t merged --report m.report -o r.merged one.rnx rtklib_style.nav
-run "the report of a file of it" 0 "r.alone: " "${date[@]}" -t merged --report a.report -o r.alone rtklib_style.nav
-sed -n '1,/^files /p' m.report > found
-{ [ ! -s out ] || cat out; echo "file rtklib_style.nav"; grep '^line' a.report; echo "files 2"; } > expected
+: > expected
+for it in one.rnx rtklib_style.nav; do
+  run "the report of $it alone" 0 "r.alone: " "${date[@]}" --overwrite -t merged --report alone.report -o r.alone $it
+  { echo "file $it"; grep '^line' alone.report; } >> expected
+done
+echo "files 2" >> expected
+sed '/^files /q' m.report > found
 is_same "the report of a merge" found expected
 run "records of another version in a merge" 5 "headless.rnx: line $((lines + 1)) begins another RINEX version or type" -t merged -o n.rnx two.rnx headless.rnx
 run "the objects of a merge" 1 - --check --json -t merged one.rnx rtklib_style.nav
 has "the objects of a merge" out file,files '[["one.rnx", ["one.rnx", "rtklib_style.nav"]]]'
 tried=$((tried + 1))
-grep -qF '{"rejections":[{"file":"rtklib_style.nav","unit":"line",' out || differs "the objects of a merge" "$(cat out)"
+grep -qF '{"file":"rtklib_style.nav","unit":"line",' out || differs "the objects of a merge" "$(cat out)"
 run "the object of a merge that fails" 5 - --json -t merged -o n.rnx two.rnx headless.rnx
 has "the object of a merge that fails" out file,files,error "[[\"headless.rnx\", [\"two.rnx\", \"headless.rnx\"], \"line $((lines + 1)) begins another RINEX version or type; split it there\"]]"
 cp unread.nav unread2.nav
@@ -505,15 +510,14 @@ run "a merge to RINEX 3" 0 "u.merged3: 2 ephemerides; 6 records not in the outpu
 run "a merge to RINEX 3, as an object" 0 - --json "${date[@]}" -t merged3 -o u3.json unread.nav unread2.nav
 has "a merge to RINEX 3, as an object" out made,carried,unwritten,again '[[2, 0, 6, 2]]'
 run "ionosphere records to RINEX 3" 0 "i.nav: 2 ephemerides; 2 records not in the output format" "${date[@]}" -t rinex3 -o i.nav station.rnx
-{ sed '/END OF HEADER/i GPSA   1.1176E-08  0.0000E+00 -5.9605E-08  0.0000E+00       IONOSPHERIC CORR' version3.nav; cat version3.nav; } > header3.nav
 { cat version3.nav; sed '/END OF HEADER/i GPSA   1.1176E-08  0.0000E+00 -5.9605E-08  0.0000E+00       IONOSPHERIC CORR\nREUT  1.0E-08 0.0E-14      0    0                             TIME SYSTEM CORR' version3.nav; } > later3.nav
-run "joined files of RINEX 3" 0 "later3.rnx: 8 ephemerides; nothing rejected, nothing skipped; 2 header lines" "${date[@]}" -o later3.rnx later3.nav
-run "joined files of RINEX 3 that are merged" 0 "later3.merged: 4 ephemerides; 4 repeated; 2 header lines" "${date[@]}" -t merged -o later3.merged later3.nav
-run "joined files of RINEX 3 that are merged, with another" 0 "later4.merged: 4 ephemerides; 3 records rejected, 7 repeated; 2 header lines" "${date[@]}" -t merged -o later4.merged one.rnx later3.nav
+run "joined files of RINEX 3" 0 "later3.rnx: 8 ephemerides; nothing rejected, nothing skipped; 4 header lines" "${date[@]}" -o later3.rnx later3.nav
+run "joined files of RINEX 3 that are merged" 0 "later3.merged: 4 ephemerides; 4 repeated; 4 header lines" "${date[@]}" -t merged -o later3.merged later3.nav
+run "joined files of RINEX 3 that are merged, with another" 0 "later4.merged: 4 ephemerides; 3 records rejected, 7 repeated; 4 header lines" "${date[@]}" -t merged -o later4.merged one.rnx later3.nav
 gzip -c one.rnx > one.rnx.gz
 run "a packed file in a merge" 2 "one.rnx.gz: it is packed by gzip; unpack it: gzip -dc FILE > NEW, and name NEW in its place" -t merged -o n.rnx two.rnx one.rnx.gz
 input=one.rnx run "standard input by its path" 0 "/dev/stdin: " "${date[@]}" -t merged /dev/stdin
-is_same "standard input by its path" out <("$navconvert" "${date[@]}" -t merged -o - one.rnx 2> said)
+is_same "standard input by its path" out <("$navconvert" "${date[@]}" -t merged -o - one.rnx 2> /dev/null)
 is_gone "standard input by its path" /dev/stdin.merged.rnx
 run "a file with no complete record" 0 "bare.rnx: nothing converted; 1 record rejected" "${date[@]}" -o bare.rnx ends.rnx
 run "a long name in a directory that is not there" 2 "nowhere is not an existing directory" --long-name STAT00CCC -o nowhere station.navcap

@@ -41,8 +41,9 @@ impl Reported<'_> {
         let (place, number) = self.inputs.line_in(last.place, rejection.number);
         let file = self.inputs.name(place).unwrap_or(self.file);
         let rejection = Rejection {
+            unit: rejection.unit,
             number,
-            ..rejection
+            reason: rejection.reason,
         };
         self.rejections.see(file, rejection);
         let is_headed = last.is_headed && last.place == place || is_headed(self.report, file);
