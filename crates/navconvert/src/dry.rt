@@ -22,10 +22,9 @@ pub(crate) fn show_files(
     name: Option<&str>,
 ) -> u8 {
     let files = inputs.names;
-    for file in files {
-        if settings.wanted.target.takes_several() && older_kind(settings, file).is_some() {
-            return show_own(settings, files, name);
-        }
+    let takes_several = settings.wanted.target.takes_several();
+    if files.len() > 1 || takes_several && older_kind(settings, first).is_some() {
+        return show_own(settings, files, name);
     }
     match input_kind(settings, settings.wanted.form, opened(settings.rt, inputs)) {
         Ok(kind) => show_kind(settings, first, files, name, kind),
@@ -33,7 +32,8 @@ pub(crate) fn show_files(
     }
 }
 
-// Prints the command of this program, which converts the files of RINEX 3 and 2 first.
+// Prints the command of this program, which ends the last line of each file, and converts files of
+// RINEX 3 and 2 first.
 fn show_own(settings: &Settings, files: &[&str], name: Option<&str>) -> u8 {
     let mut line = Line::new(settings.rt);
     line.text("navconvert -o -");
@@ -55,10 +55,10 @@ fn show_kind(
         return tell_file(settings, first, &Refusal::NoSuchConversion(kind));
     };
     let mut line = Line::new(settings.rt);
-    match reader_of(kind, files.len()) {
-        Some((program, mark)) => {
+    match reader_of(kind) {
+        Some(program) => {
             line.text(program);
-            line.files(mark, files);
+            line.files(" < ", files);
             if !matches!(task, Task::Copied) {
                 line.text(" | ");
                 line.text(program_of(&task, kind));
@@ -110,13 +110,11 @@ fn from_word(kind: Kind) -> &'static str {
     }
 }
 
-// The program that reads so many files of this form, and the mark before their names, where that is
-// not navbridge.
-fn reader_of(kind: Kind, count: usize) -> Option<(&'static str, &'static str)> {
+// The program that reads a file of this form, where that is not navbridge.
+fn reader_of(kind: Kind) -> Option<&'static str> {
     match kind {
-        Kind::Ubx => Some(("navlog --from ubx", " < ")),
-        Kind::Sbf => Some(("navlog --from sbf", " < ")),
-        _ if count > 1 => Some(("cat --", " ")),
+        Kind::Ubx => Some("navlog --from ubx"),
+        Kind::Sbf => Some("navlog --from sbf"),
         _ => None,
     }
 }

@@ -37,7 +37,10 @@ impl fmt::Display for Summary<'_, '_> {
         if self.settings.rejections.is_json {
             return self.write_members(f);
         }
-        Shown(self.name).fmt(f)?;
+        match (self.output, self.settings.joined.len()) {
+            (None, count) if count > 0 => write!(f, "{count} files")?,
+            _ => Shown(self.name).fmt(f)?,
+        }
         self.write_made(f)?;
         let amiss = self.write_amiss(f)?;
         let skipped = self.write_skipped(f)?;
