@@ -512,6 +512,8 @@ has "a merge to RINEX 3, as an object" out made,carried,unwritten,again '[[2, 0,
 run "ionosphere records to RINEX 3" 0 "i.nav: 2 ephemerides; 2 records not in the output format" "${date[@]}" -t rinex3 -o i.nav station.rnx
 { cat version3.nav; sed '/END OF HEADER/i GPSA   1.1176E-08  0.0000E+00 -5.9605E-08  0.0000E+00       IONOSPHERIC CORR\nREUT   1.0000E-08  0.0000E-14      0    0                   TIME SYSTEM CORR' version3.nav; } > later3.nav
 run "joined files of RINEX 3" 0 "later3.rnx: 8 ephemerides; nothing rejected, nothing skipped; 4 header lines" "${date[@]}" -o later3.rnx later3.nav
+{ cat version3.nav; sed '/END OF HEADER/d' version3.nav; } > endless3.nav
+run "joined files of RINEX 3, of which one has no end of its header" 0 "endless3.rnx: 8 ephemerides; nothing rejected" "${date[@]}" -o endless3.rnx endless3.nav
 run "joined files of RINEX 3 that are merged" 0 "later3.merged: 4 ephemerides; 4 repeated; 4 header lines" "${date[@]}" -t merged -o later3.merged later3.nav
 run "joined files of RINEX 3 that are merged, with another" 0 "later4.merged: 4 ephemerides; 3 records rejected, 7 repeated; 4 header lines" "${date[@]}" -t merged -o later4.merged one.rnx later3.nav
 gzip -c one.rnx > one.rnx.gz

@@ -9,6 +9,9 @@ use std::mem;
 // So many bytes of a line are looked at.
 const ROOM: usize = 80;
 
+// So many bytes tell that a line begins as a record of RINEX 3.
+const RECORD: usize = 9;
+
 /// What was seen of a navigation file so far.
 #[derive(Drop)]
 pub(crate) struct Records {
@@ -63,15 +66,26 @@ impl Records {
         self.keep(piece.get(from..).unwrap_or(&[]));
     }
 
-    // Has a line begin with a blank, if it begins at this place, in a later header of RINEX 3.
+    // Has a line begin with a blank, if it begins at this place, in a later header of RINEX 3, and
+    // does not begin as a record.
     fn blank(&self, piece: &mut [u8], from: usize) {
-        if self.in_header && self.is_behind && self.version == b'3' && self.line.is_empty() {
-            if let Some(first) = piece.get_mut(from) {
-                if *first != b'\n' && *first != b'\r' {
-                    *first = b' ';
-                }
+        if !self.in_header || !self.is_later3() || !self.line.is_empty() {
+            return;
+        }
+        let line = piece.get(from..).unwrap_or(&[]);
+        if line.len() < RECORD || begins_record3(line) {
+            return;
+        }
+        if let Some(first) = piece.get_mut(from) {
+            if *first != b'\n' && *first != b'\r' {
+                *first = b' ';
             }
         }
+    }
+
+    // Whether a header of RINEX 3 ended before.
+    fn is_later3(&self) -> bool {
+        self.is_behind && self.version == b'3'
     }
 
     // Keeps the beginning of a line.
@@ -97,6 +111,9 @@ impl Records {
     // Sees a line.
     fn see_line(&mut self, line: &[u8]) {
         self.number = self.number.saturating_add(1);
+        if self.is_later3() && begins_record3(line) {
+            self.in_header = false;
+        }
         if is_labelled(line, b"RINEX VERSION / TYPE") {
             self.in_header = true;
             self.see_version(line);
